@@ -74,7 +74,7 @@ pub record SpellsOne (k : Known) (found : List ℕ → List ℕ → Option Holds
   pub explanation : Explanation
   pub is_said : IsSaidIn k found denied path explanation
   pub is_status : IsPlainStatus explanation.status status
-  pub writes : IsPlainOutput explanation.script out status
+  pub writes : IsPlainOutput explanation out status
 
 -- the status that tells most, of those of what is at these paths, and of this one
 abbrev pub IsWorstOf : (List ℕ → Status → Type 0) → Status → List (List ℕ) → Status → Type 0

@@ -17,6 +17,7 @@ use Rattle.sedck_explanation.specs.Status.{IsOfAnswer}
 use Rattle.sedck_explanation.specs.declared.status.Status.{Status}
 use Rattle.sedck_explanation.specs.declared.explanation.Explanation.{Explanation}
 use Rattle.sedck_explanation.specs.declared.status.Status.TheVariants as exit
+use Rattle.sedck_plain.specs.WrittenLists.{HaveSameLists}
 use Rattle.sedck_formats.specs.Plain.{Output, IsPlainStatus, IsPlainOutput, Writes}
 use Rattle.sedck_calls_in_files.specs.Scanned.{Holds, IsWorstOf}
 use Rattle.sedck_explain_cli.specs.Answers.{HasOneStatus}
@@ -47,20 +48,21 @@ kept_script text denied warned expressions e (ScriptRefused why) is keeps accept
 kept_script text denied warned expressions e NotJudged is keeps accepted = let clash : exit.Refused ≡ exit.Accepted = sym is ∙ accepted in cc clash
 
 -- what spells it is a copy of the text
-copied : (text : List ℕ) (e : Explanation) (out : Output) → KeepsScript text e → IfSome e.script (Writes out) → Copies text out
+copied : (text : List ℕ) (e : Explanation) (out : Output) → KeepsScript text e → IfSome e.script (Writes out e.source.now) → Copies text out
 copied text e out kept writes =
-    let written = subst (λ script. IfSome script (Writes out)) kept.is_kept writes in
-    (written.0, record { program = kept.script; spelled = kept.spelled.spells; only = kept.spelled.only; same = written.1 }, written.2)
+    let written = subst (λ script. IfSome script (Writes out e.source.now)) kept.is_kept writes in
+    let lists = subst (λ source. HaveSameLists source written.0) kept.source written.2 in
+    (written.0, record { program = kept.script; spelled = kept.spelled.spells; only = kept.spelled.only; same = written.1; lists = lists }, written.3)
 
 pub copied_yes : (text : List ℕ) (given : Option (List ℕ)) (denied : Denied) (e : Explanation) (out : Output) → IsExplanation text given denied e
-    → e.status ≡ exit.Accepted → IfSome e.script (Writes out) → Copies text out
+    → e.status ≡ exit.Accepted → IfSome e.script (Writes out e.source.now) → Copies text out
 copied_yes text given denied e out is accepted writes =
     copied text e out (kept_script text denied _ _ e e.answer is.is_status is.keeps accepted) writes
 
 -- ---- What is written
 
 pub writes_same : (text : List ℕ) (given : Option (List ℕ)) (denied : Denied) (e : Explanation) (out : Output) (status : Status)
-    → IsExplanation text given denied e → IsPlainStatus e.status status → IsPlainOutput e.script out status → WritesSame text out status
+    → IsExplanation text given denied e → IsPlainStatus e.status status → IsPlainOutput e out status → WritesSame text out status
 writes_same text given denied e out status is same writes = record {
   spelled = λ accepted. copied_yes text given denied e out is (judged_yes e.status status same accepted) (writes.spelled accepted);
   kept = writes.kept;
@@ -93,7 +95,7 @@ shown_yes plain P e out err (Ok status) s holds = λ accepted. holds (yes_shown 
 shown_yes plain P e out err (Err why) s holds = tt
 
 pub shown_spells : {E : Type 0} (plain : Bool) (k : Known) (denied : Denied) (words : List (List ℕ)) (e : Explanation) (out err : Output) (r : Result Status E)
-    → IfOk r (IsShown plain e out err) → (e.status ≡ exit.Accepted → IfSome e.script (Writes out) → CopiesCall k denied words out)
+    → IfOk r (IsShown plain e out err) → (e.status ≡ exit.Accepted → IfSome e.script (Writes out e.source.now) → CopiesCall k denied words out)
     → IfOk r (λ status. plain ≡ true → SpellsCall k denied words out status)
 shown_spells plain k denied words e out err (Ok status) s copies = λ is. record {
   spelled = λ accepted. copies (yes_shown plain e out err status s accepted) ((s.writes is).spelled accepted);

@@ -55,6 +55,7 @@ keeps_script text given p locations NotJudged e spelled located is kept = absurd
 keeps_script text given p locations _ e spelled located is kept = record {
   script = p;
   is_kept = kept.is_kept;
+  source = kept.source;
   spelled = spelled;
   reads = kept.reads;
   writes = kept.writes;

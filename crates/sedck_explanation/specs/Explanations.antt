@@ -27,10 +27,11 @@ abbrev pub AreVerbPositions : List ℕ → List Position → Type 0
 AreVerbPositions text positions = (items : List Item) (spelled : Items text items)
     → positions ≡ map (λ location. position_in text location.verb) (locations_of (length text) spelled)
 
--- the script is kept, with the names that it reads and writes, each once and sorted, and with the positions of its verbs
+-- the script is kept with its text, with the names that it reads and writes, each once and sorted, and with the positions of its verbs
 pub record KeepsScript (text : List ℕ) (e : Explanation) : Type 0 where
   pub script : Program
   pub is_kept : e.script ≡ Some script
+  pub source : e.source.now ≡ text
   pub spelled : Only Spells text script
   pub reads : names_of e.reads.items ≡ reads script
   pub writes : names_of e.writes.items ≡ writes script

@@ -2,6 +2,7 @@
 
 ghost use Rattle.std.specs.Prelude.{◌≡◌, IfOk};
 ghost use Rattle.sedck_script.specs.Spelling.{Spells};
+ghost use Rattle.sedck_plain.specs.WrittenLists.{HaveSameLists};
 ghost use Rattle.sedck_formats.specs.Plain.{IsPlainReport, IsPlainStatus};
 
 use crate::names::Names;
@@ -42,6 +43,7 @@ fn spelled(
     comments: Comments,
 ) -> Result<(Vec<u8>, Status), AllocError>
     ensures spelled { IfOk result (λ made. made.1 ≡ Status.Accepted → Spells made.0.items script.now) }
+    ensures lists { IfOk result (λ made. made.1 ≡ Status.Accepted → HaveSameLists explanation.now.source.now made.0.items) }
     ensures status { IfOk result (λ made. IsPlainStatus Status.Accepted made.1) }
 {
     let why = match plain_of(alloc, explanation.source, script, comments) {

@@ -13,11 +13,11 @@ pub record SpellsCall (denied : Denied) (text : List ℕ) (call : FoundCall) (ou
   pub explanation : Explanation
   pub is_said : IsSaidOfFound text denied call explanation
   pub is_status : IsPlainStatus explanation.status status
-  pub writes : IsPlainOutput explanation.script out status
+  pub writes : IsPlainOutput explanation out status
 
 -- the same for one of the calls that are found in the text
 pub record SpellsIn (known : Option Holds) (denied : Denied) (text : List ℕ) (out : Output) (status : Status) : Type 0 where
   pub explanation : Explanation
   pub is_said : IsSaidOfOne known denied text explanation
   pub is_status : IsPlainStatus explanation.status status
-  pub writes : IsPlainOutput explanation.script out status
+  pub writes : IsPlainOutput explanation out status

@@ -9,5 +9,5 @@ use Rattle.sedck_formats.specs.Plain.{Output, IsPlainStatus, IsPlainOutput}
 -- in the format `sed` or in another one, by the output and the stream of errors
 pub record IsShown (plain : Bool) (e : Explanation) (out err : Output) (status : Status) : Type 0 where
   pub is_status : MatchBool plain (IsPlainStatus e.status status) (status ≡ e.status)
-  pub writes : plain ≡ true → IsPlainOutput e.script out status
+  pub writes : plain ≡ true → IsPlainOutput e out status
   pub silent : (plain ≡ false) ⊎ (status ≡ Accepted) → Keeps err.before err.after

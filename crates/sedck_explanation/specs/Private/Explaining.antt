@@ -43,9 +43,10 @@ pub record Reports (text : List ℕ) (denied : Denied) (answer : Answer) (script
   pub order : AreInOrder findings
   pub ends : All (HasRange text) findings
 
--- the script is kept, with its names and with the positions of these locations
+-- the script is kept with its text, with its names and with the positions of these locations
 pub record KeepsLocated (text : List ℕ) (script : Program) (locations : List Location) (e : Explanation) : Type 0 where
   pub is_kept : e.script ≡ Some script
+  pub source : e.source.now ≡ text
   pub reads : names_of e.reads.items ≡ reads script
   pub writes : names_of e.writes.items ≡ writes script
   pub positions : e.positions.items ≡ map (λ location. position_in text location.verb) locations
