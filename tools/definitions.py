@@ -369,7 +369,7 @@ cert.Rejections
 cert.Bounds cert.SpaceLimit cert.Limits cert.StepLimit flow.Spaces
 text.Cursors model.Spots model.States
 search.Found search.Obstacle search.Rows search.NodeSet flow.VersionOne flow.LiteralKinds search.VersionOne
-commands.Locations plain.Plain
+commands.Locations plain.WrittenLists plain.Plain locales.Written locales.Locales locales.Laws
 commands.ReadItems commands.Labels commands.Blocks
 commands.Faults expressions.Faults cert.Faults
 commands.FaultWords expressions.FaultWords cert.FaultText cli.Lines
@@ -401,7 +401,7 @@ PARTS = [
         ("Readers and faults", [("sedck_expressions", "read_tree", None), ("sedck_bre", "parse", None), ("sedck_commands", "read_items", None), ("sedck_script", "parse", None), ("sedck_cert", "read_cert", None), ("sedck_cert", "read_any", None),
          ("sedck_expressions", "ReFault*", None), ("sedck_commands", "ScriptFault*", None), ("sedck_cert", "CertFault*", None)]),
         ("Where commands are", [("sedck_script", "locate", ("count", "locations", "order"))]),
-        ("The plain spelling", [("sedck_plain", "*", None)]),
+        ("The plain spelling", [("sedck_plain", "*", None), ("sedck_locales", "*", None)]),
         ("Reports and statuses", [("sedck_engines", "*", None), ("sedck_cli", "*", None), ("sedck_c", "*", None), ("sedck_cert", "write_cert", None)]),
         ("What is explained", [("sedck_explanation", "*", None), ("sedck_report", "*", None), ("sedck_errors", "*", None), ("sedck_advice", "*", None),
          ("sedck_explain_cli", "*", None), ("sedck_formats", "*", None), ("sedck_calls_in_files", "*", None)]),

@@ -15,7 +15,7 @@ TOP = Path(__file__).resolve().parent.parent
 PARAMETERS, LINES, FUNCTIONS, READERS, RATIO, EXPLAINING = 5, 30, 100, 3000, 2.4, 14000
 READING = ["sedck_text", "sedck_expressions", "sedck_bre", "sedck_commands", "sedck_script"]
 PROVED = READING + ["sedck_flow", "sedck_cert", "sedck_search", "sedck_engines", "sedck_cli", "sedck"]
-OTHERS = ["sedck_plain", "sedck_model", "sedck_tests", "sedck_probe"]
+OTHERS = ["sedck_plain", "sedck_locales", "sedck_model", "sedck_tests", "sedck_probe"]
 FUNCTION = re.compile(r"^ *(?:pub(?:\(crate\))? )?fn (\w+)", re.M)
 
 
