@@ -34,16 +34,22 @@ pub struct ShellCommand {
     pub here: Option<Vec<Unit>>,
     /// The file that is its standard input, if that is redirected.
     pub source: Option<ShellWord>,
-    /// The file to which its standard output goes, if that is redirected.
-    pub target: Option<Target>,
+    /// The here-string that is its standard input, in the shells that have such, if there is one.
+    pub here_string: Option<ShellWord>,
+    /// Whether a here-document is for another of its descriptors.
+    pub has_other_here: bool,
+    /// The files that it opens for writing: all that are emptied, and the one to which its standard output goes.
+    pub targets: Vec<Target>,
 }
 
-/// A file to which an output goes.
+/// A file that is opened for writing.
 #[derive(Drop)]
 pub struct Target {
     pub word: ShellWord,
     /// Whether the shell empties the file before the command runs, as it does for `>`, and not for `>>`.
     pub is_emptied: bool,
+    /// Whether the standard output goes there.
+    pub is_output: bool,
 }
 
 /// Where in its text a command is.

@@ -2,7 +2,7 @@
 
 use crate::frame::{Enclosure, Quote};
 use crate::reader::{Job, MISSES, Reader, begins_name};
-use sedck_origin::{Result, Text, Unit, Way};
+use sedck_origin::{Result, Text, Unit, Way, is_name_byte};
 use std::alloc::Global;
 
 /// How many units are looked at in all for the ends of expressions, so that the time stays linear.
@@ -76,6 +76,11 @@ impl Reader<'_> {
     fn open_parameter(&mut self, index: usize, from: usize) -> Result<()> {
         self.open(index, from, Enclosure::Parameter, true)?;
         let first = self.text.byte(from);
+        // Some shells read commands there, and no others anything.
+        if let Some(b' ' | b'\t' | b'\n' | b'|') = first {
+            let before = self.start_at(index);
+            self.output.unread.push(before)?;
+        }
         let has_sign = matches!(first, Some(b'!' | b'#' | b'@' | b'*' | b'?' | b'-' | b'$'));
         let end = self.name_end(from.saturating_add(usize::from(has_sign)));
         let behind = self.text.byte(end);
@@ -156,6 +161,53 @@ impl Reader<'_> {
         }
         end < self.text.len()
     }
+
+    /// Tells of a sed in the expression that begins at this number, where a shell that doesn't know `((` reads commands within parentheses.
+    pub fn note_commands_within(&mut self, from: usize) -> Result<()> {
+        if self.form.has_dollar_quotes {
+            return Ok(());
+        }
+        let end = from
+            .saturating_add(LOOKAHEAD.saturating_sub(self.output.looked))
+            .min(self.text.len());
+        let mut depth = 0usize;
+        for index in from..end {
+            self.output.looked = self.output.looked.saturating_add(1);
+            match self.text.byte(index) {
+                Some(b'(') => depth = depth.saturating_add(1),
+                Some(b')') if depth == 0 => return Ok(()),
+                Some(b')') => depth = depth.saturating_sub(1),
+                Some(b's' | b'S') if is_sed_at(self.text, index) => {
+                    let before = self.start_at(index);
+                    return Ok(self.output.unread.push(before)?);
+                }
+                _ => {}
+            }
+        }
+        Ok(())
+    }
+}
+
+/// Whether the name of a sed ends with `sed` at this number, also in capital letters.
+fn is_sed_at(text: Text, index: usize) -> bool {
+    let second = index.saturating_add(1);
+    let third = second.saturating_add(1);
+    let has_letter = index > 0
+        && matches!(
+            text.byte(index.saturating_sub(1)),
+            Some(b'g' | b's' | b'G' | b'S')
+        );
+    let first = index.saturating_sub(usize::from(has_letter));
+    let is_inside = first > 0 && is_name(text.byte(first.saturating_sub(1)));
+    !is_inside
+        && matches!(text.byte(second), Some(b'e' | b'E'))
+        && matches!(text.byte(third), Some(b'd' | b'D'))
+        && !is_name(text.byte(third.saturating_add(1)))
+}
+
+/// Whether a name may have the byte.
+fn is_name(byte: Option<u8>) -> bool {
+    byte.is_some_and(is_name_byte)
 }
 
 /// Whether it is the sign for all parameters, or all elements of an array.

@@ -52,8 +52,10 @@ pub(crate) enum Awaited {
     Word,
     /// The file that is its input.
     Source,
-    /// The file to which its output goes, which is emptied before or not.
-    Target { is_emptied: bool },
+    /// The here-string that is its input.
+    HereString,
+    /// A file that is opened for writing, which is emptied before or not, and to which its output goes or not.
+    Target { is_emptied: bool, is_output: bool },
     /// Behind `>&` the descriptor to which its output goes, or in some shells a file.
     Copied,
     /// Another word of a redirection.
@@ -79,7 +81,13 @@ pub(crate) struct Draft {
     /// The number of the here-document that is its input.
     pub here: Option<usize>,
     pub source: Option<ShellWord>,
-    pub target: Option<Target>,
+    pub here_string: Option<ShellWord>,
+    pub has_other_here: bool,
+    pub targets: Vec<Target>,
+    /// The number of the one to which its standard output goes.
+    pub output: Option<usize>,
+    /// How many words there were before `&>`, where some shells begin another command.
+    pub parted: Option<usize>,
 }
 
 /// What is being read within what encloses it.
@@ -159,7 +167,11 @@ impl Draft {
             site: Site::default(),
             here: None,
             source: None,
-            target: None,
+            here_string: None,
+            has_other_here: false,
+            targets: Vec::new(alloc),
+            output: None,
+            parted: None,
         }
     }
 }

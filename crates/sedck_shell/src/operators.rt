@@ -64,8 +64,9 @@ impl Reader<'_> {
             Some(b'>') => {
                 self.end_word()?;
                 let is_appended = self.text.byte(after) == Some(b'>');
-                let is_emptied = !is_appended;
-                self.top.awaited = Awaited::Target { is_emptied };
+                self.part_command();
+                self.forget_output();
+                self.top.awaited = written(Stream::Output, !is_appended);
                 self.resume = after.saturating_add(usize::from(is_appended));
             }
             Some(b'&') => {
@@ -104,6 +105,7 @@ impl Reader<'_> {
             && self.begins_expression()
             && self.is_expression(inner)
         {
+            self.note_commands_within(inner)?;
             return self.open(index, inner, Enclosure::Arithmetic, false);
         }
         self.open(index, next, Enclosure::Group, false)
@@ -131,12 +133,11 @@ impl Reader<'_> {
 
     /// The number of the unit behind `)`, if it comes next.
     fn empty_end(&self, next: usize) -> Option<usize> {
-        let after = next.saturating_add(1);
-        match (self.text.byte(next), self.text.byte(after)) {
-            (Some(b')'), _) => Some(after),
-            (Some(b' '), Some(b')')) => Some(after.saturating_add(1)),
-            _ => None,
-        }
+        let index = (next..self.text.len()).find(|index| !matches!(
+            self.text.byte(*index),
+            Some(b' ' | b'\t')
+        ))?;
+        (self.text.byte(index) == Some(b')')).then_some(index.saturating_add(1))
     }
 
     /// Reads `)`: the end of a pattern of `case`, or of what encloses.
@@ -172,13 +173,14 @@ impl Reader<'_> {
             None if byte == b'<' => Stream::Input,
             None => Stream::Output,
         };
-        // The last redirection counts.
+        // The last redirection counts, but each one that empties a file does so.
         match stream {
             Stream::Input => {
                 self.top.command.here = None;
                 self.top.command.source = None;
+                self.top.command.here_string = None;
             }
-            Stream::Output => self.top.command.target = None,
+            Stream::Output => self.forget_output(),
             Stream::Other => {}
         }
         let third = self.text.byte(next.saturating_add(1));
@@ -186,6 +188,11 @@ impl Reader<'_> {
         self.resume = index.saturating_add(length);
         self.top.awaited = awaited;
         Ok(())
+    }
+
+    /// Notes that the output doesn't go where it went before.
+    fn forget_output(&mut self) {
+        self.top.command.output = None;
     }
 
     /// Ends the word before an operator; answers it in place of that if it is a descriptor.
@@ -231,6 +238,7 @@ fn redirection(bytes: (u8, Option<u8>, Option<u8>), stream: Stream) -> (Awaited,
         is_input: stream == Stream::Input,
     };
     match bytes {
+        (b'<', Some(b'<'), Some(b'<')) if stream == Stream::Input => (Awaited::HereString, 3),
         (b'<', Some(b'<'), Some(b'<')) => (Awaited::Skipped, 3),
         (b'<', Some(b'<'), Some(b'-')) => (Awaited::Delimiter(delimiter), 3),
         (b'<', Some(b'<'), _) => (Awaited::Delimiter(delimiter), 2),
@@ -256,9 +264,13 @@ fn opened(stream: Stream) -> Awaited {
 
 /// What the word behind `>` and the like is for this stream.
 fn written(stream: Stream, is_emptied: bool) -> Awaited {
-    match stream {
-        Stream::Output => Awaited::Target { is_emptied },
-        _ => Awaited::Skipped,
+    let is_output = stream == Stream::Output;
+    if !is_output && !is_emptied {
+        return Awaited::Skipped;
+    }
+    Awaited::Target {
+        is_emptied,
+        is_output,
     }
 }
 

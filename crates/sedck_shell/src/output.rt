@@ -120,15 +120,27 @@ fn finished(alloc: Global, output: Output) -> Result<ShellText> {
             site,
             here,
             source,
-            target,
+            here_string,
+            has_other_here,
+            targets,
+            output: last,
+            parted: _,
         } = draft;
+        let mut targets = targets;
+        if let Some(number) = last {
+            if let Some(target) = targets.get_mut(number) {
+                target.is_output = true;
+            }
+        }
         let here = here.and_then(|number| bodies.get_mut(number)?.take());
         commands.push(ShellCommand {
             words,
             site,
             here,
             source,
-            target,
+            here_string,
+            has_other_here,
+            targets,
         })?;
     }
     for job in &output.jobs {
@@ -170,6 +182,8 @@ impl Reader<'_> {
         self.output.bodies.push(None)?;
         if how.is_input {
             self.top.command.here = Some(number);
+        } else {
+            self.top.command.has_other_here = true;
         }
         let pending = Pending {
             delimiter,
@@ -192,6 +206,9 @@ impl Reader<'_> {
             let Some((end, after)) = body_end(self.text, self.resume, one) else {
                 return self.output.miss(one.start);
             };
+            if !one.is_quoted && ends_before(self.text, self.resume, end, one) {
+                self.output.unread.push(one.start)?;
+            }
             let units = lines_of(self.alloc, self.text, self.resume, end, one.is_stripped)?;
             let quote = if one.is_quoted {
                 Quote::Verbatim
@@ -221,6 +238,46 @@ fn body_end(text: Text, from: usize, pending: &Pending) -> Option<(usize, usize)
         line = after;
     }
     None
+}
+
+/// Whether some shells find the end of the here-document before the unit of this number: at lines that are joined by backslashes, and are the
+/// delimiter then.
+fn ends_before(text: Text, from: usize, end: usize, pending: &Pending) -> bool {
+    let mut begins_line = true;
+    for index in from..end {
+        if begins_line && is_joined_delimiter(text, index, pending) {
+            return true;
+        }
+        begins_line = text.byte(index) == Some(b'\n');
+    }
+    false
+}
+
+/// How many lines are joined at most where the delimiter is looked for: more are taken for it.
+const JOINED: usize = 16;
+
+/// Whether the lines that are joined from this number on, of which the first one is the beginning of the delimiter, are the delimiter.
+fn is_joined_delimiter(text: Text, from: usize, pending: &Pending) -> bool {
+    let mut index = from;
+    let mut count = 0usize;
+    let mut place = 0usize;
+    let length = pending.delimiter.len();
+    for _ in 0..text.len() {
+        let next = index.saturating_add(1);
+        if count < JOINED && text.byte(index) == Some(b'\\') && text.byte(next) == Some(b'\n') {
+            count = count.saturating_add(1);
+            index = next.saturating_add(1);
+        } else if pending.is_stripped && place == 0 && text.byte(index) == Some(b'\t') {
+            index = next;
+        } else if place < length && text.byte(index) == pending.delimiter.get(place).copied() {
+            place = place.saturating_add(1);
+            index = next;
+        } else {
+            let is_ended = place == length && matches!(text.byte(index), Some(b'\n') | None);
+            return count >= JOINED || (count > 0 && is_ended);
+        }
+    }
+    count > 0
 }
 
 /// Whether the line between these numbers is the delimiter.

@@ -21,7 +21,7 @@ pub enum Dialect {
 #[derive(Clone, Copy, PartialEq, Eq)]
 pub struct Form {
     pub dialect: Dialect,
-    /// Whether the shell reads `$'..'`, as bash does and dash doesn't.
+    /// Whether the shell reads `$'..'`, `[[`, `((` and `&>`, as bash does and dash doesn't.
     pub has_dollar_quotes: bool,
 }
 

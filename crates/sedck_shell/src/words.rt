@@ -88,16 +88,52 @@ impl Reader<'_> {
             Awaited::Word => return self.add_word(word),
             Awaited::Delimiter(delimiter) => return self.await_body(word, delimiter),
             Awaited::Source => self.top.command.source = Some(word),
-            Awaited::Target { is_emptied } => self.set_target(word, is_emptied),
-            Awaited::Copied if !is_descriptor_copy(&word) => self.set_target(word, true),
+            Awaited::HereString => self.top.command.here_string = Some(word),
+            Awaited::Target {
+                is_emptied,
+                is_output,
+            } => return self.add_target(word, is_emptied, is_output),
+            Awaited::Copied if !is_descriptor_copy(&word) => {
+                return self.add_target(word, true, true);
+            }
             Awaited::Copied | Awaited::Skipped => {}
         }
         Ok(())
     }
 
-    /// Notes the file to which the output of the command goes.
-    fn set_target(&mut self, word: ShellWord, is_emptied: bool) {
-        self.top.command.target = Some(Target { word, is_emptied });
+    /// Notes a file that the command opens for writing.
+    fn add_target(&mut self, word: ShellWord, is_emptied: bool, is_output: bool) -> Result<()> {
+        if is_output {
+            self.top.command.output = Some(self.top.command.targets.len());
+        }
+        Ok(
+            self.top.command.targets.push(Target {
+                word,
+                is_emptied,
+                is_output: false,
+            })?,
+        )
+    }
+
+    /// Notes that some shells begin another command behind the word that comes next.
+    pub fn part_command(&mut self) {
+        if self.top.command.parted.is_none() {
+            self.top.command.parted = Some(self.top.command.words.len());
+        }
+    }
+
+    /// Tells of a sed in a command that has words where the shell may begin another command: what bash reads as one may be two to it.
+    pub fn note_parted(&mut self) -> Result<()> {
+        let Some(count) = self.top.command.parted else {
+            return Ok(());
+        };
+        if self.form.has_dollar_quotes {
+            return Ok(());
+        }
+        if let Some(start) = parted_sed(&self.top.command.words, count) {
+            self.output.unread.push(start)?;
+        }
+        Ok(())
     }
 
     /// Makes a hole of braces that some shells expand, and others don't.
@@ -139,11 +175,17 @@ impl Reader<'_> {
         }
         if self.top.is_test && is_text(units, "]]") {
             self.top.is_test = false;
+            // What is behind an operator of a test is no command.
+            if !begins_with(&self.top.command.words, "[[") {
+                self.top.command.words.clear();
+                return Ok(true);
+            }
         }
         if !is_first {
             return self.read_second_reserved(units);
         }
-        self.top.is_test |= self.form.dialect != Dialect::Macros && is_text(units, "[[");
+        let has_tests = self.form.has_dollar_quotes && self.form.dialect != Dialect::Macros;
+        self.top.is_test |= has_tests && is_text(units, "[[");
         self.note_flow(units);
         Ok(is_one_of(units, RESERVED))
     }
@@ -175,6 +217,7 @@ impl Reader<'_> {
     /// Ends the command, if one is begun.
     pub fn end_command(&mut self) -> Result<()> {
         self.end_word()?;
+        self.note_parted()?;
         self.top.awaited = Awaited::Word;
         self.top.is_test = false;
         let mut command = std::mem::replace(&mut self.top.command, Draft::new(self.alloc));
@@ -330,10 +373,31 @@ fn is_descriptor_copy(word: &ShellWord) -> bool {
     })
 }
 
-/// Whether the units are `sed`, or a path that ends with it.
+/// The offset of the first of these words, from this number on, where one of all is a sed; or else of one there that may be.
+fn parted_sed(words: &[ShellWord], count: usize) -> Option<usize> {
+    let has_sed = words.iter().any(|word| ends_with_sed(&word.units));
+    let others = words.get(count..)?;
+    let word = others
+        .iter()
+        .find(|word| has_sed || is_bare_hole(&word.units))?;
+    Some(word.start)
+}
+
+/// Whether the units are a value in whose place there may be several words.
+fn is_bare_hole(units: &[Unit]) -> bool {
+    matches!(*units, [Unit::Hole(hole)] if hole.way.is_split())
+}
+
+/// The names of seds.
+static SEDS: &'static [&'static str] = &["sed", "gsed", "ssed"];
+
+/// Whether the units are the name of a sed, or a path that ends with one.
 fn ends_with_sed(units: &[Unit]) -> bool {
-    let from = units.len().saturating_sub(4);
-    is_text(units, "sed") || is_text(units.get(from..).unwrap_or(&[]), "/sed")
+    let from = match units.iter().rposition(|unit| unit.byte() == Some(b'/')) {
+        Some(slash) => slash.saturating_add(1),
+        None => 0,
+    };
+    is_one_of(units.get(from..).unwrap_or(&[]), SEDS)
 }
 
 /// Whether the first of the words is this one.
