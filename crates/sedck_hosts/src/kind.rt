@@ -99,6 +99,9 @@ static PROGRAMS: &'static [Names] = &[
 /// Names of shells that read `$'..'`.
 static DOLLAR_QUOTING: &'static [&'static str] = &["bash", "@BASH@", "ksh", "ksh93", "mksh", "zsh"];
 
+/// Names of seds.
+static SEDS: &'static [&'static str] = &["sed", "gsed", "ssed"];
+
 /// Names of programs that run the one that is named next.
 static RUNNERS: &'static [&'static str] = &["env", "busybox"];
 
@@ -129,6 +132,11 @@ pub fn reads_dollar_quotes(path: &str, bytes: &[u8]) -> bool {
 /// Whether the shell of this name reads `$'..'`.
 pub fn is_dollar_quoting(name: &[u8]) -> bool {
     is_among(name, DOLLAR_QUOTING)
+}
+
+/// Whether the first line of a file with these bytes names a sed, whose script the file is then.
+pub fn is_run_by_sed(bytes: &[u8]) -> bool {
+    interpreter(bytes).is_some_and(|name| is_among(name, SEDS))
 }
 
 /// What is before the last such byte, and what is behind it; nothing and all if there is none.

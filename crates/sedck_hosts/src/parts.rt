@@ -151,8 +151,8 @@ pub(crate) fn lines_of(alloc: Global, file: &[u8], is_joined: bool) -> Result<Ve
 
 /// How the name of sed is written where a call begins.
 static SEDS: &'static [&'static str] = &[
-    "sed", "gsed", "$(SED)", "${SED}", "$SED", "$${SED}", "$$SED", "$(GSED)", "${GSED}", "$GSED",
-    "@SED@", "%{__sed}", "%__sed",
+    "sed", "gsed", "ssed", "$(SED)", "${SED}", "$SED", "$${SED}", "$$SED", "$(GSED)", "${GSED}",
+    "$GSED", "@SED@", "%{__sed}", "%__sed",
 ];
 
 /// What may close a word behind the name of sed.

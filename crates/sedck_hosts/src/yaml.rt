@@ -137,16 +137,12 @@ impl<'a> Yaml<'a> {
     /// Reads a line with a key.
     fn read_key(&mut self, line: Line<'a>) -> Result<()> {
         let Some(end) = key_end(line.text) else {
-            // A mapping in brackets may have a call of sed, as `- {run: sed p}`.
-            if line.text.begins_with(b'{') {
-                return self.host.note_unread(line.text);
-            }
-            return Ok(());
+            return self.pass_line(line);
         };
         let key = unquoted(line.text.to(end).bytes());
         let value = value_in(
             line,
-            line.text.from(end).skip(1).after_blanks(),
+            line.text.from(end).after_blanks().skip(1).after_blanks(),
             line.column,
         );
         self.end_step(line);
@@ -167,7 +163,23 @@ impl<'a> Yaml<'a> {
         if value.text.begins_with(b'|') || value.text.begins_with(b'>') {
             return self.read_block(value, 0);
         }
+        if value.text.begins_with(b'{') || value.text.begins_with(b'[') {
+            return self.pass_value(value);
+        }
         Ok(())
+    }
+
+    /// Passes a line that begins with no key which is read, and notes a call of sed in it where it may have one: in a mapping in brackets, as
+    /// `- {run: sed p}`, behind a tag or an anchor, or with all lines that belong to it in a key or a value that is marked by `?` or `:`.
+    fn pass_line(&mut self, line: Line<'a>) -> Result<()> {
+        match line.text.bytes() {
+            [b'?' | b':'] | [b'?' | b':', b' ' | b'\t', ..] => {
+                self.pass_value(value_in(line, line.text, line.column))
+            }
+            [first, ..] if b"[]}!&*".contains(first) => self.host.note_unread(line.text),
+            bytes if bytes.contains(&b'{') => self.host.note_unread(line.text),
+            _ => Ok(()),
+        }
     }
 
     /// Forgets the `shell:` of a step that the line ends.
@@ -348,23 +360,35 @@ fn after_dashes(number: usize, whole: Part) -> Line<'_> {
     }
     Line {
         number,
-        text,
+        text: key_behind(text),
         indentation,
         column: text.start.saturating_sub(whole.start),
         dash,
     }
 }
 
-/// Where the key ends that begins the part, before its colon; none if no key does.
+/// The part without tags and anchors that begin it, where a key stands behind them.
+fn key_behind(part: Part<'_>) -> Part<'_> {
+    let mut rest = part;
+    for _ in 0..4 {
+        if !rest.begins_with(b'&') && !rest.begins_with(b'!') {
+            break;
+        }
+        let (_, behind) = rest.split_word();
+        rest = behind;
+    }
+    if key_end(rest).is_some() { rest } else { part }
+}
+
+/// Where the key ends that begins the part, before its colon, or before blanks; none if no key does.
 fn key_end(part: Part) -> Option<usize> {
     let bytes = part.bytes();
     let length = bytes
         .iter()
         .position(|byte| !is_name_byte(*byte) && !b"-.\"'".contains(byte))?;
-    match bytes.get(length..) {
-        Some([b':'] | [b':', b' ' | b'\t', ..]) if length > 0 => {
-            Some(part.start.saturating_add(length))
-        }
+    let end = part.start.saturating_add(length);
+    match part.from(end).after_blanks().bytes() {
+        [b':'] | [b':', b' ' | b'\t', ..] if length > 0 => Some(end),
         _ => None,
     }
 }
