@@ -23,7 +23,8 @@ const DASHES: &str =
     "give the script with -e, and put -- before the operands: sed -e p -- \"$file\"";
 
 /// How a call says which sed runs.
-const NAMED: &str = "write the name of the sed, or quote the variable that has it";
+const NAMED: &str =
+    "write the name of the sed, quote the variable that has it, or give its value, as with --assume SED=sed";
 
 /// How a value that the file sets is made sure of.
 const VALUE: &str = "write the value in its place, or give it with --assume NAME=VALUE";
@@ -164,7 +165,7 @@ fn overwriting_warning(
     ensures finding { IfOk result (IsFindingIn file.now) }
 {
     let written = shown_part(alloc, file, one.start, one.end)?;
-    let message = overwriting_words(alloc, written.as_str(), one.is_emptied)?;
+    let message = overwriting_words(alloc, written.as_str(), one)?;
     let hint = Some(OTHER_FILE);
     let mut finding = call_finding(alloc, Level::Warning, Code::WritesItsInput, message, hint);
     finding.position = Some(places.place_offset(one.start));
@@ -172,9 +173,12 @@ fn overwriting_warning(
     Ok(finding)
 }
 
-/// What happens to a file that takes the output of a call which reads it, in words.
-fn overwriting_words(alloc: Global, written: &str, is_emptied: bool) -> Result<String, AllocError> {
-    let what = if is_emptied {
+/// What happens to a file that is opened for writing where a call reads it, in words.
+fn overwriting_words(alloc: Global, written: &str, one: Overwritten) -> Result<String, AllocError> {
+    if !one.is_output {
+        return format!(in alloc; "the shell empties \"{written}\" before the call reads it");
+    }
+    let what = if one.is_emptied {
         "it is emptied before it is read, and then may grow while it is read, without an end"
     } else {
         "it may grow while it is read, so that the run never ends"
@@ -248,7 +252,8 @@ fn hint_of(role: Role) -> &'static str {
         Role::Word | Role::Pattern => "quote it",
         Role::Operand | Role::Names | Role::Added => DASHES,
         Role::Options => "write the options before the operands",
-        Role::Sed | Role::Runner => NAMED,
+        Role::Sed => NAMED,
+        Role::Runner => "write what runs the sed; if it is nothing, say so with --assume NAME=",
         _ => CASE,
     }
 }
@@ -343,6 +348,10 @@ pub(crate) fn unknown_warning(
         Unknown::Function => (
             "a function, an alias or a table of this file may have something else run here, so the call is not judged",
             "write `command sed` where a function has the name of the sed, and else the path of the sed",
+        ),
+        Unknown::Suffix => (
+            "the script is empty behind -i: the seds of the BSDs take that word for the suffix, and the next one for the script",
+            "write -i.bak, or give the script with -e",
         ),
         Unknown::Setting => (
             "an option of the shell that this file sets may change the words of the call, so it is not judged",

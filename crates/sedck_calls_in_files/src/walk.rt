@@ -216,10 +216,27 @@ impl<R: Files + Input + AllocGlobal + Clone + Drop, O: Opener, F: Finder> Walk<'
             return self.skip(path, pass, out);
         };
         if path.ends_with(".sed") {
-            return self.explain_script(path, &mut file, pass, out);
+            return self.visit_script(path, &mut file, pass, out);
         }
         let contents = contents_of(self.rt.alloc(), path, None, false, &mut file)?;
         self.explain(path, &contents, pass, out)
+    }
+
+    /// Visits a file below a folder that has the name of a script. One whose first line names a shell or make has calls.
+    fn visit_script<S: Source, W: Sink>(
+        &self,
+        path: &str,
+        source: &mut S,
+        pass: &mut Pass,
+        out: &mut W,
+    ) -> Result<Status, Unexplained> {
+        match contents_of(self.rt.alloc(), "", None, false, source)? {
+            Contents::Other => match self.files.open(path) {
+                Ok(mut file) => self.explain_script(path, &mut file, pass, out),
+                Err(_) => self.skip(path, pass, out),
+            },
+            contents => self.explain(path, &contents, pass, out),
+        }
     }
 
     /// Explains a script below a folder.

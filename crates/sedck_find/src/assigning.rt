@@ -1,8 +1,8 @@
 //! Commands and expansions that set variables, and the locale of a call.
 
 use crate::names::{Names, Scope, Spot};
-use crate::programs::{is_sed_path, is_sed_variable};
-use crate::units::{bytes_of, variable_length};
+use crate::programs::{has_sed_default, is_path_command, is_sed_path, is_sed_variable};
+use crate::units::{bytes_of, has_hole, variable_length};
 use crate::values::written_value;
 use sedck_origin::{
     Result, Unit, begins_with, byte_at, hole_name, is_among, is_name_byte, is_one_of, is_text,
@@ -168,7 +168,7 @@ impl Names<'_> {
             Utility::Exporting => self.note_declared(operands, spot, false),
             Utility::Declaring => self.note_declared(operands, spot, true),
             Utility::Setting => self.note_names(operands, spot),
-            Utility::SettingFirst => self.note_names(operands.get(..1).unwrap_or(&[]), spot),
+            Utility::SettingFirst => self.note_loop(operands, spot),
             Utility::SettingSecond => self.note_names(operands.get(1..2).unwrap_or(&[]), spot),
             Utility::Opening => self.note_open(spot),
             Utility::Optioning => {
@@ -239,7 +239,38 @@ impl Names<'_> {
             .unwrap_or(value.len());
         let first = value.get(..end.min(LONGEST)).unwrap_or(&[]);
         let path = bytes_of(self.alloc, first)?;
-        Ok(self.is_sed_name(first) || path.is_some_and(|path| is_sed_path(&path)))
+        Ok(
+            self.is_sed_name(first)
+                || self.gives_sed(first)
+                || path.is_some_and(|path| is_sed_path(&path)),
+        )
+    }
+
+    /// Whether the units are a command that writes the path of a sed, or a variable with such a value if it has no other.
+    fn gives_sed(&self, units: &[Unit]) -> bool {
+        let [Unit::Hole(hole)] = *units else {
+            return false;
+        };
+        let written = self.written_hole(hole);
+        let has_default = hole_name(written).is_some_and(|name| has_sed_default(written, name));
+        written.len() <= LONGEST && (is_path_command(written) || has_default)
+    }
+
+    /// Notes the name that a loop sets to each of its words, of which one may be the name of a sed.
+    fn note_loop(&mut self, operands: &[ShellWord], spot: Spot) -> Result<()> {
+        let Some((first, words)) = operands.split_first() else {
+            return Ok(());
+        };
+        self.note_names(operands.get(..1).unwrap_or(&[]), spot)?;
+        let mut has_sed = false;
+        for word in words {
+            has_sed = has_sed || self.begins_with_sed(&word.units)?;
+        }
+        match self.name_of(first)? {
+            Some(name) if has_sed => self.note_sed(&name),
+            _ => {}
+        }
+        Ok(())
     }
 
     /// Notes the operands of a utility that declares variables. An option may change values; `-n` makes a name refer to another one.
@@ -299,6 +330,16 @@ impl Names<'_> {
         }
     }
 
+    /// Notes a variable that is set by an expansion, in which these bytes are behind its name.
+    fn note_default(&mut self, name: Vec<u8>, behind: &[u8]) -> Result<()> {
+        let is_sed = assigns_sed(behind);
+        self.note_unknown(name.clone()?)?;
+        if is_sed {
+            self.note_sed(&name);
+        }
+        Ok(())
+    }
+
     /// Notes the variables that `${NAME=..}`, `${NAME:=..}` and arithmetic may set (XCU 2.6.2 and 2.6.4). `${!NAME=..}` sets one whose name
     /// is a value.
     pub fn note_expansions(&mut self) -> Result<()> {
@@ -321,7 +362,7 @@ impl Names<'_> {
                 if may_be_set {
                     let mut name = Vec::new(self.alloc);
                     name.extend_from_slice(file.get(from..index).unwrap_or(&[]))?;
-                    self.note_unknown(name)?;
+                    self.note_default(name, file.get(index..).unwrap_or(&[]))?;
                 }
             }
             let is_second = file.get(index.saturating_sub(1)) == Some(byte) && index > 0;
@@ -337,9 +378,17 @@ impl Names<'_> {
     }
 }
 
-/// Whether a part of the units isn't known.
-fn has_hole(units: &[Unit]) -> bool {
-    units.iter().any(|unit| matches!(*unit, Unit::Hole(_)))
+/// Whether these bytes are the sign of an assignment, and behind it the path of a sed that ends at a brace.
+fn assigns_sed(bytes: &[u8]) -> bool {
+    let value = match bytes {
+        [b'=', value @ ..] | [b':', b'=', value @ ..] => value,
+        _ => return false,
+    };
+    let part = value.get(..value.len().min(LONGEST)).unwrap_or(&[]);
+    match part.iter().position(|byte| *byte == b'}') {
+        Some(end) => is_sed_path(part.get(..end).unwrap_or(&[])),
+        None => false,
+    }
 }
 
 /// Whether an assignment of LC_ALL is one of C or of POSIX, where a character is a byte; none of another variable.

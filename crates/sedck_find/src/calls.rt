@@ -3,6 +3,7 @@
 use crate::assigning::is_assignment;
 use crate::found::{Assumed, Found, FoundCall, FoundScript, OpenHole, Role, Unknown};
 use crate::macros::macros_of;
+use crate::mentions::{editor_in, mention_in};
 use crate::names::{Names, Scope};
 use crate::overwriting::overwritten_by;
 use crate::parts::{Part, Runner, parts_of};
@@ -13,7 +14,7 @@ use crate::texts::{Held, Reading};
 use crate::units::bytes_of;
 use crate::values::{has_placeholder, line_starts, written_value};
 use crate::words::{CallWord, Filler};
-use sedck_hosts::{Assignment, Kind, host_of, reads_dollar_quotes};
+use sedck_hosts::{Assignment, Kind, host_of, is_run_by_sed, kind_of, reads_dollar_quotes};
 use sedck_origin::{Hole, Result, Text, Traced, Unit, Way};
 use sedck_shell::{Dialect, Form, ShellWord, Site};
 use std::alloc::Global;
@@ -58,18 +59,27 @@ pub fn calls_in(
         open: BTreeMap::new(alloc),
         is_open: false,
         may_fix_locale: false,
-        functions: Vec::new(alloc),
+        functions: BTreeMap::new(alloc),
         hashed: Vec::new(alloc),
         settings: settings_of(file),
         macros: macros_of(alloc, kind, file)?,
         lines: line_starts(alloc, file)?,
     };
     let reading = read_file(names)?;
-    let calls = calls_of(&reading)?;
+    let (calls, mentions) = calls_of(&reading)?;
     let mut unread = reading.unread;
+    unread.extend_from_slice(&mentions)?;
+    if kind == Kind::Shell && is_script_of_sed(path, file) {
+        unread.push(0)?;
+    }
     unread.sort()?;
     unread.dedup();
     Ok(Found { calls, unread })
+}
+
+/// Whether the file with this path and these bytes is no shell script, but one of sed, by its first line or else by its name.
+fn is_script_of_sed(path: &str, file: &[u8]) -> bool {
+    is_run_by_sed(file) || (path.ends_with(".sed") && kind_of("", file).is_none())
 }
 
 /// Reads the file of these names: its texts, and those in them.
@@ -93,10 +103,11 @@ fn read_file(names: Names<'_>) -> Result<Reading<'_>> {
     Ok(reading)
 }
 
-/// The calls in the commands that were read, in the file's order, each once.
-fn calls_of(reading: &Reading<'_>) -> Result<Vec<FoundCall>> {
+/// The calls in the commands that were read, in the file's order, each once, and the offsets of what may call sed otherwise.
+fn calls_of(reading: &Reading<'_>) -> Result<(Vec<FoundCall>, Vec<usize>)> {
     let names = &reading.names;
     let mut calls = Vec::new(names.alloc);
+    let mut mentions = Vec::new(names.alloc);
     let mut filler = Filler {
         names,
         left: names.file.len().saturating_mul(2).saturating_add(SPARE),
@@ -104,11 +115,38 @@ fn calls_of(reading: &Reading<'_>) -> Result<Vec<FoundCall>> {
         followed: Vec::new(names.alloc),
     };
     for held in &reading.held {
-        add_calls(&mut calls, &mut filler, held)?;
+        let parts = parts_of(names, &held.command.words, held.spot())?;
+        add_calls(&mut calls, &mut filler, held, &parts)?;
+        add_mentions(&mut mentions, names, held, &parts)?;
     }
     calls.sort_by_key(|call| call.start)?;
     calls.dedup_by_key(|call| call.start);
-    Ok(calls)
+    Ok((calls, mentions))
+}
+
+/// Adds the offsets of what may call sed in these parts of a command that aren't calls of one.
+fn add_mentions(
+    mentions: &mut Vec<usize>,
+    names: &Names<'_>,
+    held: &Held,
+    parts: &[Part],
+) -> Result<()> {
+    let words = held.command.words.as_slice();
+    let is_strict = held.is_value || names.has_prose();
+    for part in parts {
+        match part.program {
+            Program::Other | Program::Shell | Program::User => {
+                if let Some(offset) = mention_in(names, words, *part, is_strict)? {
+                    mentions.push(offset)?;
+                }
+            }
+            _ => {}
+        }
+    }
+    if let Some(offset) = editor_in(names, words)? {
+        mentions.push(offset)?;
+    }
+    Ok(())
 }
 
 /// Reads the shell text of a file that isn't a shell script, and the values of make's variables.
@@ -151,9 +189,13 @@ fn read_assignment(reading: &mut Reading<'_>, assignment: &Assignment) -> Result
     reading.read(Text::Units(&assignment.value), Scope::Other, true)
 }
 
-/// Adds the calls in a command.
-fn add_calls(calls: &mut Vec<FoundCall>, filler: &mut Filler<'_>, held: &Held) -> Result<()> {
-    let parts = parts_of(filler.names, &held.command.words, held.spot())?;
+/// Adds the calls in these parts of a command.
+fn add_calls(
+    calls: &mut Vec<FoundCall>,
+    filler: &mut Filler<'_>,
+    held: &Held,
+    parts: &[Part],
+) -> Result<()> {
     filler.followed.clear();
     let here = match &held.command.here {
         Some(units) if parts.len() == 1 => {
@@ -162,7 +204,7 @@ fn add_calls(calls: &mut Vec<FoundCall>, filler: &mut Filler<'_>, held: &Held) -
         }
         _ => None,
     };
-    for part in &parts {
+    for part in parts {
         if let Program::Sed = part.program {
             match found_call(filler, held, *part, here.as_ref())? {
                 Some(call) if !held.is_value || has_script(&call.script) => calls.push(call)?,
@@ -207,7 +249,7 @@ fn found_call(
     let around = Around {
         file: names.file,
         dialect: names.form.dialect,
-        name: quoted(name.start, name_end(name)),
+        name: quoted(name_start(name, part), name_end(name)),
         runner: part.runner,
         here,
         named: &named,
@@ -221,7 +263,7 @@ fn found_call(
     };
     let overwritten = overwritten_by(filler, held, part.runner, &script, &words)?;
     Ok(Some(FoundCall {
-        start: name.start,
+        start: name_start(name, part),
         words: traced_words(names.alloc, words)?,
         script,
         followed: std::mem::replace(&mut filler.followed, Vec::new(names.alloc)),
@@ -230,9 +272,20 @@ fn found_call(
     }))
 }
 
+/// The offset in the file of the name of a call, without what may run it in the same word.
+fn name_start(name: &ShellWord, part: Part) -> usize {
+    match name.units.get(part.glued) {
+        Some(unit) if part.glued > 0 => unit.start(),
+        _ => name.start,
+    }
+}
+
 /// The offset in the file behind the name of a call.
 fn name_end(name: &ShellWord) -> usize {
-    name.start.saturating_add(name.units.len().max(1))
+    let least = name.start.saturating_add(name.units.len().max(1));
+    name.units
+        .last()
+        .map_or(least, |last| last.end().max(least))
 }
 
 /// The words with nothing but their bytes and origins.
@@ -275,19 +328,24 @@ fn words_of(
     let Some([name, others @ ..]) = command.get(part.name..part.end) else {
         return Ok((words, true));
     };
-    if let [Unit::Hole(hole)] = *name.units.as_slice() {
-        match filler.options(hole, held.spot())? {
+    let called = name.units.get(part.glued..).unwrap_or(&[]);
+    match *called {
+        [Unit::Hole(hole)] => match filler.options(hole, held.spot())? {
             Some(options) => words = options,
-            None => note_named(named, name, Role::Sed)?,
-        }
+            None => note_named(named, called, Role::Sed)?,
+        },
+        _ => note_named(named, called, Role::Word)?,
     }
     if let Some(runner) = part.unknown.and_then(|number| command.get(number)) {
-        note_named(named, runner, Role::Runner)?;
+        let units = runner.units.get(..1).unwrap_or(&[]);
+        if !filler.is_nothing(units, held.spot())? {
+            note_named(named, units, Role::Runner)?;
+        }
     }
     let Some(texts) = part.replaced.texts(alloc, command)? else {
         return Ok((words, false));
     };
-    let mut are_known = true;
+    let mut are_known = !part.has_more_unknown;
     for word in others {
         let mut word = filler.word(word, held.spot())?;
         are_known = put_in(&mut word, part.runner, &texts) && are_known;
@@ -296,11 +354,14 @@ fn words_of(
     Ok((words, are_known))
 }
 
-/// Notes a word of one hole, of which a shell may make several words.
-fn note_named(named: &mut Vec<OpenHole>, word: &ShellWord, role: Role) -> Result<()> {
-    if let [Unit::Hole(hole)] = *word.units.as_slice() {
-        if hole.way.is_split() {
-            named.push(OpenHole::outside(hole, role))?;
+/// Notes each hole of a name of which a shell may make several words.
+fn note_named(named: &mut Vec<OpenHole>, units: &[Unit], role: Role) -> Result<()> {
+    for unit in units {
+        match *unit {
+            Unit::Hole(hole) if hole.way.is_split() => {
+                named.push(OpenHole::outside(hole, role))?;
+            }
+            _ => {}
         }
     }
     Ok(())
@@ -322,7 +383,8 @@ fn is_redefined(names: &Names<'_>, name: &ShellWord, part: Part) -> Result<bool>
     if part.is_redefined {
         return Ok(true);
     }
-    Ok(match bytes_of(names.alloc, &name.units)? {
+    let units = name.units.get(part.glued..).unwrap_or(&[]);
+    Ok(match bytes_of(names.alloc, units)? {
         Some(name) => names.is_hashed(&name) || (part.is_direct && names.is_function(&name)),
         None => false,
     })

@@ -34,7 +34,7 @@ impl Conditions<'_> {
             holes: Vec::new(alloc),
             is_unknown: false,
         };
-        let end = operands_start(&call.given, words);
+        let end = operands_start(alloc, &call.given, words)?;
         for item in &call.given {
             conditions.add_item(call, *item, end)?;
         }
@@ -135,21 +135,27 @@ fn is_behind(number: usize, end: Option<usize>) -> bool {
 }
 
 /// The number of the word `--` that ends the options, if there is one: the only one that gives nothing and is no option.
-fn operands_start(given: &[Given], words: &[CallWord]) -> Option<usize> {
-    for (number, word) in words.iter().enumerate() {
-        if is_among(&word.traced.bytes, &["--"]) && !is_given(given, number) {
-            return Some(number);
+fn operands_start(alloc: Global, given: &[Given], words: &[CallWord]) -> Result<Option<usize>> {
+    let mut are_given = Vec::new(alloc);
+    for _ in words {
+        are_given.push(false)?;
+    }
+    for item in given {
+        let number = match *item {
+            Given::Alone(_, number) | Given::Operand(number) => number,
+            Given::With(_, origin) => origin.word,
+        };
+        if let Some(is_given) = are_given.get_mut(number) {
+            *is_given = true;
         }
     }
-    None
-}
-
-/// Whether the word of this number gives something.
-fn is_given(given: &[Given], number: usize) -> bool {
-    given.iter().any(|item| match *item {
-        Given::Alone(_, word) | Given::Operand(word) => word == number,
-        Given::With(_, origin) => origin.word == number,
-    })
+    for (number, word) in words.iter().enumerate() {
+        let is_given = are_given.get(number).copied().unwrap_or(true);
+        if !is_given && is_among(&word.traced.bytes, &["--"]) {
+            return Ok(Some(number));
+        }
+    }
+    Ok(None)
 }
 
 /// Whether the operand of this number is the script.

@@ -35,6 +35,8 @@ pub struct Overwritten {
     pub end: usize,
     /// Whether the shell empties it before the call runs.
     pub is_emptied: bool,
+    /// Whether the output goes there.
+    pub is_output: bool,
 }
 
 /// A variable that is replaced by its value.
@@ -92,6 +94,8 @@ pub enum Unknown {
     Function,
     /// A setting of the file may change the words.
     Setting,
+    /// The script is empty behind `-i`, which some seds read as the suffix of that option.
+    Suffix,
 }
 
 /// What isn't known of a call, on which its words depend.

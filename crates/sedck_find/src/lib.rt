@@ -10,6 +10,7 @@ mod conditions;
 mod found;
 mod holes;
 mod macros;
+mod mentions;
 mod names;
 mod overwriting;
 mod parts;

@@ -73,7 +73,7 @@ pub(crate) struct Names<'a> {
     /// Whether LC_ALL may be read-only in some shell.
     pub may_fix_locale: bool,
     /// The names of functions and of aliases.
-    pub functions: Vec<Vec<u8>>,
+    pub functions: BTreeMap<Vec<u8>, ()>,
     /// The names in whose place a shell may run other programs.
     pub hashed: Vec<Vec<u8>>,
     pub settings: Settings,
@@ -134,7 +134,12 @@ impl<'a> Names<'a> {
 
     /// Whether a function or an alias has the name.
     pub fn is_function(&self, name: &[u8]) -> bool {
-        self.functions.iter().any(|other| other.as_slice() == name)
+        self.functions.get(name).is_some()
+    }
+
+    /// Whether the file may have prose among its commands: it is a source of Autoconf.
+    pub fn has_prose(&self) -> bool {
+        self.kind == Kind::Autoconf
     }
 
     /// The value that replaces the hole, which is there.

@@ -1,4 +1,4 @@
-//! Calls whose output goes to a file that they read.
+//! Calls whose output goes to a file that they read, or for which a shell empties one.
 
 use crate::found::{FoundScript, Overwritten};
 use crate::names::{Names, replaced_name};
@@ -8,9 +8,13 @@ use crate::words::{CallWord, Filler};
 use sedck_advice::path_of;
 use sedck_call::{Call, CallOption, Given};
 use sedck_origin::{Origin, Result, Traced, hole_name, is_among};
-use sedck_shell::ShellWord;
+use sedck_shell::{ShellWord, Target};
 
-/// The file to which the output of a call with these words goes, if the call reads it: as an operand, or as its standard input.
+/// The most redirections of a call that are looked at, so that the time stays linear.
+const MOST: usize = 100;
+
+/// A file that is opened for writing where a call with these words runs, if the call reads it, as an operand or as its standard input: one
+/// to which its output goes, or that the shell empties.
 pub(crate) fn overwritten_by(
     filler: &mut Filler<'_>,
     held: &Held,
@@ -18,29 +22,37 @@ pub(crate) fn overwritten_by(
     script: &FoundScript,
     words: &[CallWord],
 ) -> Result<Option<Overwritten>> {
-    let (Some(target), FoundScript::Text { call, .. }) = (&held.command.target, script) else {
+    let FoundScript::Text { call, .. } = script else {
         return Ok(None);
     };
-    let (Some(first), Some(last)) = (target.word.units.first(), target.word.units.last()) else {
-        return Ok(None);
-    };
-    // With -i no line goes to the output.
-    if is_in_place(call) && !target.is_emptied {
-        return Ok(None);
+    for target in held.command.targets.iter().take(MOST) {
+        // With -i no line goes to the output.
+        let is_written = target.is_output && !is_in_place(call);
+        if !target.is_emptied && !is_written {
+            continue;
+        }
+        let Some(path) = path_at(filler, held, &target.word)? else {
+            continue;
+        };
+        let is_read = has_operand(filler.names, call, words, &path)?
+            || (reads_standard(call, words, runner) && is_source(filler, held, &path)?);
+        if is_read {
+            return Ok(overwritten(target));
+        }
     }
-    let Some(path) = path_at(filler, held, &target.word)? else {
-        return Ok(None);
-    };
-    let is_read = has_operand(filler.names, call, words, &path)?
-        || (reads_standard(call, words, runner) && is_source(filler, held, &path)?);
-    if !is_read {
-        return Ok(None);
-    }
-    Ok(Some(Overwritten {
+    Ok(None)
+}
+
+/// The file that is opened for writing, with where the file of the call has its name.
+fn overwritten(target: &Target) -> Option<Overwritten> {
+    let first = target.word.units.first()?;
+    let last = target.word.units.last()?;
+    Some(Overwritten {
         start: first.start(),
         end: last.end(),
         is_emptied: target.is_emptied,
-    }))
+        is_output: target.is_output,
+    })
 }
 
 /// Whether an option has the operands overwritten.

@@ -2,15 +2,22 @@
 
 use crate::assigning::{is_assignment, is_c_locale};
 use crate::names::{Names, Spot};
-use crate::programs::{Before, Program, Wrapper, before_command, program_of};
+use crate::programs::{
+    Before, Program, Wrapper, before_command, glued_name, is_sed_word, program_of,
+};
 use crate::replaced::{Replaced, adds_operands, replaced_by};
-use crate::units::bytes_of;
-use sedck_origin::{Result, byte_at, is_one_of};
+use crate::units::{bytes_of, has_hole};
+use sedck_origin::{Result, Unit, byte_at, is_one_of};
 use sedck_shell::ShellWord;
 use std::alloc::Global;
 
 /// What `find` runs a command for.
 static EXECUTING: &'static [&'static str] = &["-exec", "-execdir", "-ok", "-okdir"];
+
+/// Reserved words behind which a command begins.
+static RESERVED: &'static [&'static str] = &[
+    "if", "then", "else", "elif", "do", "while", "until", "{", "!", "time",
+];
 
 /// The most commands that run one another.
 const WRAPPED: usize = 8;
@@ -19,8 +26,10 @@ const WRAPPED: usize = 8;
 #[derive(Clone, Copy)]
 pub(crate) struct Part {
     pub program: Program,
-    /// The number of the word that is its name.
+    /// The number of the word that is its name ..
     pub name: usize,
+    /// .. and how many units of that precede the name, in whose place make or a shell may put another command.
+    pub glued: usize,
     /// Its last word is before the one of this number.
     pub end: usize,
     pub runner: Runner,
@@ -30,8 +39,9 @@ pub(crate) struct Part {
     pub is_direct: bool,
     /// Whether a command that runs it has the name of a function or an alias.
     pub is_redefined: bool,
-    /// The number of the word that may be a runner or nothing, where that isn't known.
+    /// The number of the word that may be a runner or nothing, where that isn't known, and whether there are more of them.
     pub unknown: Option<usize>,
+    pub has_more_unknown: bool,
     /// Whether the words right before the name set LC_ALL to C or POSIX.
     pub c_locale: bool,
 }
@@ -75,14 +85,13 @@ enum State {
     Find,
     /// A word of this command.
     Word(Part),
-    /// A word of another command.
-    Other,
 }
 
 /// The state of looking for commands.
 #[derive(Drop)]
 struct Finder<'a> {
     names: &'a Names<'a>,
+    words: &'a [ShellWord],
     spot: Spot,
     parts: Vec<Part>,
     runner: Runner,
@@ -95,42 +104,47 @@ struct Finder<'a> {
     /// Whether a command that runs the next one has the name of a function or an alias.
     is_redefined: bool,
     unknown: Option<usize>,
+    has_more_unknown: bool,
     setter: Setter,
     /// Whether LC_ALL is set to C or POSIX there.
     c_locale: bool,
     state: State,
     /// Whether the command is run by `find`.
     is_found: bool,
-    /// How many commands run the next one.
+    /// How many commands run the next one, and the number of the word that is the name of the last one.
     wrappers: usize,
+    runner_name: usize,
     /// Whether the word before is `{}`.
     follows_braces: bool,
 }
 
-/// The commands in these words of a command.
+/// The commands in these words of a command, also those that aren't known.
 pub(crate) fn parts_of(names: &Names<'_>, words: &[ShellWord], spot: Spot) -> Result<Vec<Part>> {
     let mut finder = Finder {
         names,
+        words,
         spot,
         parts: Vec::new(names.alloc),
         runner: Runner::Plain,
         replaced: Replaced::NOTHING,
         replaces: false,
         may_add: false,
-        is_listed: words.iter().any(|word| word.is("-files0-from")),
+        is_listed: false,
         is_redefined: false,
         unknown: None,
+        has_more_unknown: false,
         setter: Setter::Shell,
         c_locale: false,
         state: State::Name,
         is_found: false,
         wrappers: 0,
+        runner_name: 0,
         follows_braces: false,
     };
     for (index, word) in words.iter().enumerate() {
         finder.read(index, word)?;
         finder.follows_braces = word.is("{}");
-        if !finder.is_found && matches!(finder.state, State::Word(_) | State::Other) {
+        if !finder.is_found && matches!(finder.state, State::Word(_)) {
             break;
         }
     }
@@ -158,14 +172,29 @@ impl Finder<'_> {
                 self.wrappers = 0;
                 self.set_by(Setter::Nothing);
             }
-            State::Find => {}
-            State::Word(_) | State::Other => {
+            State::Find => return self.read_in_find(index, word),
+            State::Word(_) => {
                 let is_end = word.is(";") || (self.follows_braces && word.is("+"));
                 if self.is_found && is_end {
                     self.end(index)?;
                     self.state = State::Find;
                 }
             }
+        }
+        Ok(())
+    }
+
+    /// Reads a word of `find` that runs no command, unless what is before it does so.
+    fn read_in_find(&mut self, index: usize, word: &ShellWord) -> Result<()> {
+        let name = index.saturating_sub(1);
+        let is_open = self
+            .words
+            .get(name)
+            .is_some_and(|before| has_hole(&before.units));
+        if is_open && is_sed_word(self.names, word)? {
+            let part = self.part(Program::Other, name, 0);
+            let end = self.words.len();
+            self.parts.push(Part { end, ..part })?;
         }
         Ok(())
     }
@@ -182,39 +211,72 @@ impl Finder<'_> {
         if index == 0 && word.is("-p") {
             return Ok(());
         }
-        let program = program_of(self.names, word, self.spot)?;
+        let glued = self.pass_glued(index, word);
+        if glued > 0 && is_passed(word.units.get(glued..).unwrap_or(&[])) {
+            return Ok(());
+        }
+        let program = program_of(self.names, word, glued, self.spot)?;
         if let Program::Wrapper(_) | Program::Find = program {
-            self.note_runner(word)?;
+            self.note_runner(word.units.get(glued..).unwrap_or(&[]))?;
         }
         self.state = match program {
             Program::Wrapper(wrapper) if self.wrappers < WRAPPED => {
                 self.pass(index, wrapper);
                 State::Option(wrapper)
             }
-            Program::Wrapper(_) | Program::Other => State::Other,
-            Program::Find => State::Find,
-            _ => State::Word(Part {
-                program,
-                name: index,
-                end: index,
-                runner: self.runner,
-                replaced: self.replaced,
-                is_direct: self.runner == Runner::Plain && self.wrappers == 0,
-                is_redefined: self.is_redefined,
-                unknown: self.unknown,
-                c_locale: self.c_locale,
-            }),
+            Program::Wrapper(_) => State::Word(self.part(Program::Other, index, glued)),
+            Program::Find => {
+                self.is_listed = may_list(self.words.get(index..).unwrap_or(&[]));
+                State::Find
+            }
+            _ => State::Word(self.part(program, index, glued)),
         };
         self.wrappers = self.wrappers.saturating_add(1);
         Ok(())
     }
 
+    /// How many units of the word precede the name of a command in it, and may run that: one, or none.
+    fn pass_glued(&mut self, index: usize, word: &ShellWord) -> usize {
+        let glued = word
+            .units
+            .len()
+            .saturating_sub(glued_name(&word.units).len());
+        if glued > 0 {
+            self.note_unknown(index);
+            self.set_by(Setter::Nothing);
+        }
+        glued
+    }
+
+    /// The command whose name is the word of this number, without so many units.
+    fn part(&self, program: Program, name: usize, glued: usize) -> Part {
+        Part {
+            program,
+            name,
+            glued,
+            end: name,
+            runner: self.runner,
+            replaced: self.replaced,
+            is_direct: self.runner == Runner::Plain && self.wrappers == 0,
+            is_redefined: self.is_redefined,
+            unknown: self.unknown,
+            has_more_unknown: self.has_more_unknown,
+            c_locale: self.c_locale,
+        }
+    }
+
     /// Notes the name of a command that runs another one.
-    fn note_runner(&mut self, word: &ShellWord) -> Result<()> {
-        if let Some(name) = bytes_of(self.names.alloc, &word.units)? {
+    fn note_runner(&mut self, units: &[Unit]) -> Result<()> {
+        if let Some(name) = bytes_of(self.names.alloc, units)? {
             self.is_redefined = self.is_redefined || self.names.is_function(&name);
         }
         Ok(())
+    }
+
+    /// Notes the number of a word that may run the command or be nothing.
+    fn note_unknown(&mut self, index: usize) {
+        self.has_more_unknown = self.has_more_unknown || self.unknown.is_some();
+        self.unknown = Some(index);
     }
 
     /// Whether an assignment before a name stands.
@@ -234,8 +296,9 @@ impl Finder<'_> {
             self.replaces = false;
             self.runner = Runner::Adding;
         }
+        self.runner_name = index;
         if wrapper.is_unknown {
-            self.unknown = Some(index);
+            self.note_unknown(index);
         }
         self.set_by(if wrapper.is_env {
             Setter::Env
@@ -264,7 +327,10 @@ impl Finder<'_> {
         match before {
             Before::Option => {}
             Before::Awaiting => self.state = State::Argument(wrapper),
-            Before::Stop => self.state = State::Other,
+            Before::Stop => {
+                let name = self.runner_name;
+                self.state = State::Word(self.part(Program::Other, name, 0));
+            }
             Before::End => self.state = State::Operand(wrapper.operands),
             Before::Word if wrapper.operands == 0 => return self.read_name(index, word),
             Before::Word => self.state = State::Operand(wrapper.operands.saturating_sub(1)),
@@ -302,4 +368,45 @@ impl Finder<'_> {
         }
         Ok(())
     }
+}
+
+/// Whether these units behind what may run them begin no command by themselves: an assignment, or a reserved word.
+fn is_passed(units: &[Unit]) -> bool {
+    is_assignment(units) || is_one_of(units, RESERVED)
+}
+
+/// Whether `find` with these words may have names from a list, which may begin with a hyphen: where one of them is `-files0-from`, or may be.
+/// A variable that is one word takes the next one for the list, and `find` refuses what is behind that unless it is an option.
+fn may_list(words: &[ShellWord]) -> bool {
+    let end = words
+        .iter()
+        .position(|word| is_one_of(&word.units, EXECUTING))
+        .unwrap_or(words.len());
+    for (index, word) in words.iter().take(end).enumerate() {
+        let next = index.saturating_add(1);
+        let is_split = match word.units.first() {
+            Some(Unit::Hole(hole)) => hole.way.is_split(),
+            _ => false,
+        };
+        let is_refused = begins_option(words.get(next))
+            && begins_path(words.get(next.saturating_add(1)));
+        let is_hole = matches!(word.units.first(), Some(Unit::Hole(_)));
+        if word.is("-files0-from") || is_split || (is_hole && !is_refused) {
+            return true;
+        }
+    }
+    false
+}
+
+/// Whether the word is known to begin with a hyphen.
+fn begins_option(word: Option<&ShellWord>) -> bool {
+    word.is_some_and(|word| byte_at(&word.units, 0) == Some(b'-'))
+}
+
+/// Whether the word is known to be a path for `find`, and no part of an expression.
+fn begins_path(word: Option<&ShellWord>) -> bool {
+    word.is_some_and(|word| {
+        byte_at(&word.units, 0).is_some_and(|first| !b"-()!,".contains(&first))
+            && !has_hole(&word.units)
+    })
 }

@@ -1,11 +1,9 @@
-//! What the name of a command calls, and words that look like a call of sed in a command that isn't known to run one.
+//! What the name of a command calls.
 
 use crate::names::{Names, Spot, replaced_name};
 use crate::units::{bytes_of, last_part};
 use crate::values::{BLANKS, Value};
-use sedck_origin::{
-    Hole, Result, Unit, begins_with, byte_at, hole_name, is_among, is_name_byte, named,
-};
+use sedck_origin::{Hole, Result, Unit, byte_at, hole_name, is_among, named};
 use sedck_shell::ShellWord;
 use std::alloc::Global;
 
@@ -118,20 +116,8 @@ static PATHS: &'static [&'static [&'static str]] = &[
     &["type -P sed", "type -P gsed"],
 ];
 
-/// Commands whose words are no commands.
-static PLAIN: &'static [&'static str] = &[
-    "echo", "printf", "test", "[", "[[", ":", "for", "case", "select", "set", "return", "which",
-    "type", "hash", "command", "grep", "egrep", "fgrep", "cat", "rm", "cp", "mv", "ln", "chmod",
-    "find", "awk", "perl", "python", "python3",
-];
-
-/// Commands that run a text, which isn't read.
-static RUNNING: &'static [&'static str] = &[
-    "env", "ssh", "watch", "parallel", "docker", "podman", "kubectl", "script", "nsenter",
-];
-
 /// The longest text of a hole, and the longest path, that is looked at, so that the time stays linear.
-const LONGEST: usize = 256;
+pub(crate) const LONGEST: usize = 256;
 
 /// What a word of a wrapper is.
 #[derive(Clone, Copy)]
@@ -153,6 +139,8 @@ pub(crate) fn before_command(wrapper: Wrapper, word: &[u8]) -> Before {
     match word {
         [b'-', b'-'] => Before::End,
         [b'-', b'-', ..] if LONG.iter().any(|names| is_among(word, names)) => Before::Awaiting,
+        // What is split there may be another command.
+        [b'-', b'-', b's', ..] if wrapper.is_env => Before::Stop,
         [b'-', b'-', ..] => Before::Option,
         [b'-', letters @ ..] => wrapper.letters_before(letters),
         _ => Before::Word,
@@ -179,12 +167,54 @@ impl Wrapper {
     }
 }
 
-/// What a command with this name calls.
-pub(crate) fn program_of(names: &Names<'_>, word: &ShellWord, spot: Spot) -> Result<Program> {
+/// The name of a command in a word: what is behind a variable that begins it, of which a shell may make other words, unless that is a part of
+/// a path. As in `$(Q)sed`, it may be nothing, or what runs the command.
+pub(crate) fn glued_name(units: &[Unit]) -> &[Unit] {
+    match units {
+        [Unit::Hole(hole), name @ ..] if hole.way.is_split() && byte_at(name, 0) != Some(b'/') => {
+            if name.is_empty() { units } else { name }
+        }
+        _ => units,
+    }
+}
+
+/// Whether the word is the name of a sed, perhaps behind what isn't known, or a variable that has one.
+pub(crate) fn is_sed_word(names: &Names<'_>, word: &ShellWord) -> Result<bool> {
     if let [Unit::Hole(hole)] = *word.units.as_slice() {
+        return Ok(match hole_name(names.written_hole(hole)) {
+            Some(name) => {
+                let has_default = has_sed_default(names.written_hole(hole), name);
+                is_sed_variable(name) || names.may_be_sed(name) || has_default
+            }
+            None => false,
+        });
+    }
+    // What is before the name may be nothing, or a part of its path.
+    let part = last_part(&word.units);
+    let holes = part
+        .iter()
+        .position(|unit| !matches!(*unit, Unit::Hole(_)))
+        .unwrap_or(part.len());
+    let name = part.get(holes..).unwrap_or(&[]);
+    if name.len() > LONGEST {
+        return Ok(false);
+    }
+    let name = bytes_of(names.alloc, name)?;
+    Ok(name.is_some_and(|name| is_sed_path(&name)))
+}
+
+/// What a command with this name calls, without so many units at its beginning.
+pub(crate) fn program_of(
+    names: &Names<'_>,
+    word: &ShellWord,
+    glued: usize,
+    spot: Spot,
+) -> Result<Program> {
+    let units = word.units.get(glued..).unwrap_or(&[]);
+    if let [Unit::Hole(hole)] = *units {
         return called_by(names, hole, spot);
     }
-    match bytes_of(names.alloc, last_part(&word.units))? {
+    match bytes_of(names.alloc, last_part(units))? {
         Some(name) => Ok(named_program(&name)),
         None => Ok(Program::Other),
     }
@@ -227,8 +257,15 @@ pub(crate) fn is_sed_variable(name: &[u8]) -> bool {
 /// What the hole calls, which is the whole word.
 fn called_by(names: &Names<'_>, hole: Hole, spot: Spot) -> Result<Program> {
     if let Some(value) = names.value_of(hole, spot) {
-        let is_sed = is_sed_path(&first_word(names.alloc, value, hole.way.is_split())?);
-        return Ok(if is_sed { Program::Sed } else { Program::Other });
+        let is_split = hole.way.is_split();
+        let first = first_word(names.alloc, value, is_split)?;
+        return Ok(if is_sed_path(&first) {
+            Program::Sed
+        } else if first.is_empty() && is_split {
+            Program::Wrapper(PREFIX)
+        } else {
+            Program::Other
+        });
     }
     let written = names.written_hole(hole);
     if written.len() > LONGEST {
@@ -264,7 +301,7 @@ fn called_by_name(written: &[u8], names: &Names<'_>) -> Program {
     };
     let is_made = matches!(written, [b'$', b'(', inner @ .., b')'] if inner.len() == name.len());
     let is_whole = is_made || replaced_name(written, names.kind).is_some();
-    let is_sed = is_sed_variable(name) && (is_whole || has_sed_default(written, name));
+    let is_sed = (is_whole && is_sed_variable(name)) || has_sed_default(written, name);
     if is_sed || (is_whole && names.may_be_sed(name)) {
         Program::Sed
     } else if is_whole && is_among(name, SHELL_VARIABLES) {
@@ -277,7 +314,7 @@ fn called_by_name(written: &[u8], names: &Names<'_>) -> Program {
 }
 
 /// Whether it is `${NAME-sed}` or `${NAME:-sed}`, also with `=`, and with another path of a sed.
-fn has_sed_default(written: &[u8], name: &[u8]) -> bool {
+pub(crate) fn has_sed_default(written: &[u8], name: &[u8]) -> bool {
     let from = name.len().saturating_add(2);
     match written.get(from..) {
         Some([b'-' | b'=', path @ .., b'}'] | [b':', b'-' | b'=', path @ .., b'}']) => {
@@ -288,60 +325,11 @@ fn has_sed_default(written: &[u8], name: &[u8]) -> bool {
 }
 
 /// Whether it is a command that writes the path of a sed.
-fn is_path_command(written: &[u8]) -> bool {
+pub(crate) fn is_path_command(written: &[u8]) -> bool {
     match written {
         [b'$', b'(', command @ .., b')'] | [b'`', command @ .., b'`'] => {
             PATHS.iter().any(|paths| is_among(command, paths))
         }
         _ => false,
     }
-}
-
-/// The offset of a word that is the name of a sed, and has behind it what looks like an option or a script; or of a text with such a
-/// call, where the command runs it.
-pub(crate) fn mention_in(alloc: Global, words: &[ShellWord]) -> Result<Option<usize>> {
-    let Some(first) = words.first() else {
-        return Ok(None);
-    };
-    let is_running = match bytes_of(alloc, last_part(&first.units))? {
-        Some(name) if is_among(&name, PLAIN) => return Ok(None),
-        Some(name) => is_among(&name, RUNNING),
-        None => false,
-    };
-    if is_running {
-        if let Some(word) = words.iter().find(|word| has_call(&word.units)) {
-            return Ok(Some(word.start));
-        }
-    }
-    for index in 1..words.len() {
-        let (Some(word), Some(next)) = (words.get(index), words.get(index.saturating_add(1))) else {
-            break;
-        };
-        if looks_called(next) && word.units.len() < 256 {
-            match bytes_of(alloc, &word.units)? {
-                Some(path) if is_sed_path(&path) => return Ok(Some(word.start)),
-                _ => {}
-            }
-        }
-    }
-    Ok(None)
-}
-
-/// Whether the units have `sed` as a word, with a blank behind it.
-fn has_call(units: &[Unit]) -> bool {
-    (0..units.len()).any(|index| {
-        let before = byte_at(units, index.saturating_sub(1));
-        let is_inside = before.is_some_and(|byte| is_name_byte(byte) || byte == b'.');
-        let rest = units.get(index..).unwrap_or(&[]);
-        begins_with(rest, "sed ") && (index == 0 || !is_inside)
-    })
-}
-
-/// Whether the word behind a name looks like an option or a script: it begins with a hyphen, is quoted or has a slash.
-fn looks_called(word: &ShellWord) -> bool {
-    let has_slash = word
-        .units
-        .iter()
-        .any(|unit| matches!(*unit, Unit::Byte(b'/', _)));
-    word.is_quoted || has_slash || byte_at(&word.units, 0) == Some(b'-')
 }

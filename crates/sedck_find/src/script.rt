@@ -72,6 +72,9 @@ fn script_in(
     if let Some(unknown) = unknown_words(&call, words, around.here) {
         return Ok(FoundScript::Unknown(unknown));
     }
+    if is_suffix(&call, words) {
+        return Ok(FoundScript::Unknown(Unknown::Suffix));
+    }
     let Some((text, mut holes)) = roles_of(alloc, &call, words, around.here)? else {
         return Ok(FoundScript::Unknown(Unknown::Part));
     };
@@ -89,6 +92,21 @@ fn script_in(
         return Ok(FoundScript::Unknown(Unknown::Macro));
     }
     Ok(FoundScript::Text { call, text, holes })
+}
+
+/// Whether the script is an operand without bytes, with `-i` before it: the seds of the BSDs take it for the suffix, and the next word for
+/// the script.
+fn is_suffix(call: &Call, words: &[CallWord]) -> bool {
+    let [Piece::Text(origin)] = *call.pieces.as_slice() else {
+        return false;
+    };
+    let is_empty = words
+        .get(origin.word)
+        .is_some_and(|word| word.traced.bytes.is_empty());
+    let is_in_place = |item: &Given| matches!(*item, Given::Alone(CallOption::InPlace, _));
+    let is_operand =
+        |item: &Given| matches!(*item, Given::Operand(number) if number == origin.word);
+    is_empty && call.given.iter().any(is_in_place) && call.given.iter().any(is_operand)
 }
 
 /// Whether macros of M4 may change the script or a word of the call.

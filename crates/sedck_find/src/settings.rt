@@ -103,7 +103,7 @@ impl Names<'_> {
                 self.settings.has_tables = true;
             }
             if let Some(name) = self.name_of(word)? {
-                self.functions.push(name)?;
+                self.functions.insert(name, ())?;
             }
         }
         Ok(())

@@ -3,12 +3,12 @@
 use crate::assigning::may_fix_locale;
 use crate::names::{Names, Scope, Spot};
 use crate::parts::{Part, parts_of};
-use crate::programs::{Program, mention_in};
+use crate::programs::Program;
 use crate::replaced::with_holes;
 use crate::settings::is_keyword_option;
-use crate::units::{bytes_of, ends_with, last_part};
+use crate::units::{bytes_of, last_part};
 use sedck_hosts::{Kind, is_dollar_quoting};
-use sedck_origin::{Result, Text, Unit, byte_at, is_text};
+use sedck_origin::{Result, Text, Unit, begins_with, byte_at};
 use sedck_shell::{Form, ShellCommand, ShellWord, read_shell};
 use std::alloc::Global;
 
@@ -66,7 +66,7 @@ impl Reading<'_> {
         }
         for name in &read.functions {
             if let Some(name) = bytes_of(self.names.alloc, &name.units)? {
-                self.names.functions.push(name)?;
+                self.names.functions.insert(name, ())?;
             }
         }
         for command in read.commands {
@@ -108,18 +108,14 @@ impl Reading<'_> {
             self.names.note_command(command, scope)?;
         }
         let parts = parts_of(&self.names, words, Scope::Other.spot(command.site, 0))?;
-        if parts.is_empty() {
-            if let Some(offset) = mention_in(self.names.alloc, words)? {
-                self.unread.push(offset)?;
-            }
-        }
         for part in &parts {
             self.note_part(*part, command, form, scope)?;
         }
         Ok(())
     }
 
-    /// Notes the text that a part of a command has for a shell. A here-document that `.` reads isn't understood.
+    /// Notes the text that a part of a command has for a shell. A here-document or a here-string that `.` reads isn't understood, and none that
+    /// a shell reads by a name.
     fn note_part(
         &mut self,
         part: Part,
@@ -140,7 +136,7 @@ impl Reading<'_> {
                 Some(text) => self.note_other(text, part, command, plain(form)),
                 None => Ok(()),
             },
-            (Program::Sourcing, Some(first)) if command.here.is_some() => {
+            (Program::Sourcing, Some(first)) if is_fed(command) => {
                 Ok(self.unread.push(first.start)?)
             }
             _ => Ok(()),
@@ -165,9 +161,11 @@ impl Reading<'_> {
     ) -> Result<()> {
         let is_keyword = words.iter().any(|word| is_keyword_option(&word.units));
         self.names.settings.has_keywords |= is_keyword;
-        match (shell_text(words), &command.here) {
-            (Input::Word(units), _) => self.note_other(units, part, command, form),
-            (Input::Standard, Some(units)) => self.note_text(units, form, Scope::Other),
+        match (shell_text(words), &command.here, &command.here_string) {
+            (Input::Word(units), _, _) => self.note_other(units, part, command, form),
+            (Input::Standard, Some(units), _) => self.note_text(units, form, Scope::Other),
+            (Input::Standard, _, Some(word)) => self.note_text(&word.units, form, Scope::Other),
+            (Input::File(path), _, _) if is_device(path) && is_fed(command) => self.miss(path),
             _ => Ok(()),
         }
     }
@@ -213,6 +211,10 @@ impl Reading<'_> {
             Some(text) => Scope::Again(text),
             None => Scope::Other,
         };
+        let words = match words {
+            [first, others @ ..] if first.is("--") => others,
+            _ => words,
+        };
         match words {
             [] => Ok(()),
             [_] if is_trap => Ok(()),
@@ -244,18 +246,27 @@ fn plain(form: Form) -> Form {
     }
 }
 
-/// Whether a command with these words may call sed: one of them has that name, or is a name that isn't known.
+/// Whether a command with these words may call sed: one of them has that name in it, or is a name that isn't known.
 fn may_call(words: &[ShellWord]) -> bool {
     words.iter().any(|word| match *word.units.as_slice() {
-        [Unit::Hole(_)] => true,
-        _ => ends_with_sed(&word.units),
+        [Unit::Hole(_)] | [Unit::Hole(_), Unit::Hole(_), ..] => true,
+        _ => has_sed(&word.units),
     })
 }
 
-/// Whether the units end with `sed`.
-fn ends_with_sed(units: &[Unit]) -> bool {
-    let from = units.len().saturating_sub(3);
-    is_text(units.get(from..).unwrap_or(&[]), "sed")
+/// Whether `sed` is among the units.
+fn has_sed(units: &[Unit]) -> bool {
+    (0..units.len()).any(|index| begins_with(units.get(index..).unwrap_or(&[]), "sed"))
+}
+
+/// Whether a shell may read commands from a here-document or a here-string of this command.
+fn is_fed(command: &ShellCommand) -> bool {
+    command.here.is_some() || command.has_other_here || command.here_string.is_some()
+}
+
+/// Whether the path may be that of what is open.
+fn is_device(path: &[Unit]) -> bool {
+    begins_with(path, "/dev/") || begins_with(path, "/proc/")
 }
 
 /// The words with a space between, as `eval` joins them.
@@ -276,27 +287,28 @@ enum Input<'a> {
     Word(&'a [Unit]),
     /// Its standard input.
     Standard,
-    File,
+    /// The file with this path.
+    File(&'a [Unit]),
 }
 
 /// Where a shell with these words after its name has its text from.
 fn shell_text(words: &[ShellWord]) -> Input<'_> {
-    let mut is_argument = false;
+    let mut arguments = 0usize;
     let mut is_command = false;
     let mut is_standard = false;
     for word in words {
-        if is_argument {
-            is_argument = false;
+        if arguments > 0 {
+            arguments = arguments.saturating_sub(1);
         } else if matches!(byte_at(&word.units, 0), Some(b'-' | b'+')) {
             is_command = is_command || has_letter(&word.units, b'c');
             is_standard = is_standard || has_letter(&word.units, b's');
-            is_argument = takes_next(word);
+            arguments = arguments_of(word);
         } else if is_command {
             return Input::Word(&word.units);
         } else if is_standard {
             return Input::Standard;
         } else {
-            return Input::File;
+            return Input::File(&word.units);
         }
     }
     Input::Standard
@@ -309,20 +321,42 @@ fn has_letter(units: &[Unit], letter: u8) -> bool {
         && units.iter().any(|unit| unit.byte() == Some(letter))
 }
 
-/// Whether the next word is an argument of the option.
-fn takes_next(word: &ShellWord) -> bool {
-    let is_long = byte_at(&word.units, 1) == Some(b'-');
-    let is_options = ends_with(&word.units, b'o') || ends_with(&word.units, b'O');
-    (is_options && !is_long) || word.is("--rcfile") || word.is("--init-file")
+/// How many of the next words are arguments of the option: one for each `o` and `O`.
+fn arguments_of(word: &ShellWord) -> usize {
+    if byte_at(&word.units, 1) == Some(b'-') {
+        return usize::from(word.is("--rcfile") || word.is("--init-file"));
+    }
+    let letters = word.units.iter();
+    letters
+        .filter(|unit| matches!(unit.byte(), Some(b'o' | b'O')))
+        .count()
 }
 
 /// The text that `su` with these words after its name hands to a shell.
 fn user_text(words: &[ShellWord]) -> Option<&[Unit]> {
-    let option = words.iter().position(|word| {
-        let is_last = has_letter(&word.units, b'c') && ends_with(&word.units, b'c');
-        is_last || word.is("--command")
-    })?;
-    words
-        .get(option.saturating_add(1))
-        .map(|word| word.units.as_slice())
+    for (index, word) in words.iter().enumerate() {
+        let next = words.get(index.saturating_add(1));
+        if word.is("--command") {
+            return next.map(|word| word.units.as_slice());
+        }
+        if begins_with(&word.units, COMMAND) {
+            return word.units.get(COMMAND.len()..);
+        }
+        if has_letter(&word.units, b'c') {
+            let letter = word
+                .units
+                .iter()
+                .position(|unit| unit.byte() == Some(b'c'))?;
+            let text = word.units.get(letter.saturating_add(1)..).unwrap_or(&[]);
+            return if text.is_empty() {
+                next.map(|word| word.units.as_slice())
+            } else {
+                Some(text)
+            };
+        }
+    }
+    None
 }
+
+/// How the long option of `su` begins that has its argument in the same word.
+const COMMAND: &str = "--command=";

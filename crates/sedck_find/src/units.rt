@@ -31,6 +31,11 @@ pub(crate) fn variable_length(units: &[Unit]) -> usize {
     }
 }
 
+/// Whether a part of the units isn't known.
+pub(crate) fn has_hole(units: &[Unit]) -> bool {
+    units.iter().any(|unit| matches!(*unit, Unit::Hole(_)))
+}
+
 /// Whether the last unit is this byte.
 pub(crate) fn ends_with(units: &[Unit], byte: u8) -> bool {
     units.last().is_some_and(|unit| unit.byte() == Some(byte))

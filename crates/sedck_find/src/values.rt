@@ -70,6 +70,14 @@ impl Value<'_> {
         })
     }
 
+    /// Whether it has a byte that is none of these.
+    pub fn has_other(self, bytes: &[u8]) -> bool {
+        (0..self.len()).any(|index| match self.get(index) {
+            Some((byte, _)) => !bytes.contains(&byte),
+            None => true,
+        })
+    }
+
     /// Whether a shell leaves the value as it is where it comes into a word in this way.
     pub fn is_kept(self, way: Way) -> bool {
         let is_split = way.is_split() && (self.has_any(BLANKS) || self.has_any(SPECIAL));

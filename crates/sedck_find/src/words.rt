@@ -191,6 +191,27 @@ impl Filler<'_> {
         is_near && self.spend(value.len()) && !vanishes && value.is_kept(way)
     }
 
+    /// Whether the value of the hole is known and is no command: nothing, or what only tells make how to run the one behind it.
+    pub fn is_nothing(&mut self, units: &[Unit], spot: Spot) -> Result<bool> {
+        let [Unit::Hole(hole)] = *units else {
+            return Ok(false);
+        };
+        let names = self.names;
+        let signs: &[u8] = if names.kind == Kind::Make {
+            b"@-+ \t"
+        } else {
+            b" \t"
+        };
+        let Some(value) = names.value_of(hole, spot) else {
+            return Ok(false);
+        };
+        let is_nothing = value.len() <= SIGNS && !value.has_other(signs);
+        if is_nothing {
+            self.follow(hole, value)?;
+        }
+        Ok(is_nothing)
+    }
+
     /// Notes that the hole is replaced by the value.
     fn follow(&mut self, hole: Hole, value: Value<'_>) -> Result<()> {
         let value = value.source(&self.names.lines, self.names.kind == Kind::Make);
@@ -230,6 +251,9 @@ impl Filler<'_> {
         Ok(Some(options))
     }
 }
+
+/// The most bytes of a value that is no command.
+const SIGNS: usize = 16;
 
 /// The most bytes that the words of a call have.
 pub(crate) const LONGEST: usize = 1_048_576;

@@ -1,0 +1,296 @@
+//! What may call sed where no call is found: words of a command that isn't known, texts that it may run, and values that others run.
+
+use crate::assigning::is_assignment;
+use crate::names::Names;
+use crate::parts::{Part, Runner};
+use crate::programs::{LONGEST, Program, is_sed_word};
+use crate::units::{bytes_of, ends_with, has_hole, last_part, variable_length};
+use sedck_origin::{
+    Result, Unit, begins_with, byte_at, hole_name, is_among, is_name_byte, is_one_of, is_text,
+};
+use sedck_shell::ShellWord;
+
+/// Commands whose words are no commands.
+static PLAIN: &'static [&'static [&'static str]] = &[
+    &[
+        "echo", "printf", "test", "[", "[[", ":", "case", "return", "exit",
+    ],
+    &[
+        "which", "type", "hash", "command", "grep", "egrep", "fgrep", "expr",
+    ],
+    &[
+        "cat", "rm", "cp", "mv", "ln", "chmod", "ls", "mkdir", "touch", "cd",
+    ],
+    &[
+        "diff", "cmp", "install", "tar", "make", "gmake", "dirname", "basename",
+    ],
+    &[
+        "export", "readonly", "local", "declare", "typeset", "unset", "read",
+    ],
+    &[
+        "unalias", "awk", "gawk", "mawk", "perl", "python", "python3", "ruby",
+    ],
+    &[
+        "apt", "apt-get", "aptitude", "dpkg", "yum", "dnf", "microdnf", "rpm",
+    ],
+    &[
+        "zypper", "apk", "pacman", "brew", "opkg", "emerge", "pkg", "port",
+    ],
+];
+
+/// Those whose words are none behind `in`.
+static LOOPS: &'static [&'static str] = &["for", "select"];
+
+/// Words behind which a command may begin in some shells.
+static BRACES: &'static [&'static str] = &["{", "}", "]]"];
+
+/// Commands that run a text, which isn't read.
+static RUNNING: &'static [&'static [&'static str]] = &[
+    &[
+        "env", "ssh", "rsh", "watch", "parallel", "docker", "podman", "kubectl",
+    ],
+    &[
+        "script", "nsenter", "git", "tmux", "screen", "xterm", "entr", "adb",
+    ],
+    &["alias", "systemd-run", "lxc-attach", "vagrant", "crontab"],
+];
+
+/// Variables whose values other programs run.
+static EDITORS: &'static [&'static [&'static str]] = &[
+    &["EDITOR", "VISUAL", "FCEDIT", "PAGER", "BROWSER", "LESSOPEN"],
+    &["GIT_EDITOR", "GIT_SEQUENCE_EDITOR", "GIT_PAGER", "MANPAGER"],
+    &["SUDO_EDITOR", "SYSTEMD_EDITOR", "KUBE_EDITOR", "SVN_EDITOR"],
+    &["HGEDITOR", "PROMPT_COMMAND", "GIT_EXTERNAL_DIFF"],
+];
+
+/// The offset of what may call sed in this part of a command, where it is none of a sed. In prose, and in a value of make's, a word behind
+/// the name of a sed must look like an option or a script.
+pub(crate) fn mention_in(
+    names: &Names<'_>,
+    words: &[ShellWord],
+    part: Part,
+    is_strict: bool,
+) -> Result<Option<usize>> {
+    let Some(words) = words.get(part.name..part.end) else {
+        return Ok(None);
+    };
+    let Some((name, others)) = words.split_first() else {
+        return Ok(None);
+    };
+    let called = name.units.get(part.glued..).unwrap_or(&[]);
+    let bytes = bytes_of(names.alloc, last_part(called))?;
+    let known = bytes.as_deref().unwrap_or(&[]);
+    let from = first_open(names, known, words);
+    if let Some(offset) = word_in(names, words, from, part.runner, is_strict)? {
+        return Ok(Some(offset));
+    }
+    // The texts of other commands are read.
+    let Program::Other = part.program else {
+        return Ok(None);
+    };
+    if has_value(names, &name.units) || (!others.is_empty() && names_sed(names, &name.units)) {
+        return Ok(Some(name.start));
+    }
+    Ok(text_in(words, from, is_one_among(known, RUNNING)))
+}
+
+/// The offset of the first of these words, from this number on, that is the name of a sed and has a word behind it, or gets one by `xargs`;
+/// or that is a value with such words.
+fn word_in(
+    names: &Names<'_>,
+    words: &[ShellWord],
+    from: usize,
+    runner: Runner,
+    is_strict: bool,
+) -> Result<Option<usize>> {
+    for index in from..words.len() {
+        let is_called = match words.get(index.saturating_add(1)) {
+            Some(next) => !is_strict || looks_called(next),
+            None => runner == Runner::Adding,
+        };
+        let Some(word) = words.get(index) else {
+            break;
+        };
+        let is_value = matches!(*word.units.as_slice(), [Unit::Hole(hole)] if hole.way.is_split());
+        if (is_value && has_value(names, &word.units)) || (is_called && is_sed_word(names, word)?) {
+            return Ok(Some(word.start));
+        }
+    }
+    Ok(None)
+}
+
+/// The offset of the first of these words, from this number on, that is a text with a call of sed; a shell or another command may run any
+/// one, or those behind some options.
+fn text_in(words: &[ShellWord], from: usize, is_running: bool) -> Option<usize> {
+    for index in from..words.len() {
+        let before = words.get(index.saturating_sub(1));
+        let is_text = is_running || before.is_some_and(|before| is_command_option(&before.units));
+        match words.get(index) {
+            Some(word) if has_text(&word.units, is_text) => return Some(word.start),
+            _ => {}
+        }
+    }
+    None
+}
+
+/// The number of the first word that may be a command: none where the words of a command with this name are no commands.
+fn first_open(names: &Names<'_>, name: &[u8], words: &[ShellWord]) -> usize {
+    let is_loop = is_among(name, LOOPS) && words.get(2).is_none_or(|word| word.is("in"));
+    let is_plain = is_loop || is_one_among(name, PLAIN);
+    if !is_plain || names.is_function(name) {
+        return 1;
+    }
+    let brace = words
+        .iter()
+        .skip(1)
+        .position(|word| !word.is_quoted && is_one_of(&word.units, BRACES));
+    brace.map_or(words.len(), |place| place.saturating_add(1))
+}
+
+/// The offset of an assignment in these words to a variable whose value other programs run, where that has a call of sed.
+pub(crate) fn editor_in(names: &Names<'_>, words: &[ShellWord]) -> Result<Option<usize>> {
+    for word in words {
+        if !is_assignment(&word.units) || !has_call(&word.units) {
+            continue;
+        }
+        let length = variable_length(&word.units);
+        let name = bytes_of(names.alloc, word.units.get(..length).unwrap_or(&[]))?;
+        if name.is_some_and(|name| is_one_among(&name, EDITORS)) {
+            return Ok(Some(word.start));
+        }
+    }
+    Ok(None)
+}
+
+/// Whether a name that isn't known has `sed` written in it: behind its holes, or in the place of one.
+fn names_sed(names: &Names<'_>, units: &[Unit]) -> bool {
+    if has_hole(units) && ends_with_sed(units) {
+        return true;
+    }
+    units.iter().take(LONGEST).any(|unit| match *unit {
+        Unit::Hole(hole) => {
+            let written = names.written_hole(hole);
+            writes_sed(written.get(..written.len().min(LONGEST)).unwrap_or(&[]))
+        }
+        _ => false,
+    })
+}
+
+/// Whether the file sets a variable of these units to a value that has a call of sed.
+fn has_value(names: &Names<'_>, units: &[Unit]) -> bool {
+    units.iter().take(LONGEST).any(|unit| match *unit {
+        Unit::Hole(hole) => {
+            let name = hole_name(names.written_hole(hole)).unwrap_or(&[]);
+            match names.facts.get(name) {
+                Some(fact) => match &fact.value {
+                    Some(value) => has_name(value.get(..LONGEST).unwrap_or(value)),
+                    None => false,
+                },
+                None => false,
+            }
+        }
+        _ => false,
+    })
+}
+
+/// Whether the units end with `sed`.
+fn ends_with_sed(units: &[Unit]) -> bool {
+    let from = units.len().saturating_sub(3);
+    begins_with(units.get(from..).unwrap_or(&[]), "sed")
+}
+
+/// Whether what is written in place of a hole has the name `sed`. In a command that is one which writes the name, and no call.
+fn writes_sed(written: &[u8]) -> bool {
+    let is_command = matches!(written, [b'$', b'(', ..] | [b'`', ..]);
+    for index in 0..written.len() {
+        let rest = written.get(index..).unwrap_or(&[]);
+        let before = written.get(index.saturating_sub(1)).copied();
+        let is_inside = index > 0 && before.is_some_and(is_name_byte);
+        if is_inside || !rest.starts_with(b"sed") {
+            continue;
+        }
+        let behind = rest.get(3..).unwrap_or(&[]);
+        let blanks = behind
+            .iter()
+            .position(|byte| *byte != b' ')
+            .unwrap_or(behind.len());
+        let is_name = !behind.first().is_some_and(|byte| is_name_byte(*byte));
+        let is_last = match behind.get(blanks) {
+            Some(next) => b")`|;&<>2".contains(next),
+            None => true,
+        };
+        if is_name && (!is_command || is_last) {
+            return true;
+        }
+    }
+    false
+}
+
+/// Whether the units are a word that has a call of sed in a text: where it is known to be run any one, and else one that begins it, or what
+/// is behind a sign, and has an option or a script behind it.
+fn has_text(units: &[Unit], is_run: bool) -> bool {
+    for index in 0..units.len() {
+        let rest = units.get(index..).unwrap_or(&[]);
+        if !begins_call(units, index) {
+            continue;
+        }
+        let is_script = match byte_at(rest, 4) {
+            Some(next) => !next.is_ascii_alphabetic() || is_letter(rest),
+            None => true,
+        };
+        let before = byte_at(units, index.saturating_sub(1));
+        let is_first = index == 0 || before.is_some_and(|before| b"=/;|&(!\n".contains(&before));
+        if is_run || (is_first && is_script) {
+            return true;
+        }
+    }
+    false
+}
+
+/// Whether a single letter is behind the name and a blank that begin the units.
+fn is_letter(units: &[Unit]) -> bool {
+    !byte_at(units, 5).is_some_and(is_name_byte)
+}
+
+/// Whether `sed` and a blank are among the units from this one on, and no part of a name.
+fn begins_call(units: &[Unit], index: usize) -> bool {
+    let before = byte_at(units, index.saturating_sub(1));
+    let is_inside = index > 0 && before.is_some_and(|byte| is_name_byte(byte) || byte == b'.');
+    let rest = units.get(index..).unwrap_or(&[]);
+    let is_name = begins_with(rest, "sed ") || begins_with(rest, "sed\t");
+    let is_option = index > 1 && before == Some(b'S') && byte_at(units, 0) == Some(b'-');
+    is_name && (!is_inside || is_option)
+}
+
+/// Whether the units have `sed` as a word, with a blank behind it.
+fn has_call(units: &[Unit]) -> bool {
+    (0..units.len()).any(|index| begins_call(units, index))
+}
+
+/// Whether the units have `sed` as a word, which may be the last one.
+fn has_name(units: &[Unit]) -> bool {
+    let end = units.len().saturating_sub(3);
+    let is_last = is_text(units.get(end..).unwrap_or(&[]), "sed")
+        && (end == 0 || !byte_at(units, end.saturating_sub(1)).is_some_and(is_name_byte));
+    is_last || has_call(units)
+}
+
+/// Whether the word before a text is an option that says that a shell runs it.
+fn is_command_option(units: &[Unit]) -> bool {
+    let is_letters = byte_at(units, 0) == Some(b'-') && byte_at(units, 1) != Some(b'-');
+    (is_letters && ends_with(units, b'c')) || is_one_of(units, &["--command"])
+}
+
+/// Whether the word behind a name looks like an option or a script: it begins with a hyphen, is quoted or has a slash.
+fn looks_called(word: &ShellWord) -> bool {
+    let has_slash = word
+        .units
+        .iter()
+        .any(|unit| matches!(*unit, Unit::Byte(b'/', _)));
+    word.is_quoted || has_slash || byte_at(&word.units, 0) == Some(b'-')
+}
+
+/// Whether the name is in one of the lists.
+fn is_one_among(name: &[u8], lists: &[&[&str]]) -> bool {
+    lists.iter().any(|names| is_among(name, names))
+}
