@@ -196,6 +196,16 @@ OTHER_WORDS = [
     Row("set -k in a makefile", "SHELL = bash\nall:\n\t@set -k; sed a=b 'w evil' f\n", "make", WRITES, "Makefile"),
     Row("names that find has from a list", "printf -- '-ewevil\\0' | find -files0-from - -exec sed p {} \\;\n", "sh a.sh", WRITES, files={"-ewevil": ""},
         values=("-ewevil",)),
+    Row("names that find has from a list by a variable", "find $dirs -exec sed p {} \\;\n", "dirs='-files0-from list' sh a.sh", WRITES, files={"-ewevil": "", "list": "-ewevil\0"},
+        values=("-ewevil",)),
+    Row("names that find has from a list by its words", 'find "$@" -exec sed p {} \\;\n', "sh a.sh -files0-from list", WRITES, files={"-ewevil": "", "list": "-ewevil\0"},
+        values=("-ewevil",)),
+    Row("names that find has from a list by one word", 'find "$x" list -exec sed p {} \\;\n', "x=-files0-from sh a.sh", WRITES, files={"-ewevil": "", "list": "-ewevil\0"},
+        values=("-ewevil",)),
+    Row("a folder of the sed", "$dir/sed p f\n", "dir='sed -n -f es /bin' sh a.sh", WRITES),
+    Row("what make puts before a sed", "all:\n\t@$(Q)sed p f\n", "Q='sed -n -f es ' make -e", WRITES, "Makefile"),
+    Row("what a variable puts before a sed", "$x sed p f\n", "x='sed -n -f es' sh a.sh", WRITES),
+    Row("an empty suffix of -i", "sed -i '' 'w evil' f\n", due={"unknown"}),
     Row("a descriptor with two zeros", "sed -n -f - f <<B 00<<A\np\nB\nw evil\nA\n", "bash a.sh", WRITES),
     Row("a pattern that vanishes", "shopt -s nullglob\nsed s/a*/b/ 'w evil' f\n", "bash a.sh", WRITES, due={"unknown"}),
     Row("a pattern that vanishes in a makefile", "SHELL = bash -O nullglob\nall:\n\t@sed s/a*/b/ 'w evil' f\n", "make", WRITES, "Makefile", due={"unknown"}),
@@ -319,6 +329,146 @@ RECALL = [
     Row("a hundred thousand substitutions without an end", '"$(' * 100000 + "sed ':x;bx' f\n", harm=LOOPS),
 ]
 
+# ---- Calls in places that aren't read as commands of a shell: each must be found, or told as a place that isn't understood
+
+S = "sed -n 'w evil' f"
+TEXTS = [Row("told: " + name, text, run, WRITES, file, files, due=FOUND) for name, file, run, text, files in [
+    # What make puts before a call.
+    ("$(Q)sed", "Makefile", "make", "all:\n\t@$(Q)" + S + "\n", {}),
+    ("$(Q)sed without quotes", "Makefile", "make", "Q =\nall:\n\t$(Q)sed wevil f\n", {}),
+    ("$(AM_V_GEN)sed", "Makefile", "make", "AM_V_GEN = @echo '  GEN' $@;\nall:\n\t$(AM_V_GEN)sed wevil f\n", {}),
+    ("$(v)$(SED)", "Makefile", "make", "SED = sed\nall:\n\t$(v)$(SED) wevil f\n", {}),
+    ("$(Q) sed", "Makefile", "make", "all:\n\t$(Q) sed wevil f\n", {}),
+    ("$(Q)/bin/sed", "Makefile", "make", "Q = @\nall:\n\t$(Q)/bin/sed wevil f\n", {}),
+    ("$(Q)env sed", "Makefile", "make", "Q = @\nall:\n\t$(Q)env X=1 sed wevil f\n", {}),
+    ("$(Q)sh -c", "Makefile", "make", "Q = @\nall:\n\t$(Q)sh -c 'sed wevil f'\n", {}),
+    ("$(Q)if", "Makefile", "make", "Q = @\nall:\n\t$(Q)if sed wevil f; then :; fi\n", {}),
+    ("$(Q) behind a pipe", "Makefile", "make", "all:\n\t@cat f | $(Q)sed wevil\n", {}),
+    ("$(Q) and an assignment", "Makefile", "make", "Q = @\nall:\n\t$(Q)X=1 sed wevil f\n", {}),
+    ("$(call ..)sed", "Makefile", "make", "all:\n\t@$(call set,X)sed wevil f\n", {}),
+    ("((sed", "Makefile", "make", "all:\n\t@((sed wevil f))\n", {}),
+    ("&> sed", "Makefile", "make", "all:\n\t@echo x &>g sed wevil f; sleep 0.2\n", {}),
+    # What runs a call, and isn't known.
+    ("a function that runs its words", "a.sh", "sh a.sh", "run() { \"$@\"; }\nrun sed wevil f\n", {}),
+    ("a function echo", "a.sh", "sh a.sh", "echo() { \"$@\"; }\necho sed wevil f\n", {}),
+    ("a variable that runs", "a.sh", "RUN=env sh a.sh", "$RUN sed wevil f\n", {}),
+    ("a quoted variable that runs", "a.sh", "RUN=env sh a.sh", "\"$RUN\" sed wevil f\n", {}),
+    ("env and a variable", "a.sh", "sh a.sh", "env $x sed wevil f\n", {}),
+    ("setarch", "a.sh", "sh a.sh", "setarch x86_64 sed wevil f\n", {}),
+    ("nine times env", "a.sh", "sh a.sh", "env " * 9 + "sed wevil f\n", {}),
+    ("nice --adj", "a.sh", "sh a.sh", "nice --adj 5 sed wevil f\n", {}),
+    ("timeout --sig", "a.sh", "sh a.sh", "timeout --sig KILL 5 sed wevil f\n", {}),
+    ("time --", "a.sh", "bash a.sh", "time -- sed wevil f\n", {}),
+    ("env -S", "a.sh", "sh a.sh", "env '-Ssed wevil' f\n", {}),
+    ("env -vS", "a.sh", "sh a.sh", "env -vS'sed wevil' f\n", {}),
+    ("env --split-string", "a.sh", "sh a.sh", "env --split-string='sed wevil' f\n", {}),
+    ("find and a function's name", "a.sh", "sh a.sh", "find f -exec nice nice env -u X env sed wevil {} \\; -exec setarch x86_64 sed wevil {} \\;\n", {}),
+    ("an option of find that isn't known", "a.sh", "X=-exec sh a.sh", "find f $X sed wevil {} \\;\n", {}),
+    ("xargs and a variable", "a.sh", "sh a.sh", "echo f | xargs $x sed wevil\n", {}),
+    ("xargs and what isn't known", "a.sh", "sh a.sh", "echo wevil f | xargs setarch x86_64 sed\n", {}),
+    ("su --command=", "a.sh", "sh a.sh", "su --command=\"cd '$PWD'; sed -n 'w evil' f\" root\n", {}),
+    ("su -c", "a.sh", "sh a.sh", "su root \"-ccd '$PWD'; sed -n 'w evil' f\"\n", {}),
+    ("flock -c", "a.sh", "sh a.sh", "flock l -c \"sed -n 'w evil' f\"\n", {}),
+    ("the words of a shell", "a.sh", "sh a.sh", "sh -c '\"$@\"' x sed -n 'w evil' f\n", {}),
+    ("the name of a shell", "a.sh", "sh a.sh", "sh -c '\"$0\" \"$@\"' sed wevil f\n", {}),
+    # Names.
+    ("an alias", "a.sh", "sh a.sh", "alias s='sed -n'\ns 'w evil' f\n", {}),
+    ("a loop over names", "a.sh", "sh a.sh", "for s in sed; do $s -n 'w evil' f; done\n", {}),
+    ("a loop without `in`", "a.sh", "zsh a.sh", "#!/bin/zsh\nfor i (a) sed -n 'w evil' f\n", {}),
+    ("which", "a.sh", "sh a.sh", "tool=$(command -v sed); $tool -n 'w evil' f\n", {}),
+    ("a small name", "a.sh", "sh a.sh", "sed=$(command -v sed | cat)\n$sed wevil f\n", {}),
+    ("a default", "a.sh", "sh a.sh", "${x:-sed} wevil f\n", {}),
+    ("a quoted default", "a.sh", "sh a.sh", "\"${x:-/bin/sed}\" wevil f\n", {}),
+    ("a default with an option", "a.sh", "sh a.sh", "${x-sed -n} wevil f\n", {}),
+    ("a default that is set", "a.sh", "sh a.sh", ": ${tool:=sed}; $tool -n wevil f\n", {}),
+    ("a value with a default", "a.sh", "sh a.sh", "x=${y:-sed}\n$x wevil f\n", {}),
+    ("set --", "a.sh", "sh a.sh", "set -- sed -n 'w evil' f; \"$@\"\n", {}),
+    ("$'sed'", "a.sh", "bash a.sh", "$'sed' wevil f\n", {}),
+    ("a part of a name", "a.sh", "sh a.sh", "${CROSS}sed wevil f\n", {}),
+    ("a quoted part of a name", "a.sh", "sh a.sh", "\"$CROSS\"sed wevil f\n", {}),
+    ("a value that is words", "a.sh", "sh a.sh", "run() { \"$@\"; }\nx='sed wevil f'\nrun $x\n", {}),
+    ("a part of a word", "a.sh", "sh a.sh", "set -- ${E}sed wevil f; \"$@\"\n", {}),
+    ("a folder and a word", "a.sh", "d=/bin sh a.sh", "run() { \"$@\"; }\nrun $d/sed wevil f\n", {}),
+    ("a default as a word", "a.sh", "sh a.sh", "run() { \"$@\"; }\nrun ${x:-sed} wevil f\n", {}),
+    ("a value that is a command", "a.sh", "sh a.sh", "x='env sed'\n$x wevil f\n", {}),
+    # Texts that a shell reads.
+    ("trap --", "a.sh", "sh a.sh", "trap -- 'sed wevil f' EXIT\n", {}),
+    ("eval --", "a.sh", "bash a.sh", "eval -- 'sed wevil f'\n", {}),
+    ("coproc with a name", "a.sh", "bash a.sh", "coproc X { sed wevil f; }\nwait\n", {}),
+    ("a here-string", "a.sh", "bash a.sh", "sh <<< 'sed wevil f'\n", {}),
+    ("a here-string of .", "a.sh", "bash a.sh", ". /dev/stdin <<< 'sed wevil f'\n", {}),
+    ("/dev/stdin", "a.sh", "sh a.sh", "sh /dev/stdin <<E\nsed wevil f\nE\n", {}),
+    ("/dev/fd/3", "a.sh", "sh a.sh", ". /dev/fd/3 3<<E\nsed wevil f\nE\n", {}),
+    ("bash -oe", "a.sh", "bash a.sh", "bash -oe posix -c 'sed wevil f'\n", {}),
+    ("a default of a shell", "a.sh", "sh a.sh", "${SHELL:-sh} -c 'sed wevil f'\n", {}),
+    ("rbash", "a.sh", "bash a.sh", "rbash -c 'sed wevil f'\n", {}),
+    ("a value of make that is used", "Makefile", "make", "X = setarch x86_64 sed wevil f\nall:\n\t@$(X)\n", {}),
+    ("a shell in a variable", "a.sh", "sh a.sh", "x=sh; $x -c 'sed wevil f'\n", {}),
+    ("an editor", "a.sh", "sh a.sh", "EDITOR='sed wevil' sh -c '$EDITOR f'\n", {}),
+    ("lines that are joined to a delimiter", "a.sh", "bash a.sh", "cat <<EOF\nE\\\nOF\nsed -n 'w evil' f\nEOF\n", {}),
+    # Forms of other shells.
+    ("((", "a.sh", "dash a.sh", "#!/bin/sh\n((sed wevil f))\n", {}),
+    ("if ((", "a.sh", "dash a.sh", "#!/bin/sh\nif ((sed wevil f)) then :; fi\n", {}),
+    ("(( in a text of another shell", "a.sh", "bash a.sh", "#!/bin/bash\ndash -c '((sed wevil f))'\n", {}),
+    ("&>", "a.sh", "dash a.sh", "#!/bin/sh\necho x &>g sed wevil f\nwait\n", {}),
+    ("&>>", "a.sh", "dash a.sh", "#!/bin/sh\necho x &>>g sed wevil f\nwait\n", {}),
+    ("|| in [[", "a.sh", "dash a.sh", "#!/bin/sh\n[[ x || sed wevil f || x ]]\n", {}),
+    ("&& in [[", "a.sh", "dash a.sh", "#!/bin/sh\n[[ x || sed wevil f && x ]]\n", {}),
+    ("| in [[", "a.sh", "dash a.sh", "#!/bin/sh\n[[ a | sed wevil f ]]\n", {}),
+    ("repeat", "a.sh", "zsh a.sh", "#!/bin/zsh\nrepeat 1 sed wevil f\n", {}),
+    ("foreach", "a.sh", "zsh a.sh", "#!/bin/zsh\nforeach i (a) sed wevil f; end\n", {}),
+    ("braces behind [[", "a.sh", "zsh a.sh", "#!/bin/zsh\nif [[ -n x ]] { sed wevil f }\n", {}),
+    ("noglob", "a.sh", "zsh a.sh", "#!/bin/zsh\nnoglob sed wevil f\n", {}),
+    ("a hyphen", "a.sh", "zsh a.sh", "#!/bin/zsh\n- sed wevil f\n", {}),
+    ("always", "a.sh", "zsh a.sh", "#!/bin/zsh\n{ : } always { sed wevil f }\n", {}),
+    ("${ }", "a.sh", "ksh a.sh", "#!/bin/ksh\necho ${ sed wevil f; }\n", {}),
+    # Files that a sed runs.
+    ("a first line with sed", "a.sh", "sed -f a.sh f", "#!/bin/sed -f\nw evil\n", {}),
+]] + [Row("told: YAML, %r" % text, text, file="ci.yml", due=FOUND) for text in [
+    "jobs:\n  a:\n    steps:\n      - run : sed wevil f\n",
+    "jobs: {a: {steps: [{run: \"sed wevil f\"}]}}\n",
+    "a: {run: sed ':x;bx' f}\n",
+    "jobs:\n  a:\n    steps:\n      - ? run\n        : sed wevil f\n",
+    "jobs:\n  a:\n    steps:\n      - ? run\n        : |\n          sed wevil f\n",
+    "jobs: {\n  a: {\n   script: sed wevil f\n  } }\n",
+    "steps: [\n  {run: sed wevil f},\n]\n",
+    "jobs: {\na: {run: sed wevil f}}\n",
+    "my job: {run: sed wevil f}\n",
+    "steps:\n  - \"run\" : sed wevil f\n",
+    "steps:\n  - !!str run: sed wevil f\n",
+    "steps:\n  - &a run: |\n     sed wevil f\n",
+    "steps:\n  - run: !!str sed wevil f\n",
+]] + [Row("told: %s" % text, text + "\n", due=FOUND) for text in [
+    "watch sed 5d f", "docker exec c sed :x", "ssh h sed p", "ssh h 'cat f | sed 5d'", "git filter-branch --tree-filter \"sed -i ':x;bx' f\"", "git rebase --exec='sed -i p f' x",
+    "EDITOR=\"sed -i ':x;bx'\" crontab -e", "export EDITOR=\"sed -i ':x;bx'\"", "env GIT_EDITOR='sed -i p' git commit", "foo \"$SED\" p f", "foo '/bin/sed -i p f'", "runuser -u root -- sed p f",
+    "foo sed p f", "sudo foo sed p f", "time foo sed p f", "foo | bar sed p f", "eval $x sed p f", "sh -c 'foo sed p f'",
+]] + [Row("told: a file of sed that is given", "w evil\n", file="a.sed", due=FOUND),
+      Row("told: env -S in the first line", "#!/usr/bin/env -S sed -n -f es\n", due=FOUND),
+      Row("a script of a shell with the name of one of sed", "#!/bin/sh\nsed -n 's/a/b/' f\n", file="a.sed", asked=".", due=FOUND, place="2:1", words=PLAIN)]
+
+# What is never looked at, as docs/CALLS.md lists it.
+NEVER = [Row("never looked at: " + name, text, run, WRITES, file, files, due=ACCEPTED, may_have_no_call=True) for name, file, run, text, files in [
+    ("a text for a shell", "a.sh", "sh a.sh", "echo 'sed wevil f' | sh\n", {}),
+    ("a text in place of a file", "a.sh", "bash a.sh", "bash <(echo sed wevil f)\n", {}),
+    ("a file that is written", "a.sh", "sh a.sh", "cat > x.sh <<E\nsed wevil f\nE\nsh x.sh\n", {}),
+    ("another language", "a.sh", "sh a.sh", "awk 'BEGIN { system(\"sed wevil f\") }'\n", {}),
+    ("a name of two parts", "Makefile", "make", "S = s\nall:\n\t@$(S)ed wevil f\n", {}),
+    ("a name that a function of make gives", "Makefile", "make", "X = $(addprefix /bin/,sed)\nall:\n\t@$(X) wevil f\n", {}),
+    ("a name of two parts of a shell", "a.sh", "sh a.sh", "x=se; ${x}d wevil f\n", {}),
+    ("the end of a command", "a.sh", "sh a.sh", "run() { \"$@\" wevil f; }\nrun sed\n", {}),
+    ("a text for a command", "a.sh", "sh a.sh", "run() { sh -c \"$1\"; }\nrun 'sed wevil f'\n", {}),
+    ("a source of Autoconf", "configure.ac", "sh made.sh", "setarch x86_64 sed wevil f\n", {"made.sh": "setarch x86_64 sed wevil f\n"}),
+    ("another key", "ci.yml", "", "- shell: sed wevil f\n", {}),
+    ("another program by the path", "a.sh", "bash a.sh", "mkdir b\ncat my > b/sed\nchmod +x b/sed\nPATH=b:$PATH\nhash -r\nsed p f\n", {"my": MY}),
+]]
+
+# What has the name of sed and is no call: nothing is said of it.
+PROSE = [Row("innocent: %r" % text, text + "\n", due=ACCEPTED, may_have_no_call=True) for text in [
+    "echo sed p", "apt-get install -y sed gawk", "grep sed f", "check_tool sed || exit 1", "test sed = p && [ x = sed ] && printf '%s' sed p", "case sed in sed | p) :;; esac",
+    "for x in sed p; do :; done", "which sed gawk", "die 'sed not found'", "log \"using sed to edit $f\"", "[[ $x = sed && $y = p ]]", "((used + 1))", "x=$(sed 1d f)", "find . -name sed -o -name p",
+    "echo x &> g", "sudo apt-get install sed gawk", "EDITOR=vi crontab -e", "cat <<EOF\nE\\\nF\nEOF", "$(echo a | sed 1d f) b",
+]]
+
 # ---- Calls of which everything is known
 
 INNOCENT = [Row("innocent: %r" % text, text, due=ACCEPTED) for text in [
@@ -332,6 +482,10 @@ INNOCENT = [Row("innocent: %r" % text, text, due=ACCEPTED) for text in [
     "cmd | sed p\n",
     "find . -exec sed -n p {} \\;\n",
     "sed -f - <<'E'\np\nE\n",
+    "find \"$dir\" -name '*.c' -exec sed -n p {} \\;\n",
+    "find ./$dir -type f -exec sed -n p {} \\;\n",
+    "\"$dir\"/sed p f\n",
+    "sed -i -e '' f\n",
     "set -e\nsed s=a=b= f\n",
     "set -o pipefail\nset -- -k\nsed s=a=b= f\n",
     "hash sed\nalias ll='ls -l'\nshopt -s extglob\nsed p ./*\n",
@@ -351,9 +505,14 @@ OUTPUTS = [Row("an output behind an operand", LIMITED + "sed p big >> big\n", "s
            Row("an output behind an operand of the same variable", LIMITED + 'sed p -- "$1" >> "./$1"\n', "sh a.sh big", GROWS, files=BIG, due=ACCEPTED, warning="writes-its-input"),
            Row("an output that find hands on", LIMITED + "find f -exec sed p big \\; >> big\n", "sh a.sh", GROWS, files=BIG, due=ACCEPTED, warning="writes-its-input"),
            Row("an output in place of an operand", "sed 's/a/b/' f > f\n", "sh a.sh", EMPTIES, due=ACCEPTED, warning="writes-its-input"),
-           Row("an output in place of an operand, with -i", "sed -i 's/a/b/' f > f\n", "sh a.sh", EMPTIES, due=ACCEPTED, warning="writes-its-input")]
+           Row("an output in place of an operand, with -i", "sed -i 's/a/b/' f > f\n", "sh a.sh", EMPTIES, due=ACCEPTED, warning="writes-its-input"),
+           Row("an output in place of an operand that isn't the last one", "sed 's/a/b/' f > f > g\n", "sh a.sh", EMPTIES, due=ACCEPTED, warning="writes-its-input"),
+           Row("an output in place of the standard input", "sed p < f > f > g\n", "sh a.sh", EMPTIES, due=ACCEPTED, warning="writes-its-input"),
+           Row("another descriptor in place of an operand", "sed 's/a/b/' f 3> f\n", "sh a.sh", EMPTIES, due=ACCEPTED, warning="writes-its-input"),
+           Row("the errors in place of an operand", "sed 's/a/b/' f 2> f\n", "sh a.sh", EMPTIES, due=ACCEPTED, warning="writes-its-input"),
+           Row("the input in place of an operand", "sed 's/a/b/' f 0> f\n", "sh a.sh", EMPTIES, due=ACCEPTED, warning="writes-its-input")]
 
-ROWS = CONDITIONS + OTHER_WORDS + MACROS + VALUES + VALUES_OF_MAKE + RECALL + INNOCENT + OUTPUTS
+ROWS = CONDITIONS + OTHER_WORDS + MACROS + VALUES + VALUES_OF_MAKE + RECALL + TEXTS + NEVER + PROSE + INNOCENT + OUTPUTS
 
 
 def fail(words):
@@ -439,6 +598,7 @@ def rules_out(message, values):
     return ("isn't empty" in message and "" in values
             or any("`%s` isn't set" % value in message for value in values)
             or re.search(r"\bone (?:word|argument)\b", message) is not None and len(values) > 1
+            or "runs the words behind it" in message and any("sed" in value.split() for value in values)
             or any(byte in nowhere for value in values for byte in value)
             or any(word[0] in not_first for value in values for word in value.split()))
 

@@ -118,6 +118,20 @@ ROWS = [
     ("a.sh", [], "SED=sed\n$SED p\n\"$SED\" d\n", 5, [("2:1", IF, ["p"]), ("3:1", A, ["d"])]),
     ("a.sh", ["--assume", "SED=sed -n"], "$SED p\n", 0, [("1:1", A, ["-n", "p"])]),
     ("a.sh", [], "SED=sed\nSED='sed -E'\n$SED p\n\"$SED\" p\n", 5, [("3:1", IF, ["p"]), ("4:1", A, ["p"])]),
+    # What is before a sed, and its folder.
+    ("Makefile", [], "all:\n\t$(Q)sed p f\n\t@cat f | $(V)$(SED) d\n", 5, [("2:6", IF, ["p", "f"]), ("3:15", IF, ["d"])]),
+    ("Makefile", [], "Q = @\nall:\n\t$(Q)sed p f\n", 5, [("3:6", IF, ["p", "f"])]),
+    ("Makefile", ["--assume", "Q=@"], "all:\n\t$(Q)sed p f\n\t$(Q)if sed d f; then :; fi\n", 0, [("2:6", A, ["p", "f"]), ("3:9", A, ["d", "f"])]),
+    ("a.sh", ["--assume", "SUDO="], "$SUDO sed p f\n", 0, [("1:7", A, ["p", "f"])]),
+    ("a.sh", [], "$SUDO ${x}sed p f\n", 5, [("1:11", UNKNOWN, None)]),
+    ("a.sh", ["--assume", "SED=sed"], "$SED p f\n", 0, [("1:1", A, ["p", "f"])]),
+    ("a.sh", [], "$dir/sed p f\n\"$dir\"/sed p f\n${x:-sed} p f\n", 5, [("1:1", IF, ["p", "f"]), ("2:1", A, ["p", "f"]), ("3:1", IF, ["p", "f"])]),
+    ("a.sh", [], "find $d -exec sed p {} \\;\nfind \"$d\" -name '*.c' -exec sed p {} \\;\nfind \"$d\" f -exec sed p {} \\;\n", 5, [("1:15", IF, ["p", "xx"]), ("2:29", A, ["p", "xx"]), ("3:19", IF, ["p", "xx"])]),
+    ("a.sh", [], "sed -i '' p f\nsed -i.bak '' f\nsed -i -e '' f\n", 5, [("1:1", UNKNOWN, ["-i", "", "p", "f"]), ("2:1", A, ["-i.bak", "", "f"]), ("3:1", A, ["-i", "-e", "", "f"])]),
+    ("a.bash", [], "sh <<< 'sed p f'\neval -- 'sed d f'\ntrap -- 'sed x f' EXIT\nsu --command='sed = f' root\n", 0, [("1:9", A, ["p", "f"]), ("2:10", A, ["d", "f"]), ("3:10", A, ["x", "f"]), ("4:15", A, ["=", "f"])]),
+    # What is bash's alone.
+    ("a.sh", [], "[[ a | sed p f ]]\n[[ x || sed d f || x ]]\n[[ $x = a && $x > sed ]]\n", 0, [("1:8", A, ["p", "f", "]]"]), ("2:9", A, ["d", "f"])]),
+    ("a.bash", [], "[[ a || sed ]] && sed p f\n[[ a ||\n sed ]] || sed d f\n", 0, [("1:19", A, ["p", "f"]), ("3:12", A, ["d", "f"])]),
     # What is refused, rejected or not judged.
     ("a.sh", [], "sed 's/a' f\n", 2, [("1:1", REFUSED, ["s/a", "f"])]),
     ("a.sh", [], "sed ':x;bx' f\n", 1, [("1:1", LOOP, [":x;bx", "f"])]),
@@ -198,13 +212,20 @@ PLACES = [
     ("sed p <<E < f > f\nE\n", ["1:17 writes-its-input"]),
     ("sed p - < f 1>> f 2>&1\n", ["1:17 writes-its-input"]),
     ("sed p f > g > f\n", ["1:15 writes-its-input"]),
+    # Each redirection that empties a file does so, also where the output goes elsewhere.
+    ("sed p f > f > g\n", ["1:11 writes-its-input"]),
+    ("sed p f 3> f\n", ["1:12 writes-its-input"]),
+    ("sed p f 0> f\n", ["1:12 writes-its-input"]),
+    ("sed p f 2> f\n", ["1:12 writes-its-input"]),
+    ("sed p < f >| f >&2\n", ["1:14 writes-its-input"]),
+    ("sed -i p f 2> f\n", ["1:1 in-place", "1:15 writes-its-input"]),
     ("sed p f >| f; sed p f &> f; sed p f >& f\n", ["1:12 writes-its-input", "1:26 writes-its-input", "1:40 writes-its-input"]),
     ("env LC_ALL=C sed p f 3>&2 1<> f\n", ["1:31 writes-its-input"]),
     ("find . -exec sed p f \\; >> f\n", ["1:28 writes-its-input"]),
     ("sed -i p f > f\n", ["1:1 in-place", "1:14 writes-its-input"]),
 ] + [(text + "\n", []) for text in (
     "sed p f 2>> f", "sed p f > f.new", "sed p f >&2", "sed p f | cat > f", "find . -exec sed p {} \\; >> {}", "sed p f >> f > g", "sed p f >> f >&2", "sed p < f < g >> f",
-    "sed p f < g >> g", "xargs sed -e p -- < f >> f", "sed p \"d/$(a)\" > \"d/$(a)\"", "{ sed p f; } >> f", "sed p F > f", "sed p f 0> f", "sed p f <<< f > g", "sed p f 3> f",
+    "sed p f < g >> g", "xargs sed -e p -- < f >> f", "sed p \"d/$(a)\" > \"d/$(a)\"", "{ sed p f; } >> f", "sed p F > f", "sed p f <<< f > g", "sed p f 3>> f", "sed p f 0<> f",
 )]
 
 
@@ -347,6 +368,11 @@ def folders():
 UNREAD = [
     ("a.sh", "sed p\nsed ':x;bx\n", ["2:5"]), ("a.sh", "x=`sed p\n", ["1:3"]), ("a.sh", "sed p)\n", ["1:6"]), ("a.sh", "cat <<E\nsed p\n", ["1:7"]),
     ("a.sh", "c=(sed p)\n\"${c[@]}\"\n", ["1:4"]), ("a.sh", ". /dev/stdin <<E\nsed p\nE\n", ["1:1"]), ("a.sh", "run sed -n p\n", ["1:5"]), ("a.sh", "sed p\0\n", ["1:6"]),
+    ("a.sh", "run sed p f\nfind . -exec run sed p {} \\; -exec sed p {} \\;\nalias s='sed -n'\nssh h 'sed p'\nEDITOR='sed -i p' git commit\n", ["1:5", "2:18", "3:7", "4:7", "5:1"]),
+    ("a.sh", "((sed p f))\n: &> g sed p f\n: &> g $x p f\nx=${ sed p f; }\n", ["1:3", "2:8", "3:8", "4:3"]),
+    ("a.bash", "((sed + 1))\n: &> g sed p f\n[[ a || $x = sed ]]\n", []),
+    ("a.sh", "cat <<EOF\nE\\\nOF\nsed p f\nEOF\ncat <<'EOF'\nE\\\nOF\nEOF\n", ["1:7"]),
+    ("a.yml", "a: {run: sed p f}\n? run\n: sed p f\nmy key: {run: sed p f}\n", ["1:10", "3:3", "4:15"]),
     ("a.sh", "echo sed -n p; which sed; apt-get install sed\ngrep sed -n f\n", []), ("a.sh", "sed $'a\\'\n'\n", ["1:8"]),
     ("Dockerfile", "FROM a\nRUN [\"sed\", \"p\", \"f\"]\n", ["2:7"]), ("ci.yml", "a:\n  - run: >\n      sed p f\n      g\n", ["3:7"]),
     ("configure.ac", "AC_MSG_ERROR([sed not found])\nx=`sed -n p f`\n", []),
