@@ -58,6 +58,7 @@ test: build/refuse.so
 	@python3 tools/gate.py "$(RT)"
 	@$(COPY)
 	@CC="$(CC)" python3 tools/library.py "$(RT)" --of-gate
+	@if command -v wasm-opt > /dev/null; then python3 tools/page.py "$(RT)"; else echo "page: skipped: wasm-opt (package binaryen) isn't there"; fi
 	@$(MAKE) --no-print-directory -o build -o probe -o lib docs rows explain-tests refusals streams tools-tests calls-tests wrapper-tests \
 		page-tests library-tests integration-tests archive-tests
 	@python3 tools/planted.py "$(RT)" --behind || true
@@ -108,7 +109,7 @@ wrapper-tests: build
 	python3 tests/wrapper.py build/sedck-explain
 	python3 tests/formatter.py build/sedck-explain
 
-# Tests the page that is there, and makes none: without it, or without a tool, a line says what is skipped.
+# Tests the page that is there: without it, or without a tool, a line says what is skipped.
 page-tests:
 	@echo "Testing the page that make page has made, if there is one ..."
 	python3 tests/page.py
