@@ -271,7 +271,7 @@ def hold_look(built, tab, width, scheme):
     tab.until(SETTLED)
     what = "%s at %d" % (scheme, width)
     holds("the verdict of the first example, " + what, tab.value(VERDICT).startswith("No."))
-    same("the paper, " + what, tab.value("getComputedStyle(document.body).backgroundColor"), {"light": "rgb(255, 255, 255)", "dark": "rgb(13, 17, 23)"}[scheme])
+    same("the ground, " + what, tab.value("getComputedStyle(document.body).backgroundColor"), {"light": "rgb(255, 255, 255)", "dark": "rgb(13, 17, 23)"}[scheme])
     for example in built.facts["examples"]:
         tab.value("byId('example').value = %s; byId('example').dispatchEvent(new Event('change'))" % json.dumps(example["name"]))
         tab.until(SETTLED)
