@@ -104,16 +104,6 @@ limited_one text found a is bound reads writes =
 pub one_or_none : (text : List ℕ) → HasNone text → HasOne text Accepts → ⊥
 one_or_none text none one = none.holds one.cert (subst (λ p. Accepts p one.cert) (none.spelled.only one.program one.spelled.spells) one.holds)
 
--- what was found, once it is read
-pub some_found : (text : List ℕ) (p : Program) (found : Certified) → Spells text p → ((q : Program) → Spells text q → q ≡ p) → Accepts p found.cert
-    → IsLimit p found.cert found.bound → IsLimitEverywhere p found.bound → IsCertified text (Some found)
-some_found text p found spelled only accepts limit everywhere =
-    record { program = p; spelled = record { spells = spelled; only = only }; holds = (accepts, limit, everywhere) }
-
-pub none_found : (text : List ℕ) (p : Program) → Spells text p → ((q : Program) → Spells text q → q ≡ p) → ((c : Certificate) → ¬ Accepts p c)
-    → IsCertified text None
-none_found text p spelled only rules_out = record { program = p; spelled = record { spells = spelled; only = only }; holds = rules_out }
-
 -- ---- A script that is refused
 
 pub no_program : (text : List ℕ) (why : ScriptFault) → IsRefusedAs text why → status_of (Err (faults.Script why)) ≢ 4 → (p : Program) → ¬ Spells text p
