@@ -1,5 +1,5 @@
 -- Where a byte of a line is in the whole text.
-use Rattle.std.proofs.Common.{◌≡◌, ℕ, true, Option, ◌+◌, ◌-◌, ◌<◌, ◌⊎◌, inl, inr, Some, List, [], ◌∷◌, ◌++◌, length, get_or, refl, ap, sym, ◌∙◌, subst, length-append, arith}
+use Rattle.std.proofs.Common.{◌≡◌, ℕ, true, false, Bool, Option, ◌+◌, ◌-◌, ◌<◌, ◌⊎◌, inl, inr, Some, List, [], ◌∷◌, ◌++◌, length, get_or, refl, ap, sym, ◌∙◌, subst, length-append, arith}
 use Rattle.std.proofs.Math.Seq.{get_or-append_seam}
 use Rattle.std.proofs.lemmas.Bool.{false≢true, eqb-true}
 use Rattle.std.proofs.lemmas.Bool.Decides.{eqb_tells}
@@ -47,6 +47,23 @@ continued_cut (b ∷ c ∷ line) h = elim (eqb_tells b 92) [
   | inr s ↦ (let k = continued_cut (c ∷ line) (rw s.0 at h) in (b ∷ k.0, ap (λ t. b ∷ t) k.1))
 ]
 
+-- so it isn't empty, and its last byte is that one
+pub continued_last : (line : List ℕ) → is_continued line ≡ true → (0 < length line) × (get_or line (length line - 1) 0 ≡ 92)
+continued_last line h =
+    let k = continued_cut line h in
+    let size : length line ≡ length k.0 + 1 = ap length k.1 ∙ length-append k.0 (92 ∷ []) in (
+      omega (arith, size),
+      ap (λ t. get_or t (length line - 1) 0) k.1 ∙ ap (λ n. get_or (k.0 ++ 92 ∷ []) n 0) (omega (arith, size)) ∙ get_or-append_seam k.0 92 [] 0,
+    )
+
+-- what refutes this makes a line one that isn't continued
+pub not_continued : (line : List ℕ) → ((0 < length line) × (get_or line (length line - 1) 0 ≡ 92) → ⊥) → false ≡ is_continued line
+not_continued line other = go (is_continued line) refl
+  where
+    go : (found : Bool) → is_continued line ≡ found → false ≡ is_continued line
+    go true h = absurd (other (continued_last line h))
+    go false h = sym h
+
 -- a text whose first byte is a `#` begins with it
 pub begins_hash : (text : List ℕ) {first : Option ℕ} → MatchOption first (text ≡ []) (λ b. (more : List ℕ) × (text ≡ b ∷ more))
     → first ≡ Some 35 → IsTrue (begins "#" text)
@@ -57,9 +74,6 @@ begins_hash text h e =
 pub continued_stands : (text behind : Cursor) (line : List ℕ) → unread text ≡ line ++ unread behind → IsAhead text (length line) behind
     → is_continued line ≡ true → StandsWhere is_extra text.whole.now (behind.at - 1)
 continued_stands text behind line cut ahead h =
-    let k = continued_cut line h in
-    let size : length line ≡ length k.0 + 1 = ap length k.1 ∙ length-append k.0 (92 ∷ []) in
-    let last : get_or line (length line - 1) 0 ≡ 92 =
-    ap (λ t. get_or t (length line - 1) 0) k.1 ∙ ap (λ n. get_or (k.0 ++ 92 ∷ []) n 0) (omega (arith, size)) ∙ get_or-append_seam k.0 92 [] 0 in
-    let place : text.at + (length line - 1) ≡ behind.at - 1 = omega (arith, size, ahead.at) in
-    subst (StandsWhere is_extra text.whole.now) place (last_stands text line (unread behind) cut (omega (arith, size)) last)
+    let last = continued_last line h in
+    let place : text.at + (length line - 1) ≡ behind.at - 1 = omega (arith, last.0, ahead.at) in
+    subst (StandsWhere is_extra text.whole.now) place (last_stands text line (unread behind) cut last.0 last.1)

@@ -21,6 +21,10 @@ pub enum Access {
 pub fn is_continued(line: &[u8]) -> bool
     ensures { result ≡ is_continued line.now }
 {
+    // Most lines end otherwise, and are long.
+    if line.is_empty() || line[line.len() - 1] != b'\\' {
+        return false;
+    }
     let mut rest = line;
     'bytes: while let [first, second, behind @ ..] = rest {
         rest = if *first == b'\\' { behind } else { &rest[1..] };
