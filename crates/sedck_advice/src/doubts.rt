@@ -3,7 +3,7 @@
 ghost use Rattle.std.specs.Prelude.{◌≡◌, true, false};
 ghost use Rattle.sedck_report.specs.Levels.{is_locale};
 
-use crate::paths::last_part;
+use sedck_call::last_part;
 use sedck_report::{Code, is_printable};
 
 /// What may be doubtful of a name, in the order of the warnings.

@@ -38,7 +38,6 @@ pub use locale::locale_warnings;
 pub use mends::{Mend, script_mend};
 pub use misjudged::{is_misjudged, misjudged_reason};
 pub use names::{NamedFiles, named_files};
-pub use paths::path_of;
 pub use references::references_in;
 pub use slow::{ITEM_LIMIT, Slow, slow_of};
 pub use spot::{Purpose, Spot, behind_part};

@@ -1,6 +1,7 @@
-//! Names that lead to one file, as `F` and `./F`.
+//! Which names of a script lead to one file.
 
 use crate::names::NamedFiles;
+use sedck_call::{last_part, path_of};
 use sedck_report::NamedFile;
 use std::alloc::{AllocError, Global};
 
@@ -63,40 +64,4 @@ impl<'a> Paths<'a> {
 /// Whether the files, which are sorted by name, have this one.
 pub(crate) fn has_name(files: &[NamedFile], name: &[u8]) -> bool {
     files.binary_search_by(|file| file.name.cmp(&name)).is_ok()
-}
-
-/// What follows the last slash.
-pub(crate) fn last_part(path: &[u8]) -> &[u8] {
-    path.rsplit(|byte| *byte == b'/').next().unwrap_or(path)
-}
-
-/// The name without what leads nowhere: `./`, `/./`, the second of two slashes, and a folder with the `..` after it.
-pub fn path_of(alloc: Global, name: &[u8]) -> Result<Vec<u8>, AllocError> {
-    let mut path = Vec::new(alloc);
-    if name.starts_with(b"/") {
-        path.push(b'/')?;
-    }
-    for part in name.split(|byte| *byte == b'/') {
-        if part == b"..".as_slice() && has_folder(&path) {
-            path.truncate(parent_length(&path));
-        } else if !matches!(part, b"" | b".") {
-            path.extend_from_slice(part)?;
-            path.push(b'/')?;
-        }
-    }
-    Ok(path)
-}
-
-/// Whether the path ends in a folder that `..` leaves.
-fn has_folder(path: &[u8]) -> bool {
-    match path.strip_suffix(b"/") {
-        Some(front) => !matches!(last_part(front), b"" | b".."),
-        None => false,
-    }
-}
-
-/// The length of the path without its last part and the slash behind.
-fn parent_length(path: &[u8]) -> usize {
-    let front = path.strip_suffix(b"/").unwrap_or(path);
-    front.len().saturating_sub(last_part(front).len())
 }

@@ -5,8 +5,7 @@ use crate::names::{Names, replaced_name};
 use crate::parts::Runner;
 use crate::texts::Held;
 use crate::words::{CallWord, Filler};
-use sedck_advice::path_of;
-use sedck_call::{Call, CallOption, Given};
+use sedck_call::{Call, CallOption, Given, path_of};
 use sedck_origin::{Origin, Result, Traced, hole_name, is_among};
 use sedck_shell::{ShellWord, Target};
 
