@@ -30,7 +30,7 @@ ROWS = [
     (["--in-place", "p", "f"], 0, ["in-place"]), (["--i", "p", "f"], 0, ["in-place"]), (["p", "f", "-i"], 0, ["in-place"]),
     (["p", "--", "-i"], 0, []), (["-i", "-E", "p", "f"], 2, ["other-language"]), (["-Ei", "p", "f"], 2, ["other-language"]),
     (["-Er", "p"], 2, ["other-language", "other-language"]), (["-k", "p"], 2, ["bad-call"]), (["--quiet=x", "p"], 2, ["bad-call"]),
-    (["-e", ":a;ba", "-i", "f"], 1, ["loop-idle", "in-place"]),
+    (["-e", ":a;ba", "-i", "f"], 1, ["loop-idle", "in-place"]), (["-i", "", ":x;bx", "f"], 0, ["in-place"]),
     # Several inputs, and lines that end with a byte 0, are judged; a script that is refused or has a loop stays that.
     (["-zs", "p"], 0, []), (["-s", "p", "f", "g"], 0, []), (["--separate", "$!N", "f", "g"], 0, []), (["--null-data", "N;P;D"], 0, []),
     (["--zero-terminated", "p", "f"], 0, []), (["-sni", "p", "f", "g"], 0, ["in-place"]), (["-zi.bak", "p", "f"], 0, ["in-place"]),
@@ -48,6 +48,7 @@ DENIED = [
     ("writes", ["-i", "p", "f"], 1, ["denied-writes", "in-place"]), ("writes", ["p", "f"], 0, []), ("writes", ["-i", "p"], 0, []),
     ("writes", ["w out", "f"], 1, ["denied-writes"]), ("reads", ["-i", "p", "f"], 0, ["in-place"]),
     ("warnings", ["-i", "p", "f"], 1, ["denied-warnings", "in-place"]), ("warnings", ["p", "f"], 0, []),
+    ("warnings", ["-i", "", ":x;bx", "f"], 1, ["denied-warnings", "in-place"]),
     ("writes", ["-iE", "p", "f"], 1, ["denied-writes", "in-place"]), ("writes", ["-E", "p", "f"], 2, ["other-language"]),
     ("warnings", ["w f", "f"], 1, ["denied-warnings", *WRITES]), ("writes", ["-sz", "p", "f"], 0, []), ("writes", ["-si", "p", "f"], 1, ["denied-writes", "in-place"]),
 ]
@@ -181,6 +182,17 @@ def ending(seds, options, text, folder):
     return ended
 
 
+def emptied(program, folder):
+    """Calls with `-i` are asked whether the empty script is meant just where theirs is empty: so macOS users write `-i`. How many fail."""
+    failures = 0
+    for words, is_asked in ((["-i", "", ":x;bx", "f"], True), (["-i", "-e", "", "f"], True), (["-i", "p", "f"], False), (["-i", "#", "f"], False), (["", "f"], False)):
+        report = explained(program, words, folder, ["--sed", "--"])[1]
+        if any("empty script" in (finding["hint"] or "") for finding in report["findings"]) != is_asked:
+            failures += 1
+            print("calls: asked of the empty script:", words, report["findings"])
+    return failures
+
+
 def several(program, folder):
     """Accepted scripts with options of several inputs and of other lines end in real seds, also in those that read on behind a file."""
     seds = [sed for sed in (["sed"], ["sed", "--posix"], ["busybox", "sed"], ["toybox", "sed"], ["ssed"]) if shutil.which(sed[0])]
@@ -224,7 +236,7 @@ def main():
                 failures += 1
                 print("calls:", words, wrong)
         ran, wrong = several(program, folder)
-        failures += wrong
+        failures += wrong + emptied(program, folder)
     print("%d calls, %d failures, %d runs over several files%s" % (checks, failures, ran, "" if gnu else ", without GNU sed"))
     return 1 if failures else 0
 

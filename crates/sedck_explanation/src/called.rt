@@ -29,7 +29,7 @@ pub fn explain_called<'a>(
     ensures called { IfOk result (IsCalled text.now denied call.now) }
     ensures yes { IfOk result (λ e. e.status ≡ Status.Accepted → IsExplanation text.now None denied e) }
 {
-    let warnings = call_warnings(alloc, words, call)?;
+    let warnings = call_warnings(alloc, words, call, !text.is_empty())?;
     let inputs = inputs_of(alloc, words, call)?;
     let explanation = explain_call(alloc, text, &inputs, warnings, denied)?;
     if is_denied_call(denied, call, explanation.status) {

@@ -67,11 +67,16 @@ pub fn foreign_findings(
     Ok(findings)
 }
 
-/// A warning of the operands that `-i` overwrites, if there are any.
+/// What is asked of a call with `-i` and an empty script: the seds of macOS and the BSDs take the word after `-i` for its suffix.
+const EMPTY_SCRIPT: &str =
+    "is the empty script meant? Only the seds of macOS and the BSDs take the word after `-i` for its suffix; `-i.bak` is read alike by all";
+
+/// A warning of the operands that `-i` overwrites, if there are any. An empty script with `-i` may be a mistake.
 pub(crate) fn call_warnings(
     alloc: Global,
     words: &[&[u8]],
     call: &Call,
+    has_script: bool,
 ) -> Result<Vec<Finding>, AllocError>
     ensures errors { IfOk result (λ findings. has_error findings.items ≡ false) }
     ensures warnings { IfOk result (λ findings. has_warning findings.items ≡ is_in_place_call call.now) }
@@ -80,7 +85,8 @@ pub(crate) fn call_warnings(
     let mut findings = Vec::new(alloc);
     if is_in_place(call) {
         let message = overwritten(alloc, words, call)?;
-        findings.push(call_finding(alloc, Level::Warning, Code::InPlace, message, None))?;
+        let hint = if has_script { None } else { Some(EMPTY_SCRIPT) };
+        findings.push(call_finding(alloc, Level::Warning, Code::InPlace, message, hint))?;
     }
     Ok(findings)
 }
