@@ -63,6 +63,12 @@ RANGES = [
     (b"s/x[^:alpha:]y/z/\n", [("class-without-list", b"[^:alpha:]")]),
     (b"$y/a-z/A-Z/ ;p\n", [("range-in-y", b"y/a-z/A-Z/")]),
     (b"# sedck: ignore no-such, bad-flag\np\n", [("unknown-code", b"no-such"), ("unknown-code", b"bad-flag")]),
+    # A comment that ignores nothing: with another word, without a code, or after a command.
+    (b"# sedck: allow one-line-text\np\n", [("unknown-code", b"allow")]),
+    (b"# sedck: one-line-text\np\n", [("unknown-code", b"one-line-text")]),
+    (b"#sedck:ignore\np\n", [("unknown-code", b"ignore")]),
+    (b"p # sedck: ignore one-line-text\n", [("unknown-code", b"ignore")]),
+    (b"# sedck:\n# sedckx: allow a\n# see sedck: allow b\np\n", []),
     (b"p\n $!a hello \np\n", [("one-line-text", b"a hello")]),
     (b"s/a/b/\n#now\n", [("silencing-comment", b"#n")]),
 ]
@@ -149,12 +155,12 @@ IGNORED = [
     (b"# sedck: ignore absolute-name absolute-name\nr /y\nw /x\n", [], ["absolute-name", "absolute-name"]),
     (b"{\n# sedck: ignore absolute-name\nw /x\n}\n", [], ["absolute-name"]),
     (b"1{;p;}\n# sedck: ignore absolute-name\nw /x\n", [], ["absolute-name"]),
-    # what is no such comment
-    (b"#sedck: absolute-name\nw /x\n", ["absolute-name"], ["absolute-name"]),
-    (b"# sedck: ignored absolute-name\nw /x\n", ["absolute-name"], ["absolute-name"]),
-    (b"# sedck: ignore\nw /x\n", ["absolute-name"], ["absolute-name"]),
-    (b"p # sedck: ignore absolute-name\nw /x\n", ["absolute-name"], ["absolute-name"]),
-    (b"p;# sedck: ignore absolute-name\nw /x\n", ["absolute-name"], ["absolute-name"]),
+    # what ignores nothing, of which comments are warned of
+    (b"#sedck: absolute-name\nw /x\n", ["absolute-name", "unknown-code"], ["absolute-name", "unknown-code"]),
+    (b"# sedck: ignored absolute-name\nw /x\n", ["absolute-name", "unknown-code"], ["absolute-name", "unknown-code"]),
+    (b"# sedck: ignore\nw /x\n", ["absolute-name", "unknown-code"], ["absolute-name", "unknown-code"]),
+    (b"p # sedck: ignore absolute-name\nw /x\n", ["absolute-name", "unknown-code"], ["absolute-name", "unknown-code"]),
+    (b"p;# sedck: ignore absolute-name\nw /x\n", ["absolute-name", "unknown-code"], ["absolute-name", "unknown-code"]),
     (b"a\\\n# sedck: ignore absolute-name\nw /x\n", ["absolute-name"], ["absolute-name"]),
     (b"s/a/\\\n# sedck: ignore absolute-name/\nw /x\n", ["absolute-name", "no-space-bound"], ["absolute-name", "no-space-bound"]),
     (b"w /x # sedck: ignore absolute-name\n", ["absolute-name", "command-in-name"], ["absolute-name", "command-in-name"]),

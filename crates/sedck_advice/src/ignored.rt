@@ -5,16 +5,30 @@ ghost use Rattle.sedck_advice.specs.Added.{AddsOthers};
 ghost use Rattle.sedck_advice.specs.Ignored.{is_kept};
 
 use crate::bytes::{is_blank, without_blanks};
-use crate::comments::comments_in;
+use crate::comments::{Comment, comments_in};
 use sedck_report::{Code, Finding, Level, Position, end_behind, positions, shown_name};
 use std::alloc::{AllocError, Global};
 
-/// What stands for a code in such a comment.
+/// What stands for a code in such a comment, or a word because of which the comment ignores nothing.
 #[derive(Clone, Copy)]
 pub struct Word<'a> {
     /// Where it is in the script.
     offset: usize,
     bytes: &'a [u8],
+    role: Role,
+}
+
+/// What a word is in its comment.
+#[derive(Clone, Copy, PartialEq, Eq)]
+enum Role {
+    /// It stands for a code.
+    Code,
+    /// It stands in place of `ignore`.
+    Order,
+    /// It is the `ignore` of a comment without a code.
+    Alone,
+    /// It is the first word of a comment after a command.
+    AfterCommand,
 }
 
 impl Word<'_> {
@@ -28,6 +42,9 @@ impl Word<'_> {
 
     /// The code that it names, if that may be ignored.
     pub fn code(self) -> Option<Code> {
+        if self.role != Role::Code {
+            return None;
+        }
         self.named().filter(|code| !is_kept(*code))
     }
 }
@@ -84,34 +101,76 @@ static NAMED: [Code; 30] = [
     Code::LongLabels,
 ];
 
-/// The words of all such comments. Each is a line of its own: neither after a command nor in a text.
+/// The words of all comments that begin with `# sedck:`. Those of an `ignore` on a line of its own stand for codes.
 pub fn ignoring_words<'a>(alloc: Global, text: &'a [u8]) -> Result<Vec<Word<'a>>, AllocError> {
     let mut words = Vec::new(alloc);
     for comment in &comments_in(alloc, text)? {
-        if comment.is_alone
-            && let Some(listed) = listed_in(comment.bytes)
-        {
-            let before = comment.bytes.len().saturating_sub(listed.len());
-            let mut offset = comment.offset.saturating_add(before);
-            for bytes in listed.split(|byte| is_blank(*byte) || *byte == b',') {
-                if !bytes.is_empty() {
-                    words.push(Word { offset, bytes })?;
-                }
-                offset = offset.saturating_add(bytes.len()).saturating_add(1);
-            }
+        if let Some(order) = order_in(comment.bytes) {
+            add_words(&mut words, *comment, order)?;
         }
     }
     Ok(words)
 }
 
-/// What follows `# sedck: ignore` in the comment.
-fn listed_in(comment: &[u8]) -> Option<&[u8]> {
-    let order = without_blanks(comment.strip_prefix(b"#")?).strip_prefix(b"sedck:")?;
-    let listed = without_blanks(order).strip_prefix(b"ignore")?;
-    match listed.first() {
-        Some(byte) if is_blank(*byte) => Some(listed),
-        _ => None,
+/// What follows `# sedck:` in the comment, from its first word on.
+fn order_in(comment: &[u8]) -> Option<&[u8]> {
+    let rest = without_blanks(comment.strip_prefix(b"#")?).strip_prefix(b"sedck:")?;
+    Some(without_blanks(rest))
+}
+
+/// Adds the words of a comment in which this follows `# sedck:`.
+fn add_words<'a>(
+    words: &mut Vec<Word<'a>>,
+    comment: Comment<'a>,
+    order: &'a [u8],
+) -> Result<(), AllocError> {
+    let first = order.split(|byte| is_blank(*byte)).next().unwrap_or(order);
+    let listed = order.get(first.len()..).unwrap_or(&[]);
+    let before = comment.bytes.len().saturating_sub(order.len());
+    let offset = comment.offset.saturating_add(before);
+    let role = role_of(first, listed, comment.is_alone);
+    if role == Role::Code {
+        return add_codes(words, offset.saturating_add(first.len()), listed);
     }
+    let word = Word {
+        offset,
+        bytes: first,
+        role,
+    };
+    Ok(words.push(word)?)
+}
+
+/// What the first word of a comment makes of it, by what follows the word. It is `Code` where codes are listed.
+fn role_of(first: &[u8], listed: &[u8], is_alone: bool) -> Role {
+    if first != b"ignore".as_slice() {
+        Role::Order
+    } else if !is_alone {
+        Role::AfterCommand
+    } else if without_blanks(listed).is_empty() {
+        Role::Alone
+    } else {
+        Role::Code
+    }
+}
+
+/// Adds the words of a list that begins at this place of the script.
+fn add_codes<'a>(
+    words: &mut Vec<Word<'a>>,
+    start: usize,
+    listed: &'a [u8],
+) -> Result<(), AllocError> {
+    let mut offset = start;
+    for bytes in listed.split(|byte| is_blank(*byte) || *byte == b',') {
+        if !bytes.is_empty() {
+            words.push(Word {
+                offset,
+                bytes,
+                role: Role::Code,
+            })?;
+        }
+        offset = offset.saturating_add(bytes.len()).saturating_add(1);
+    }
+    Ok(())
 }
 
 /// A warning for each of the first words that name no code that may be ignored.
@@ -174,10 +233,36 @@ fn push_unknown(
     Ok(())
 }
 
-/// Why the comment doesn't ignore what the word names, and a hint.
+/// Why the comment ignores nothing by the word, and a hint.
 fn unknown_words_of(alloc: Global, word: Word) -> Result<(String, &'static str), AllocError> {
     let name = shown_name(alloc, word.bytes)?;
-    if word.named().is_some() {
+    match word.role {
+        Role::Code => code_words(alloc, name.as_str(), word.named().is_some()),
+        Role::Order => Ok((
+            format!(in alloc; "\"{name}\" is unknown here: this comment ignores nothing")?,
+            "`# sedck: ignore CODE` ignores the warnings and notes with that code",
+        )),
+        Role::Alone => Ok((
+            String::from_str(alloc, "this comment names no code, so it ignores nothing")?,
+            "write the codes after `ignore`, as `# sedck: ignore absolute-name`",
+        )),
+        Role::AfterCommand => Ok((
+            String::from_str(
+                alloc,
+                "this comment follows a command, so it ignores nothing",
+            )?,
+            "put it on a line of its own",
+        )),
+    }
+}
+
+/// Why a comment doesn't ignore what is named, which is a code or isn't, and a hint.
+fn code_words(
+    alloc: Global,
+    name: &str,
+    is_code: bool,
+) -> Result<(String, &'static str), AllocError> {
+    if is_code {
         return Ok((
             format!(in alloc;
                 "no comment can ignore \"{name}\": whether a yes holds depends on it"
