@@ -16,10 +16,10 @@ FORMATS = ("text", "gcc", "json", "sarif", "html", "dot")
 def check_refused_words(tools):
     """Invalid arguments: status 3, nothing on standard output, and a line on standard error that begins with the name."""
     for words in (["--wrong"], ["-x"], ["--format", "xml", "s.sed"], ["--format"], ["--format=", "s.sed"], ["--cert"],
-                  ["--format", "text", "--format", "gcc", "s.sed"], ["--stdin-filename"], ["--cert", "s.cert", "s.sed", "s.sed"], ["--cert", "s.cert", "s.sed", "-"],
+                  ["--format", "xml", "--format", "gcc", "s.sed"], ["--stdin-filename"], ["--cert", "s.cert", "s.sed", "s.sed"], ["--cert", "s.cert", "s.sed", "-"],
                   ["--format", "html", "s.sed", "s.sed"], ["--format", "dot", "s.sed", "t.sed"], ["--format", "sed", "s.sed", "t.sed"],
                   ["--format", "sarif", "s.sed", "t.sed"], ["--level"], ["--level", "all", "s.sed"], ["--level", "", "s.sed"], ["--level", "Note", "s.sed"],
-                  ["--level", "note", "--level", "note", "s.sed"], ["--locale"], ["--locale", "C", "--locale", "C", "s.sed"]):
+                  ["--level", "note", "--level", "all", "s.sed"], ["--locale"], ["--deny", "writes", "--deny", "all", "s.sed"]):
         status, report, errors = tools.explain(*words, given=b"p\n")
         tools.same("status of %r" % words, (status, report), (3, b""))
         tools.holds("standard error of %r" % words, errors.startswith(b"sedck-explain: ") and errors.endswith(b"\n"))
@@ -38,6 +38,23 @@ def check_help(tools):
         tools.same("help", (status, errors), (0, b""))
         for part in (*FORMATS, "--format", "--level", "--cert", "--deny", "--locale", "--stdin-filename", "--help", "--version", "SCRIPT", "standard input", "0 accepted", "4 a file"):
             tools.holds("help has %s" % part, part.encode() in report)
+        tools.same("lines of more than 80 columns", [line for line in report.splitlines() if len(line) > 80], [])
+
+
+def check_repeated(tools):
+    """Of several uses of an option the last one counts, so that words after those of an alias do; of `--deny` each counts."""
+    tools.write("rw.sed", b"r x\nw y\n")
+    gcc = tools.explain("--format", "gcc", "rw.sed")
+    for words in (["--format", "json", "--format", "gcc"], ["--format=html", "--format=gcc"], ["--level", "note", "--format", "gcc", "--level", "warning"],
+                  ["--locale", "C.UTF-8", "--format", "gcc", "--locale", "C"]):
+        tools.same("the last of %r" % words, tools.explain(*words, "rw.sed"), gcc)
+    both = tools.explain("--format", "gcc", "--deny", "reads,writes", "rw.sed")
+    tools.same("both denied", (both[0], both[1].count(b"[denied-reads]"), both[1].count(b"[denied-writes]")), (1, 1, 1))
+    for words in (["--deny", "reads", "--deny", "writes"], ["--deny=writes", "--deny=reads"], ["--deny", "reads", "--deny=slow", "--deny", "writes,reads"]):
+        tools.same("each of %r" % words, tools.explain("--format", "gcc", *words, "rw.sed"), both)
+    tools.same("one of two is there", tools.explain("--deny", "reads", "--deny", "slow", "s.sed")[0], 0)
+    tools.same("the last name of standard input", tools.explain("--stdin-filename", "a", "--stdin-filename", "b", given=NEXT_LINE), (0, (ACCEPTED % "b").encode(), b""))
+    tools.same("calls said twice", tools.explain("--calls", "--calls", "gone")[0], tools.explain("--calls", "gone")[0])
 
 
 def check_scripts(tools):
@@ -132,6 +149,20 @@ def check_unreadable(tools):
             tools.same("unreadable %r, %s" % (path, name), tools.explain("--format", name, *words)[:2], (4, b""))
 
 
+def check_waiting(tools):
+    """Without a word, and with a terminal as its input, it says what it waits for."""
+    line = b"sedck-explain: reading a script from the terminal, to the end of input (Ctrl-D); --help shows what else it does\n"
+    for words, given, due in (([], b"p\n\x04", line), (["-"], b"p\n\x04", b"")):
+        mine, its = pty.openpty()
+        with subprocess.Popen([tools.explain_path, *words], cwd=tools.folder, stdin=its, stdout=subprocess.PIPE, stderr=subprocess.PIPE) as run:
+            os.close(its)
+            os.write(mine, given)
+            report, errors = run.communicate(timeout=20)
+        os.close(mine)
+        tools.same("at a terminal, %r" % words, (run.returncode, report[:11], errors), (0, b"-: accepted", due))
+    tools.same("no terminal, no line", tools.explain(given=b"p\n")[2], b"")
+
+
 def at_terminal(tools, words, **changes):
     """What a terminal is given as standard output."""
     env = {name: value for name, value in os.environ.items() if name != "NO_COLOR"}
@@ -198,6 +229,8 @@ def check(tools):
     os.mkdir(tools.path("folder"))
     check_refused_words(tools)
     check_help(tools)
+    check_repeated(tools)
+    check_waiting(tools)
     check_scripts(tools)
     check_sums(tools)
     check_formats(tools)

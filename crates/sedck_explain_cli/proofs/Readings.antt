@@ -1,5 +1,5 @@
 -- From the words to what they ask for.
-use Rattle.std.proofs.Common.{◌≡◌, ◌≢◌, ◌∙◌, ◌==◌, ◌+◌, ◌-◌, ◌<◌, ◌≤◌, ℕ, suc, Bool, true, false, List, [], ◌∷◌, ◌++◌, length, get_or, take, drop, length-drop, Option, Some, None, String, string_bytes, refl, sym, ap, subst, arith}
+use Rattle.std.proofs.Common.{◌≡◌, ◌≢◌, ◌∙◌, ◌==◌, ◌||◌, ◌+◌, ◌-◌, ◌<◌, ◌≤◌, ℕ, suc, Bool, true, false, List, [], ◌∷◌, ◌++◌, length, map, get_or, take, drop, length-drop, Option, Some, None, String, string_bytes, refl, sym, ap, subst, arith}
 use Rattle.std.specs.Prelude.{option_map, MatchOption, fold}
 use Rattle.std.specs.List.{list_any}
 use Rattle.std.specs.Str.{bytes_eq}
@@ -11,7 +11,7 @@ use Rattle.std.proofs.lemmas.Bool.{eqb-true, ne_eqb}
 use Rattle.std.proofs.lemmas.List.{length-map, get_or-map, get_or-drop, take_more}
 use Rattle.std.proofs.lemmas.List.Sums.{fold_more}
 use Rattle.std.proofs.lemmas.Bool.Decides.{Decides-eqb}
-use Rattle.sedck_explain_cli.specs.Readings.{texts_of, Asked, behind, after, nothing_asked, pieces}
+use Rattle.sedck_explain_cli.specs.Readings.{texts_of, Asked, behind, after, nothing_asked, pieces, is_named, is_among}
 
 none_some : (rest : List ℕ) → None ≡ Some rest → ⊥
 none_some rest e = cc e
@@ -106,3 +106,10 @@ named_comma list name start at within comma differs =
     sym (ap (any_named name piece) (cut list at within)
     ∙ comma_step name piece (get_or list at 0) (drop (at + 1) list) ((Decides-eqb (get_or list at 0) 44).1 comma) differs
     ∙ ap (λ n. any_named name (take n (drop (at + 1) list)) (drop (at + 1) list)) (sym none))
+
+-- ---- Lists of names
+
+-- the lists as they are borrowed, and their bytes
+pub any_mapped : (name : List ℕ) (lists : List (Bor (List ℕ))) → list_any (λ list. is_named list.now name) lists ≡ is_among (map (λ list. list.now) lists) name
+any_mapped name [] = refl
+any_mapped name (list ∷ lists) = ap (λ more. is_named list.now name || more) (any_mapped name lists)

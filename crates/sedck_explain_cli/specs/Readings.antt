@@ -22,7 +22,7 @@ pub data Awaited : Type 0 where
 -- what the words so far ask for
 pub record Asked : Type 0 where
   pub certificate : Option (List ℕ)
-  pub denied : Option (List ℕ)
+  pub denied : List (List ℕ)
   pub locale : Option (List ℕ)
   pub format : Option (List ℕ)
   pub sed : Bool
@@ -72,7 +72,7 @@ or_locale a word (Some name) = record a { locale = Some name }
 
 abbrev pub or_denied : Asked → List ℕ → Option (List ℕ) → Asked
 or_denied a word None = or_locale a word (behind (codes "--locale=") word)
-or_denied a word (Some names) = record a { denied = Some names }
+or_denied a word (Some names) = record a { denied = a.denied ++ names ∷ [] }
 
 abbrev pub or_certificate : Asked → List ℕ → Option (List ℕ) → Asked
 or_certificate a word None = or_denied a word (behind (codes "--deny=") word)
@@ -85,7 +85,7 @@ after_any a word = or_certificate a word (behind (codes "--cert=") word)
 abbrev pub after_next : Awaited → Asked → List ℕ → Asked
 after_next AnyWord a word = after_any a word
 after_next ItsCertificate a word = record a { certificate = Some word; next = AnyWord }
-after_next ItsDenied a word = record a { denied = Some word; next = AnyWord }
+after_next ItsDenied a word = record a { denied = a.denied ++ word ∷ []; next = AnyWord }
 after_next ItsLocale a word = record a { locale = Some word; next = AnyWord }
 after_next ItsFormat a word = record a { format = Some word; next = AnyWord }
 after_next OtherValue a word = record a { next = AnyWord }
@@ -96,7 +96,7 @@ abbrev pub after : Asked → List ℕ → Asked
 after a word = after_next a.next a word
 
 abbrev pub nothing_asked : Asked
-nothing_asked = record { certificate = None; denied = None; locale = None; format = None; sed = false; calls = false; paths = []; next = AnyWord }
+nothing_asked = record { certificate = None; denied = []; locale = None; format = None; sed = false; calls = false; paths = []; next = AnyWord }
 
 -- all words
 abbrev pub read : List (List ℕ) → Asked
@@ -111,3 +111,7 @@ pieces piece (b ∷ text) = if b == 44 then piece ∷ pieces [] text else pieces
 -- the name is one of them
 abbrev pub is_named : List ℕ → List ℕ → Bool
 is_named list name = list_any (λ piece. bytes_eq piece name) (pieces [] list)
+
+-- the name is one of those of some of the lists
+abbrev pub is_among : List (List ℕ) → List ℕ → Bool
+is_among lists name = list_any (λ list. is_named list name) lists

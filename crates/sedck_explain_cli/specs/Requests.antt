@@ -2,7 +2,7 @@
 use Rattle.std.specs.Prelude.{◌≡◌, ◌||◌, ℕ, Bool, true, false, List, [], ◌∷◌, map, Option, Some, None, option_map, codes}
 use Rattle.std.specs.Str.{bytes_eq}
 use Rattle.sedck_errors.specs.declared.denied.Denied.{Denied}
-use Rattle.sedck_explain_cli.specs.Readings.{Asked, is_named, read}
+use Rattle.sedck_explain_cli.specs.Readings.{Asked, is_among, read}
 use Rattle.sedck_explain_cli.specs.declared.format.Format.{Format}
 use Rattle.sedck_explain_cli.specs.declared.format.Format.TheVariants as format
 use Rattle.sedck_explain_cli.specs.declared.request.Request.{Request}
@@ -20,18 +20,16 @@ abbrev pub has_bytes : Option (List ℕ) → Bool
 has_bytes None = false
 has_bytes (Some name) = bytes_eq name (codes "C") || bytes_eq name (codes "POSIX")
 
--- what is denied by these names, which have commas between, in the locale of this name
-abbrev pub denied_by : Option (List ℕ) → Option (List ℕ) → Denied
-denied_by None locale =
-    record { reads = false; writes = false; warnings = false; unbounded = false; growing = false; slow = false; references = false; c_locale = has_bytes locale }
-denied_by (Some names) locale = record {
-  reads = is_named names (codes "reads");
-  writes = is_named names (codes "writes");
-  warnings = is_named names (codes "warnings");
-  unbounded = is_named names (codes "unbounded");
-  growing = is_named names (codes "growing");
-  slow = is_named names (codes "slow");
-  references = is_named names (codes "references");
+-- what is denied by these lists of names, which have commas between, in the locale of this name
+abbrev pub denied_by : List (List ℕ) → Option (List ℕ) → Denied
+denied_by lists locale = record {
+  reads = is_among lists (codes "reads");
+  writes = is_among lists (codes "writes");
+  warnings = is_among lists (codes "warnings");
+  unbounded = is_among lists (codes "unbounded");
+  growing = is_among lists (codes "growing");
+  slow = is_among lists (codes "slow");
+  references = is_among lists (codes "references");
   c_locale = has_bytes locale;
 }
 

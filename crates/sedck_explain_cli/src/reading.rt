@@ -2,8 +2,9 @@
 //!
 //! `clap` has read the words before, and refuses what isn't valid: so each word is read alone here, and no theorem rests on `clap`.
 
-ghost use Rattle.std.specs.Prelude.{◌≡◌, IfOk, OnOk, option_map};
-ghost use Rattle.sedck_explain_cli.specs.Readings.{texts_of, after, after_any, after_word, behind, is_option as is_option_text, read, is_named};
+ghost use Rattle.std.specs.Prelude.{◌≡◌, IfOk, OnOk, map, option_map};
+ghost use Rattle.std.specs.List.{list_any};
+ghost use Rattle.sedck_explain_cli.specs.Readings.{texts_of, after, after_any, after_word, behind, is_option as is_option_text, read, is_named, is_among};
 ghost use Rattle.sedck_explain_cli.specs.Private.Readings.{asked_of};
 
 use std::alloc::{AllocError, Global};
@@ -12,8 +13,8 @@ use std::alloc::{AllocError, Global};
 #[derive(Drop)]
 pub(crate) struct Reading<'a> {
     pub(crate) certificate: Option<&'a str>,
-    /// What is denied, with commas between.
-    pub(crate) denied: Option<&'a str>,
+    /// What is denied: of each use of the option the names, with commas between.
+    pub(crate) denied: Vec<&'a str>,
     /// The name of the locale in which sed runs.
     pub(crate) locale: Option<&'a str>,
     /// The name of the format.
@@ -49,7 +50,7 @@ pub(crate) fn read_words<'a>(alloc: Global, words: &'a [String]) -> Result<Readi
 {
     let mut reading = Reading {
         certificate: None,
-        denied: None,
+        denied: Vec::new(alloc),
         locale: None,
         format: None,
         sed: false,
@@ -71,7 +72,7 @@ impl<'a> Reading<'a> {
         match self.next {
             Next::Any => return self.add_any(word),
             Next::Certificate => self.certificate = Some(word),
-            Next::Denied => self.denied = Some(word),
+            Next::Denied => self.denied.push(word)?,
             Next::Locale => self.locale = Some(word),
             Next::Format => self.format = Some(word),
             Next::Other => {}
@@ -88,7 +89,7 @@ impl<'a> Reading<'a> {
         if let Some(path) = rest_behind("--cert=", word) {
             self.certificate = Some(path);
         } else if let Some(names) = rest_behind("--deny=", word) {
-            self.denied = Some(names);
+            self.denied.push(names)?;
         } else if let Some(name) = rest_behind("--locale=", word) {
             self.locale = Some(name);
         } else if let Some(name) = rest_behind("--format=", word) {
@@ -138,8 +139,22 @@ fn is_option(word: &str) -> bool
     matches!(word.as_bytes(), [b'-', _, ..])
 }
 
+/// Whether this is one of the names of some of the lists.
+pub(crate) fn is_among(lists: &[&str], name: &[u8]) -> bool
+    ensures { result ≡ is_among (map (λ list. list.now) lists.now) name.now }
+{
+    any_names(lists, name)
+}
+
+/// The same, said of the lists as they are borrowed.
+fn any_names(lists: &[&str], name: &[u8]) -> bool
+    ensures { result ≡ list_any (λ list. is_named list.now name.now) lists.now }
+{
+    lists.iter().any(|list| names(list.as_bytes(), name))
+}
+
 /// Whether this is one of the names, which have commas between.
-pub(crate) fn names(list: &[u8], name: &[u8]) -> bool
+fn names(list: &[u8], name: &[u8]) -> bool
     ensures { result ≡ is_named list.now name.now }
 {
     let mut start = 0;

@@ -5,7 +5,7 @@ ghost use Rattle.sedck_explain_cli.specs.Readings.{texts_of};
 ghost use Rattle.sedck_explain_cli.specs.Requests.{IsRequest, denied_by, has_bytes, is_plain, is_some_plain, is_plain_name, paths_of};
 
 use crate::format::{Format, NAMES, Style};
-use crate::reading::{Reading, names, read_words};
+use crate::reading::{Reading, is_among, read_words};
 use clap::{Arg, ArgAction, ArgMatches, Command, Error};
 use sedck_calls_in_files::At;
 use sedck_explanation::{Denied, Level};
@@ -86,7 +86,7 @@ pub fn request_of<'a>(alloc: Global, words: &'a [String]) -> Result<Request<'a>,
         format,
         least: level_of(&matches, format, calls),
         comments: comments_of(&matches),
-        denied: denied_of(denied, locale),
+        denied: denied_of(&denied, locale),
         certificate,
         stdin_name: matches.get_str("stdin-filename").unwrap_or("-"),
         sed,
@@ -185,26 +185,19 @@ fn assumed_of<'a>(alloc: Global, matches: &ArgMatches<'a>) -> Result<Vec<Assumed
     Ok(assumed)
 }
 
-/// What is denied, by these names, in the locale of this name.
-fn denied_of(given: Option<&str>, locale: Option<&str>) -> Denied
-    ensures { result ≡ denied_by (option_map (λ list. list.now) given.entry) (option_map (λ name. name.now) locale.entry) }
+/// What is denied, by these lists of names, in the locale of this name.
+fn denied_of(lists: &[&str], locale: Option<&str>) -> Denied
+    ensures { result ≡ denied_by (map (λ list. list.now) lists.now) (option_map (λ name. name.now) locale.entry) }
 {
-    let c_locale = is_c_locale(locale);
-    match given {
-        Some(list) => Denied {
-            reads: names(list.as_bytes(), b"reads"),
-            writes: names(list.as_bytes(), b"writes"),
-            warnings: names(list.as_bytes(), b"warnings"),
-            unbounded: names(list.as_bytes(), b"unbounded"),
-            growing: names(list.as_bytes(), b"growing"),
-            slow: names(list.as_bytes(), b"slow"),
-            references: names(list.as_bytes(), b"references"),
-            c_locale,
-        },
-        None => Denied {
-            c_locale,
-            ..Denied::NOTHING
-        },
+    Denied {
+        reads: is_among(lists, b"reads"),
+        writes: is_among(lists, b"writes"),
+        warnings: is_among(lists, b"warnings"),
+        unbounded: is_among(lists, b"unbounded"),
+        growing: is_among(lists, b"growing"),
+        slow: is_among(lists, b"slow"),
+        references: is_among(lists, b"references"),
+        c_locale: is_c_locale(locale),
     }
 }
 
@@ -242,7 +235,7 @@ enum Takes {
     Nothing,
     Value(&'static str),
     OneOf(&'static str, &'static [&'static str]),
-    /// Some of these, with commas between.
+    /// Some of these, with commas between, each time that it is given.
     SomeOf(&'static str, &'static [&'static str]),
     /// A value each time that it is given.
     Each(&'static str),
@@ -252,7 +245,7 @@ enum Takes {
 struct Choice {
     name: &'static str,
     takes: Takes,
-    /// What the help says of it.
+    /// What the help says of it, in lines of at most 70 columns.
     help: &'static str,
 }
 
@@ -261,12 +254,12 @@ static CHOICES: [Choice; 12] = [
     Choice {
         name: "format",
         takes: Takes::OneOf("FORMAT", NAMES),
-        help: "How the report is printed [default: text]",
+        help: "How the report is printed [default: text]\n[text, gcc, json, sarif, html, dot, sed]",
     },
     Choice {
         name: "level",
         takes: Takes::OneOf("LEVEL", LEVELS),
-        help: "The least level of findings that are reported: error, warning or note [default: note; warning for gcc, and for text without --calls]; the exit status stays the same",
+        help: "The least level of findings that are reported; the exit status stays\nthe same [error, warning, note] [default: note; warning for gcc, and\nfor text without --calls]",
     },
     Choice {
         name: "no-comments",
@@ -281,12 +274,12 @@ static CHOICES: [Choice; 12] = [
     Choice {
         name: "deny",
         takes: Takes::SomeOf("WHAT", DENIALS),
-        help: "What makes an accepted script end with status 1; several have commas between",
+        help: "What makes an accepted script end with status 1; several have commas\nbetween, or an option each [reads, writes, warnings, unbounded,\ngrowing, slow, references]",
     },
     Choice {
         name: "locale",
         takes: Takes::Value("NAME"),
-        help: "The locale in which sed runs: C and POSIX take away the warnings of what is read otherwise in UTF-8",
+        help: "The locale in which sed runs: C and POSIX take away the warnings of\nwhat is read otherwise in UTF-8",
     },
     Choice {
         name: "stdin-filename",
@@ -301,12 +294,12 @@ static CHOICES: [Choice; 12] = [
     Choice {
         name: "calls",
         takes: Takes::Nothing,
-        help: "Explain the calls of sed in shell scripts, makefiles and other files, and below folders",
+        help: "Explain the calls of sed in shell scripts, makefiles and other files,\nand below folders",
     },
     Choice {
         name: "as",
         takes: Takes::OneOf("KIND", KINDS),
-        help: "What the files of --calls are, where their names don't say",
+        help: "What the files of --calls are, where their names don't say\n[sh, make, docker, yaml, spec, m4]",
     },
     Choice {
         name: "assume",
@@ -324,7 +317,7 @@ static CHOICES: [Choice; 12] = [
 fn command<'a>(alloc: Global) -> Result<Command<'a>, AllocError> {
     let mut command = described(alloc);
     for choice in &CHOICES {
-        command = command.arg(option(alloc, choice))?;
+        command = command.arg(option(alloc, choice)?)?;
     }
     command.arg(scripts(alloc))
 }
@@ -335,27 +328,34 @@ fn described<'a>(alloc: Global) -> Command<'a> {
         .no_binary_name(true)
         .version(VERSION)
         .about(
-            "Says where and why a sed script is refused or may run for ever, which files it touches, and what to write instead",
+            "Says where and why a sed script is refused or may run for ever, which files\nit touches, and what to write instead",
         )
         .after_help(
-            "Exit status: 0 accepted, 1 rejected, a loop or what `--deny` names, 2 a script or certificate that is refused, 3 a wrong command line, 4 a file that can't be read or a report that can't be written, 5 a call in a file of which something isn't known before a run; of several scripts the greatest.",
+            "Exit status, of several scripts the greatest:\n  0 accepted\n  1 rejected, a loop, or what --deny names\n  2 a script or a certificate that is refused\n  3 an invalid command line\n  4 a file that can't be read, or a report that can't be written\n  5 a call in a file of which something is unknown before a run",
         )
 }
 
-/// The option as `clap` has it.
-fn option<'a>(alloc: Global, choice: &Choice) -> Arg<'a> {
+/// The option as `clap` has it. Of several uses the last one counts, or each.
+fn option<'a>(alloc: Global, choice: &Choice) -> Result<Arg<'a>, AllocError> {
     let arg = Arg::new(alloc, choice.name)
         .long(choice.name)
-        .help(choice.help);
+        .help(choice.help)
+        .next_line_help(true)
+        .hide_possible_values(true);
     match choice.takes {
-        Takes::Nothing => arg.action(ArgAction::SetTrue),
-        Takes::Value(value) => arg.value_name(value),
-        Takes::OneOf(value, names) => arg.value_name(value).value_parser(names),
-        Takes::SomeOf(value, names) => arg
+        Takes::Nothing => arg.action(ArgAction::SetTrue).overrides_with(choice.name),
+        Takes::Value(value) => arg.value_name(value).overrides_with(choice.name),
+        Takes::OneOf(value, names) => arg
             .value_name(value)
             .value_parser(names)
-            .value_delimiter(','),
-        Takes::Each(value) => arg.value_name(value).action(ArgAction::Append),
+            .overrides_with(choice.name),
+        Takes::SomeOf(value, names) => Ok(
+            arg.value_name(value)
+                .value_parser(names)
+                .value_delimiter(',')
+                .action(ArgAction::Append),
+        ),
+        Takes::Each(value) => Ok(arg.value_name(value).action(ArgAction::Append)),
     }
 }
 
@@ -364,5 +364,5 @@ fn scripts<'a>(alloc: Global) -> Arg<'a> {
         .value_name("SCRIPT")
         .action(ArgAction::Append)
         .num_args(0..)
-        .help("Scripts of sed, or with --calls files and folders; none or `-` is standard input")
+        .help("Scripts of sed, or with --calls files and folders;\nnone or `-` is standard input")
 }

@@ -17,7 +17,7 @@ awaited_of next.Path = OnlyPaths
 abbrev pub asked_of : Reading → Asked
 asked_of r = record {
   certificate = option_map (λ path. path.now) r.certificate;
-  denied = option_map (λ names. names.now) r.denied;
+  denied = map (λ names. names.now) r.denied.items;
   locale = option_map (λ name. name.now) r.locale;
   format = option_map (λ name. name.now) r.format;
   sed = r.sed;
