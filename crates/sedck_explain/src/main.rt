@@ -1,23 +1,38 @@
 //! The program `sedck-explain`: its arguments, its standard streams and its exit status. All else is in `sedck_explain_cli`.
 #![tactic(auto)]
 
-use sedck_cert::streams::FromWrite;
-use sedck_explain_cli::{arguments, flushed, out_of_memory, program};
+use sedck_cert::streams::{FromWrite, write_all};
+use sedck_explain_cli::{Words, arguments, flushed, out_of_memory, program};
 use std::env;
 use std::env::VarError;
 use std::io::IsTerminal;
 use std::process::ExitCode;
 use std::rt::Env;
 
+/// What is said on a terminal before a script is read from there.
+const WAITING: &[u8] =
+    b"sedck-explain: reading a script from the terminal, to the end of input (Ctrl-D); --help shows what else it does\n";
+
 fn main(rt: HostRuntime) -> ExitCode {
     let mut out = FromWrite::new(rt.stdout());
     let mut err = FromWrite::new(rt.stderr());
     let colour = wants_colour(&rt) && rt.stdout().is_terminal();
     let status = match arguments(&rt) {
-        Ok(words) => program(&rt, &words, colour, &mut out, &mut err),
+        Ok(words) => {
+            if is_empty(&words) && rt.stdin().is_terminal() {
+                // Whoever started it by mistake sees what it waits for; if this can't be written, it reads all the same.
+                let _ = write_all(&mut err, WAITING);
+            }
+            program(&rt, &words, colour, &mut out, &mut err)
+        }
         Err(_) => out_of_memory(&mut err),
     };
     ExitCode::from(flushed(status, out.into_inner(), &mut err).code())
+}
+
+/// Whether no word is given.
+fn is_empty(words: &Words) -> bool {
+    words.own.is_empty() && words.call.is_none()
 }
 
 /// Whether the user hasn't asked for no colours (no-color.org): `NO_COLOR` is empty or isn't set.
