@@ -14,7 +14,7 @@ pub fn escape_hint(spot: Spot) -> &'static str {
     match *escaped {
         b'+' | b'?' => repeat_hint(spot),
         b'|' => bar_hint(spot),
-        b'B' => INNER,
+        b'B' => inner_hint(spot),
         b'b' | b'<' | b'>' => word_hint(spot),
         b'd' if !matches!(spot.rest.get(2), Some(b'0'..=b'9')) => {
             "if a digit is meant write `[[:digit:]]`"
@@ -114,23 +114,80 @@ fn word_hint(spot: Spot) -> &'static str {
     if !is_replaced(spot) {
         return "match what is next to the word, with a command for each case: `/^WORD$/`, `/^WORD[^[:alnum:]_]/`, `/[^[:alnum:]_]WORD$/` and `/[^[:alnum:]_]WORD[^[:alnum:]_]/`";
     }
-    if !has_one_end(spot) {
-        return WORD;
-    }
-    match (spot.begins(), spot.rest.get(2) == Some(&spot.delimiter())) {
-        (true, _) =>
+    let begins = has_one_end(spot) && spot.begins();
+    let ends = has_one_end(spot) && spot.rest.get(2) == Some(&spot.delimiter());
+    match (begins, ends, copies_in(spot)) {
+        (_, _, Copies::Groups) => GROUPS,
+        (true, _, Copies::Nothing) =>
             "for `s/\\<WORD/NEW/g` write `s/^/\\n/`, `s/\\([^[:alnum:]_]\\)WORD/\\1NEW/g` and `s/^\\n//`; the first `s` sets the flag that `t` tests",
-        (_, true) =>
+        (true, _, Copies::Whole) =>
+            "for `s/\\<WORD/X&/g` write `s/^/\\n/`, `s/\\([^[:alnum:]_]\\)\\(WORD\\)/\\1X\\2/g` and `s/^\\n//`; the first `s` sets the flag that `t` tests",
+        (_, true, Copies::Nothing) =>
             "for `s/WORD\\>/NEW/g` write `s/$/\\n/`, `s/WORD\\([^[:alnum:]_]\\)/NEW\\1/g` and `s/\\n$//`; the first `s` sets the flag that `t` tests",
-        _ => WORD,
+        (_, true, Copies::Whole) =>
+            "for `s/WORD\\>/X&/g` write `s/$/\\n/`, `s/\\(WORD\\)\\([^[:alnum:]_]\\)/X\\1\\2/g` and `s/\\n$//`; the first `s` sets the flag that `t` tests",
+        (_, _, Copies::Nothing) =>
+            "for `s/\\bWORD\\b/NEW/g` write `s/.*/\\n&\\n/`, twice `s/\\([^[:alnum:]_]\\)WORD\\([^[:alnum:]_]\\)/\\1NEW\\2/g`, and `s/^\\n\\(.*\\)\\n$/\\1/`, if NEW has no such word; without `g` only once; the first `s` sets the flag that `t` tests",
+        (_, _, Copies::Whole) =>
+            "for `s/\\bWORD\\b/X&/` write `s/.*/\\n&\\n/`, `s/\\([^[:alnum:]_]\\)\\(WORD\\)\\([^[:alnum:]_]\\)/\\1X\\2\\3/` and `s/^\\n\\(.*\\)\\n$/\\1/`; with `g` this leaves out words that share a byte between them; the first `s` sets the flag that `t` tests",
     }
 }
 
-const WORD: &str =
-    "for `s/\\bWORD\\b/NEW/g` write `s/.*/\\n&\\n/`, twice `s/\\([^[:alnum:]_]\\)WORD\\([^[:alnum:]_]\\)/\\1NEW\\2/g`, and `s/^\\n\\(.*\\)\\n$/\\1/`; without `g` only once; the first `s` sets the flag that `t` tests";
+const GROUPS: &str =
+    "no escape of POSIX means an end of a word: match the byte next to it as a group of its own, after which the groups of WORD have other numbers, and `&` has that byte too";
 
-const INNER: &str =
-    "`\\B` wants a byte of a word on both sides, or on none: for `/\\BWORD/` write `/[[:alnum:]_]WORD/`, for `s/\\BWORD/NEW/` write `s/\\([[:alnum:]_]\\)WORD/\\1NEW/`, and so for `WORD\\B`";
+/// For `\B`.
+fn inner_hint(spot: Spot) -> &'static str {
+    if !is_replaced(spot) {
+        return "`\\B` wants a byte of a word on both sides, or on none: for `/\\BWORD/` write `/[[:alnum:]_]WORD/`, and so for `WORD\\B`";
+    }
+    if replacement_of(spot) == b",&".as_slice() {
+        return "for commas in numbers that stand alone write `s/\\(.*[0-9]\\)\\([0-9]\\{3\\}\\)/\\1,\\2/` as often as a line may need one, without a loop, as docs/MENDING.md shows";
+    }
+    match (spot.purpose(), copies_in(spot)) {
+        (Purpose::ReplacesAll, _) | (_, Copies::Groups) => GROUPS,
+        (_, Copies::Nothing) =>
+            "`\\B` wants a byte of a word on both sides, or on none: for `s/\\BWORD/NEW/` write `s/\\([[:alnum:]_]\\)WORD/\\1NEW/`, and so for `WORD\\B`",
+        (_, Copies::Whole) =>
+            "`\\B` wants a byte of a word on both sides, or on none: for `s/\\BWORD/X&/` write `s/\\([[:alnum:]_]\\)\\(WORD\\)/\\1X\\2/`, and so for `WORD\\B`",
+    }
+}
+
+/// What of a match an `s` copies, which a group of a mend changes.
+#[derive(Clone, Copy)]
+enum Copies {
+    Nothing,
+    /// `&`.
+    Whole,
+    /// The expression has groups.
+    Groups,
+}
+
+fn copies_in(spot: Spot) -> Copies {
+    let behind = behind_part(spot.rest, spot.delimiter());
+    let length = spot.rest.len().saturating_sub(behind.len());
+    let expression = spot.rest.get(..length).unwrap_or(&[]);
+    if spot.inside().windows(2).any(opens_group) || expression.windows(2).any(opens_group) {
+        return Copies::Groups;
+    }
+    if replacement_of(spot).contains(&b'&') {
+        return Copies::Whole;
+    }
+    Copies::Nothing
+}
+
+/// Whether the bytes open a group, or look like it.
+fn opens_group(bytes: &[u8]) -> bool {
+    bytes.starts_with(b"\\(")
+}
+
+/// The replacement of the `s` in whose expression the fault is.
+fn replacement_of(spot: Spot) -> &[u8] {
+    let behind = behind_part(spot.rest, spot.delimiter());
+    let flags = behind_part(behind, spot.delimiter());
+    let length = behind.len().saturating_sub(flags.len()).saturating_sub(1);
+    behind.get(..length).unwrap_or(&[])
+}
 
 /// Whether the fault is the only sign of a word's end in its expression, as far as escapes go.
 fn has_one_end(spot: Spot) -> bool {

@@ -348,7 +348,7 @@ fn flag_hint(rest: &[u8]) -> Option<&'static str> {
         Some(b'0') => Some("matches are counted from 1"),
         Some(b'1'..=b'9') => Some("give only one number among the flags, of at most 4,294,967,295"),
         _ => Some(
-            "the flags are `g`, `p`, a number, and `w` with a file name, each once; where the text has the delimiter use another one, as in `s,a/b,c,`",
+            "does the text have the delimiter? Then use another one, as in `s,a/b,c,`; the flags are `g`, `p`, a number, and `w` with a file name, each once",
         ),
     }
 }

@@ -2,9 +2,11 @@
 
 use crate::bytes::{is_of_label, without_blanks};
 use crate::looks::Look;
+use sedck_parts::{Place, Reading};
 use sedck_report::{Code, end_behind, position_at};
 use sedck_script::Location;
 use std::alloc::{AllocError, Global};
+use std::collections::BTreeMap;
 
 /// How many bytes of a label all seds look at.
 const COUNTED: usize = 8;
@@ -52,13 +54,13 @@ fn alike_label(
     text: &[u8],
     locations: &[Location],
 ) -> Result<Option<Look>, AllocError> {
-    let mut seen: Vec<&[u8]> = Vec::new(alloc);
+    let mut seen: BTreeMap<&[u8], ()> = BTreeMap::new(alloc);
     for location in locations {
         let label = label_of(text, *location);
         let Some(counted) = label.get(..COUNTED) else {
             continue;
         };
-        if seen.contains(&counted) {
+        if seen.insert(counted, ())?.is_some() {
             return Ok(Some(Look {
                 position: position_at(text, location.verb),
                 end: None,
@@ -68,7 +70,6 @@ fn alike_label(
                 fix: None,
             }));
         }
-        seen.push(counted)?;
     }
     Ok(None)
 }
@@ -81,4 +82,46 @@ fn label_of(text: &[u8], location: Location) -> &[u8] {
     let label = without_blanks(rest);
     let length = label.iter().position(|byte| !is_of_label(*byte));
     label.get(..length.unwrap_or(label.len())).unwrap_or(&[])
+}
+
+/// The most labels that are listed.
+const LISTED: usize = 8;
+
+/// The labels of a script that is read but for where branches lead, each between backquotes, and dots for those above the most. Nothing
+/// where there are none.
+pub fn listed_labels(alloc: Global, text: &[u8]) -> Result<String, AllocError> {
+    let mut listed = String::new(alloc);
+    let mut count = 0usize;
+    let mut reading = Reading::SCRIPT;
+    // A newline ends a label that is the script's end, too.
+    for byte in text.iter().chain(b"\n".iter()) {
+        let before = reading.place;
+        reading = reading.after(*byte);
+        if reading.command == b':' {
+            let words = match (before, reading.place) {
+                (Place::LabelBegin, Place::Label) => {
+                    count = count.saturating_add(1);
+                    opening(count)
+                }
+                (Place::Label, Place::Label) => "",
+                (Place::Label, _) if count <= LISTED => "`",
+                _ => "",
+            };
+            listed.push_str(words)?;
+            if reading.place == Place::Label && count <= LISTED && is_of_label(*byte) {
+                listed.push(char::from(*byte))?;
+            }
+        }
+    }
+    Ok(listed)
+}
+
+/// What precedes the label with this number, from 1.
+fn opening(number: usize) -> &'static str {
+    match number {
+        1 => "`",
+        number if number <= LISTED => ", `",
+        number if number == LISTED.saturating_add(1) => ", ...",
+        _ => "",
+    }
 }

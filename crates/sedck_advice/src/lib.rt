@@ -34,6 +34,7 @@ pub use bytes::is_blank;
 pub use foreign::{Foreign, other_kind};
 pub use hints::{has_escaped_text, has_open_class, script_hint};
 pub use ignored::{Word, ignoring_words, is_kept};
+pub use labels::listed_labels;
 pub use locale::locale_warnings;
 pub use mends::{Mend, script_mend};
 pub use misjudged::{is_misjudged, misjudged_reason};

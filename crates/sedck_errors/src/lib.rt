@@ -2,6 +2,7 @@
 //! denied of an accepted script. A note is here as well, on steps or spaces without a limit.
 #![tactic(auto)]
 
+mod certain;
 mod certificates;
 mod denied;
 mod ends;

@@ -4,6 +4,7 @@ ghost use Rattle.std.specs.Prelude.{◌≡◌, IfOk, IfSome};
 ghost use Rattle.sedck_report.specs.declared.finding.Level.TheVariants.{Error, Note};
 ghost use Rattle.sedck_errors.specs.Errors.{first_position};
 
+use crate::certain::{is_repeated_once, never_ends};
 use crate::steps::{position_of, step, target_step};
 use sedck_cert::{Cert, Limits, first_growth};
 use sedck_flow::{Edge, Kind, Node};
@@ -22,16 +23,7 @@ pub fn loop_finding(
     ensures level { IfOk result (λ finding. finding.level ≡ Error) }
     ensures position { IfOk result (λ finding. finding.position ≡ first_position positions.now walk.now.nodes.items) }
 {
-    let (code, message) = match walk.form {
-        Form::Idle => (
-            Code::LoopIdle,
-            "this loop reads no line and never shortens the pattern space: it may run forever",
-        ),
-        Form::Growing => (
-            Code::LoopGrowing,
-            "this loop reads no line and may lengthen the pattern space each time: it may run forever",
-        ),
-    };
+    let (code, message) = loop_words(walk.form, never_ends(script, walk));
     let steps = loop_steps(alloc, script, positions, walk)?;
     Ok(Finding {
         level: Level::Error,
@@ -43,6 +35,28 @@ pub fn loop_finding(
         fix: None,
         steps,
     })
+}
+
+/// The code and the message for a loop of this form.
+fn loop_words(form: Form, never_ends: bool) -> (Code, &'static str) {
+    match (form, never_ends) {
+        (Form::Idle, false) => (
+            Code::LoopIdle,
+            "this loop reads no line and never shortens the pattern space: it may run forever",
+        ),
+        (Form::Idle, true) => (
+            Code::LoopIdle,
+            "this loop reads no line and never shortens the pattern space: it never ends once it is entered",
+        ),
+        (Form::Growing, false) => (
+            Code::LoopGrowing,
+            "this loop reads no line and may lengthen the pattern space each time: it may run forever",
+        ),
+        (Form::Growing, true) => (
+            Code::LoopGrowing,
+            "this loop reads no line and may lengthen the pattern space each time: it never ends once it is entered",
+        ),
+    }
 }
 
 /// Where the loop begins.
@@ -96,8 +110,8 @@ fn loop_hint(script: &Script, walk: &Walk) -> &'static str {
         return test_hint(script, walk);
     }
     match walk.form {
-        Form::Growing =>
-            "repeat the command as often as it may be needed, without the loop; one `s` with the flag `g` does the same only where it leaves no match",
+        Form::Growing if restarts(script, walk) => restart_hint(script, walk),
+        Form::Growing => "repeat the command as often as it may be needed, without the loop",
         Form::Idle =>
             "make each round read a line, with `n`, `N` or `d`, or shorten the pattern space; or write the commands out a fixed number of times",
     }
@@ -109,6 +123,14 @@ fn reading_hint(script: &Script, walk: &Walk) -> &'static str {
         return "use `D` only where a line was read: put it into a block with the `N`, and end the last line by `d`, as in `$!{`, `N`, `P`, `D`, `}`, `P`, `d` on lines of their own for `$!N`, `P` and `D`";
     }
     "branch only where a line was read: put the branch into a block with the `N` or `n`, as in `/x/{`, `N`, `b a`, `}` on lines of their own"
+}
+
+/// How loops are repaired in which `D` starts again without a line, and something was added before.
+fn restart_hint(script: &Script, walk: &Walk) -> &'static str {
+    if has_verb(script, walk, VerbForm::Substituting) {
+        return "`D` starts again without reading a line: if the `s` splits a line, let it put in all newlines at once, as docs/MENDING.md folds lines; else write `d` for `D`, if nothing after the newline is needed";
+    }
+    "`D` starts again without reading a line, and each round adds a text: add it only where a line was read, or write `d` for `D`, if nothing after the newline is needed"
 }
 
 /// Whether a `D` along the loop starts again without a line.
@@ -180,15 +202,37 @@ fn test_hint(script: &Script, walk: &Walk) -> &'static str {
         _ if has_earlier_flag(script, walk) => {
             "`t` branches for any `s` since the last `t`, here for one that isn't the last: if the last one alone is meant, write `t c` and `:c` before it; else repeat the commands as often as it may be needed, and then write `t c` and `:c`"
         }
+        _ if is_entered_elsewhere(script, walk) => {
+            "repeat the command as often as it may be needed, and then write `t c` and `:c`, since the loop leaves the flag of `t` unset; keep the label, to which another command leads"
+        }
+        _ if is_repeated_once(script, walk) => {
+            "write one `s` with the flag `g`, and then `t c` and `:c`, since the loop leaves the flag of `t` unset: it does the same, since what it writes can't be a part of a match"
+        }
         Form::Idle if has_verb(script, walk, VerbForm::ReplacingAll) => {
             "repeat the command as often as it may be needed, and then write `t c` and `:c`, since the loop leaves the flag of `t` unset; or give the loop fuel, as docs/MENDING.md shows"
         }
-        Form::Growing if has_verb(script, walk, VerbForm::ReplacingAll) => {
-            "repeat the command as often as it may be needed, and then write `t c` and `:c`, since the loop leaves the flag of `t` unset"
-        }
         _ =>
-            "repeat the command as often as it may be needed, and then write `t c` and `:c`, since the loop leaves the flag of `t` unset; one `s` with the flag `g` does the same only where it leaves no match",
+            "repeat the command as often as it may be needed, and then write `t c` and `:c`, since the loop leaves the flag of `t` unset",
     }
+}
+
+/// Whether a branch that isn't part of the loop leads to one of its labels.
+fn is_entered_elsewhere(script: &Script, walk: &Walk) -> bool {
+    for (index, command) in script.commands().iter().enumerate() {
+        match &command.verb {
+            Verb::Branch(target) | Verb::Test(target)
+                if has_place(walk, *target) && !has_place(walk, index) => {
+                return true;
+            }
+            _ => {}
+        }
+    }
+    false
+}
+
+/// Whether the command at this place is part of the loop.
+fn has_place(walk: &Walk, place: usize) -> bool {
+    walk.nodes.iter().any(|node| usize::from(node.at) == place)
 }
 
 /// Whether a `t` branches by the flag that another `s` than the last one set. The walk is gone over twice, since it may begin between them.

@@ -10,8 +10,8 @@ ghost use Rattle.sedck_errors.specs.Private.Errors.{is_escaped, is_pair};
 
 use crate::ends::fault_length;
 use sedck_advice::{
-    Mend, Spot, has_escaped_text, has_open_class, is_misjudged, misjudged_reason, other_kind,
-    script_hint, script_mend,
+    Mend, Spot, has_escaped_text, has_open_class, is_misjudged, listed_labels, misjudged_reason,
+    other_kind, script_hint, script_mend,
 };
 use sedck_bre::ReFault;
 use sedck_report::{Code, Finding, Fix, Level, NewText, end_behind, position_at, skipped};
@@ -45,11 +45,28 @@ pub fn script_refusal(alloc: Global, text: &[u8], fault: ScriptFault) -> Result<
         code: Code::Script(fault),
         position: Some(position),
         end: Some(end_behind(text, position, fault_length(fault, spot))),
-        message: String::from_str(alloc, message)?,
+        message: refusal_words(alloc, text, fault, message)?,
         hint,
         fix: mend.map(|mend| fix_at(text, offset, mend)),
         steps: Vec::new(alloc),
     })
+}
+
+/// The message, with the labels that there are where one is missing.
+fn refusal_words(
+    alloc: Global,
+    text: &[u8],
+    fault: ScriptFault,
+    message: &str,
+) -> Result<String, AllocError> {
+    let ScriptFault::UnknownLabel { .. } = fault else {
+        return String::from_str(alloc, message);
+    };
+    let labels = listed_labels(alloc, text)?;
+    if labels.is_empty() {
+        return format!(in alloc; "{message}, and the script has none");
+    }
+    format!(in alloc; "{message}: there are {labels}")
 }
 
 /// What the mend of a fault at this offset replaces, and by what.

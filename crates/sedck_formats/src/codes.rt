@@ -1,9 +1,23 @@
 //! What is said of each code: the page of the documents that explains it, and what was found.
 
-use sedck_explanation::Code;
+use sedck_explanation::{Code, Finding};
 
-/// The page in the folder `docs` and its heading, as a link there would name them.
-pub fn page_of(code: Code) -> &'static str {
+/// The page in the folder `docs` and its heading, as a link there would name them: the section that the finding's hint is about, or else
+/// that of its code.
+pub fn page_of(finding: &Finding) -> &'static str {
+    let hint = finding.hint.unwrap_or("");
+    for row in SECTIONS.lines() {
+        if let Some((section, start)) = row.split_once(' ')
+            && hint.as_bytes().starts_with(start.as_bytes())
+        {
+            return section;
+        }
+    }
+    page_of_code(finding.code)
+}
+
+/// The same of the code alone.
+pub(crate) fn page_of_code(code: Code) -> &'static str {
     page_and_meaning(code).0
 }
 
@@ -24,6 +38,65 @@ fn page_and_meaning(code: Code) -> (&'static str, &'static str) {
     }
     ("", "")
 }
+
+/// A row for each section that shows what a hint says: the section, and how the hint begins. Of two rows for a hint the first one counts.
+static SECTIONS: &str = "\
+MENDING.md#joining-lines make each round read a line
+MENDING.md#waiting-for-a-line branch only where a line was read
+MENDING.md#padding-a-line if the loop makes a line as long as it should be
+MENDING.md#reversing-a-line each round may copy what it matches
+MENDING.md#folding-lines `D` starts again without reading a line: if the `s` splits a line
+MENDING.md#substituting-until-nothing-changes write one `s` with the flag `g`
+MENDING.md#a-loop-with-fuel repeat the command as often as it may be needed, and then write `t c` and `:c`, since the loop leaves the flag of `t` unset; or
+MENDING.md#carrying-a-digit repeat the command as often as it may be needed, and then
+MENDING.md#commas-in-numbers for commas in numbers
+FAULTS.md#3-unknown-command-steps-that-begin-later for `0~3d`
+FAULTS.md#3-unknown-command for `0~3p`
+FAULTS.md#3-unknown-command-t for `T end`
+FAULTS.md#3-unknown-command-z for `z`
+FAULTS.md#3-unknown-command-q for `/x/Q`
+FAULTS.md#3-unknown-command-q for `/x/!Q`
+FAULTS.md#4-bad-address-addrn for `6,+2`
+FAULTS.md#4-bad-address-addrn for `/x/,+
+FAULTS.md#8-bad-replacement-u-l to change whole lines
+FAULTS.md#9-bad-flag-e-and-m `^` and `$` match only
+FAULTS.md#10-bad-transliteration-an-open-list BusyBox reads `[`
+FAULTS.md#11-missing-text-one-that-begins-with-a-backslash seds differ on a text
+FAULTS.md#13-bad-label-a-comment some seds read `#`
+FAULTS.md#13-bad-label-a-brace-in-an-inner-block BusyBox reads the `}`
+FAULTS.md#13-bad-label-a-brace-in-an-inner-block in a nested block
+FAULTS.md#20-extra-text-an-argument an exit status
+FAULTS.md#20-extra-text-a-carriage-return-or-a-backslash-at-the-end-of-a-line BusyBox joins
+FAULTS.md#20-extra-text-a-carriage-return-or-a-backslash-at-the-end-of-a-line BusyBox ends a line
+FAULTS.md#20-extra-text-a-carriage-return-or-a-backslash-at-the-end-of-a-line the line ends in a carriage return
+FAULTS.md#2-bad-escape-s-s-w-w for `\\s`
+FAULTS.md#2-bad-escape-s-s-w-w for `\\S`
+FAULTS.md#2-bad-escape-s-s-w-w for `\\w`
+FAULTS.md#2-bad-escape-s-s-w-w for `\\W`
+FAULTS.md#2-bad-escape-b-- for `s/\\<WORD
+FAULTS.md#2-bad-escape-b-- for `s/WORD\\>
+FAULTS.md#2-bad-escape-b-- for `s/\\bWORD
+FAULTS.md#2-bad-escape-b-- match what is next to the word
+FAULTS.md#2-bad-escape-b-- no escape of POSIX means an end of a word
+FAULTS.md#2-bad-escape-a-bar for `/a\\|b/d`
+FAULTS.md#2-bad-escape-a-bar a range needs one expression
+FAULTS.md#2-bad-escape-a-bar-and- for `/a\\|b/!d`
+FAULTS.md#2-bad-escape-a-bar-and-another-command for `/a\\|b/p`
+FAULTS.md#2-bad-escape-a-bar-in-s-with-g for `s/a\\|b/x/g`
+FAULTS.md#2-bad-escape-a-bar-in-s for `s/a\\|b/x/`
+FAULTS.md#2-bad-escape-a-bar-in-a-group write `\\([ab]\\)`
+FAULTS.md#2-bad-escape-a-bar-behind--or-before--in-a-group for `s/\\(^
+FAULTS.md#2-bad-escape-a-bar-behind--or-before--in-a-group for `s/a\\(,
+FAULTS.md#2-bad-escape--and--elsewhere at the start of an expression
+FAULTS.md#2-bad-escape--and--elsewhere if the two characters
+FAULTS.md#2-bad-escape--and--elsewhere for `x\\+` write `xx*`,
+FAULTS.md#2-bad-escape--and--elsewhere for `x\\?` write `x\\{0\\,1\\}`
+FAULTS.md#2-bad-escape-in-a-list GNU sed turns
+FAULTS.md#2-bad-escape-in-a-list if a digit is meant write `[[:digit:]]`; GNU
+FAULTS.md#4-bad-bracket-symbols write the byte itself: `[.]`
+FAULTS.md#4-bad-bracket-a-bracket-at-the-end BusyBox ends this list
+FAULTS.md#11-bad-reference-beside-a-repeated-group repeat bytes and lists
+";
 
 /// A row for each code: its name, its page, and what is found.
 static ROWS: &str = "\

@@ -46,7 +46,7 @@ pub(crate) fn push_unreadable(out: &mut Json, message: &str) {
 /// - `hint`: what to write instead; null where there is none.
 /// - `position`: null where it is of the certificate, or of the script as a whole.
 /// - `steps`: those of a loop, or the ends of an edge.
-/// - `page`: the page that explains the code, and its heading: a link from the folder `docs`.
+/// - `page`: the page that explains the finding, and its heading: a link from the folder `docs`.
 /// - `end`: the first byte after what is meant; null where it isn't known.
 /// - `fix`: a change of the script that mends it; null where there is none.
 fn push_finding(out: &mut Json, names: Names, finding: &Finding) {
@@ -60,7 +60,7 @@ fn push_finding(out: &mut Json, names: Names, finding: &Finding) {
     for step in &finding.steps {
         push_step(out, names, step);
     }
-    out.close("]").text("page", page_of(finding.code));
+    out.close("]").text("page", page_of(finding));
     push_place(out, "end", names, finding.end);
     push_fix(out, names, finding.fix);
     out.close("}");

@@ -63,12 +63,15 @@ pub(crate) fn first_letter(bytes: &[u8]) -> Option<(char, usize)> {
     None
 }
 
-/// How many bytes are marked for one at the front: all of its character where that is shown as it is.
-pub fn mark_len(letters: Letters, bytes: &[u8]) -> usize {
-    match letters {
+/// How many bytes are marked for so many at the front, no more than there are unless there is none: the first character as a whole where it
+/// is shown as it is, and so the last one.
+pub fn mark_len(letters: Letters, bytes: &[u8], length: usize) -> usize {
+    let first = match letters {
         Letters::Ascii => 1,
         Letters::Unicode => shown_letter_of(bytes).map_or(1, |(_, length)| length),
-    }
+    };
+    let all = letters.start_at_or_behind(bytes, length.min(bytes.len()));
+    all.max(first)
 }
 
 /// The bytes of a line as they are shown: a tab as four spaces, and what isn't shown as it is byte by byte, as `\x` and two digits.

@@ -1,8 +1,9 @@
-//! A line of a script around one of its bytes.
+//! A line of a script around some of its bytes, and a command as it is written.
 
 use crate::letters::{Letters, line_in, width_of};
 use crate::names::Names;
-use sedck_explanation::{Explanation, Position};
+use sedck_explanation::{Explanation, Finding, Position};
+use sedck_parts::{Place, Reading};
 use sedck_report::line_len;
 use sedck_script::Script;
 use std::alloc::{AllocError, Global};
@@ -37,20 +38,24 @@ pub fn shown_of<'a>(
     }
 }
 
-/// A line around one of its bytes, as it is shown.
+/// A line around some of its bytes, as it is shown.
 #[derive(Drop)]
 pub struct LinePart {
-    pub shown: String,
-    /// How many shown characters precede the byte.
-    pub before: usize,
+    /// What precedes the bytes.
+    pub front: String,
+    /// The bytes that are meant.
+    pub meant: String,
+    /// What follows them.
+    pub back: String,
 }
 
 /// The line in which the position is, around it: whole where that is at most `limit` characters wide, else so much of it, with
-/// dots for what is left out. The time doesn't depend on the line's length.
+/// dots for what is left out. What is meant is of this length, from the position on. The time doesn't depend on the line's length.
 pub fn excerpt(
     alloc: Global,
     shown: &Shown,
     position: Position,
+    length: usize,
     limit: usize,
 ) -> Result<LinePart, AllocError> {
     let letters = shown.letters;
@@ -62,12 +67,22 @@ pub fn excerpt(
     let right = fitting_start(letters, behind, limit.saturating_sub(width(letters, left)));
     let front = cut_where(left.len() < before.len());
     let back = cut_where(right.len() < behind.len());
+    let (meant, rest) = right.split_at(letters.start_at_or_behind(right, length).min(right.len()));
     let left = line_in(alloc, letters, left)?;
-    let right = line_in(alloc, letters, right)?;
+    let rest = line_in(alloc, letters, rest)?;
     Ok(LinePart {
-        shown: format!(in alloc; "{front}{left}{right}{back}")?,
-        before: front.len().saturating_add(left.as_str().chars().count()),
+        front: format!(in alloc; "{front}{left}")?,
+        meant: line_in(alloc, letters, meant)?,
+        back: format!(in alloc; "{rest}{back}")?,
     })
+}
+
+/// How many bytes of its first line the finding is about, from its position on.
+pub fn length_of(finding: &Finding) -> usize {
+    match (finding.position, finding.end) {
+        (Some(start), Some(end)) => end.offset.saturating_sub(start.offset),
+        _ => 1,
+    }
 }
 
 /// Dots where something is left out.
@@ -75,8 +90,8 @@ fn cut_where(is_cut: bool) -> &'static str {
     if is_cut { CUT } else { "" }
 }
 
-/// The line of a command, cut to `limit` characters and without the blanks around it; nothing for the script's end. Where other commands
-/// precede the command in its line, it begins at the command's verb.
+/// A command with its addresses, cut to `limit` characters; of one that goes over several lines the line with its verb. Nothing for the
+/// script's end.
 pub fn command_line(
     alloc: Global,
     shown: &Shown,
@@ -90,26 +105,59 @@ pub fn command_line(
     let before = command
         .checked_sub(1)
         .and_then(|before| shown.positions.get(before));
-    if before.is_some_and(|before| before.line == position.line) {
-        return rest_of_line(alloc, shown, *position, limit);
-    }
-    let whole = excerpt(alloc, shown, *position, limit)?;
-    String::from_str(alloc, whole.shown.as_str().trim_ascii())
+    let from = before.map_or(0, |before| before.offset);
+    let start = start_of(shown.text, from, position.offset);
+    let end = position
+        .offset
+        .saturating_add(command_len(behind(shown.text, *position, limit)));
+    let bytes = shown.text.get(start..end).unwrap_or(&[]).trim_ascii();
+    let part = fitting_start(shown.letters, bytes, limit);
+    let line = line_in(alloc, shown.letters, part)?;
+    let back = cut_where(part.len() < bytes.len());
+    format!(in alloc; "{line}{back}")
 }
 
-/// The line from the position on, cut to `limit` characters.
-fn rest_of_line(
-    alloc: Global,
-    shown: &Shown,
-    position: Position,
-    limit: usize,
-) -> Result<String, AllocError> {
-    let rest = behind(shown.text, position, limit);
-    let part = fitting_start(shown.letters, rest, limit);
-    let line = line_in(alloc, shown.letters, part)?;
-    let words = line.as_str().trim_ascii_end();
-    let back = cut_where(part.len() < rest.len());
-    format!(in alloc; "{CUT}{words}{back}")
+/// Where the command begins that has its verb at `verb`: behind what ends the one before it, whose verb is at `from`.
+fn start_of(text: &[u8], from: usize, verb: usize) -> usize {
+    let mut reading = Reading::SCRIPT;
+    let mut start = from;
+    for (index, byte) in text.get(from..verb).unwrap_or(&[]).iter().enumerate() {
+        let before = reading;
+        reading = reading.after(*byte);
+        if is_separator(before, reading, *byte) {
+            start = from.saturating_add(index).saturating_add(1);
+        }
+    }
+    start
+}
+
+/// The length of the command with its verb at the front, to what ends it in its line.
+fn command_len(line: &[u8]) -> usize {
+    let mut reading = Reading::SCRIPT;
+    for (index, byte) in line.iter().enumerate() {
+        let before = reading;
+        reading = reading.after(*byte);
+        if index > 0 && (reading.place == Place::Comment || is_separator(before, reading, *byte)) {
+            return index;
+        }
+        if *byte == b'{' && index == 0 {
+            return 1;
+        }
+    }
+    line.len()
+}
+
+/// Whether the byte between these readers separates commands.
+fn is_separator(before: Reading, behind: Reading, byte: u8) -> bool {
+    behind.place == Place::Command
+        && match byte {
+            b'\n' => true,
+            b';' | b'{' | b'}' => matches!(
+                before.place,
+                Place::Command | Place::Flags | Place::LabelBegin | Place::Label | Place::LabelEnd
+            ),
+            _ => false,
+        }
 }
 
 /// What precedes the position in its line.

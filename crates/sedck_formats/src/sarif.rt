@@ -4,7 +4,7 @@ ghost use Rattle.std.specs.Prelude.{IfOk};
 ghost use Rattle.std.specs.Str.{IsAscii};
 ghost use Rattle.sedck_report.specs.Ascii.{IsPrintableLine};
 
-use crate::codes::{meaning_of, page_of};
+use crate::codes::{meaning_of, page_of_code};
 use crate::columns::Columns;
 use crate::json_findings::push_new_text;
 use crate::json_text::Json;
@@ -87,7 +87,7 @@ fn push_run(out: &mut Json, codes: &[Code]) {
 fn push_rule(out: &mut Json, code: Code) {
     let alloc = out.alloc();
     let meaning = meaning_of(code);
-    let page = page_of(code);
+    let page = page_of_code(code);
     out.open()
         .text("id", code.name())
         .message("shortDescription", meaning);

@@ -2,15 +2,16 @@
 
 use crate::codes::page_of;
 use crate::letters::Letters;
-use crate::lines::{Shown, command_line, excerpt, shown_of};
+use crate::lines::{Shown, command_line, excerpt, length_of, shown_of};
 use crate::listed::{is_listed, listed_steps};
 use crate::names::Names;
 use crate::summary::push_summary;
 use crate::words::{
-    CYAN, RED, YELLOW, ink_where, place_words, prefix, push_headline, push_inked, push_left_out,
+    CYAN, PLAIN, RED, YELLOW, ink_where, place_words, prefix, push_headline, push_inked,
+    push_left_out,
 };
 use crate::written::Written;
-use sedck_explanation::{Code, Explanation, Finding, Level, Position, Step};
+use sedck_explanation::{Explanation, Finding, Level, Position, Step};
 use std::alloc::{AllocError, Global};
 
 /// The most characters of a line that are shown above a caret.
@@ -19,7 +20,7 @@ const LINE_WIDTH: usize = 160;
 /// The most characters of a line that are shown beside a step.
 const STEP_WIDTH: usize = 40;
 
-/// Each finding of at least this level with its line, a caret under the byte that is meant, its steps, its hint and its page; then the
+/// Each finding of at least this level with its line, carets under what is meant, its steps, its hint and its page; then the
 /// answer with the limit on steps and the files, but for what is refused or not judged. `colour` adds the colours of ANSI terminals.
 pub fn text_report(
     alloc: Global,
@@ -34,7 +35,7 @@ pub fn text_report(
     out.finished()
 }
 
-/// Each finding of at least this level with its line, a caret under the byte that is meant, its steps, its hint and its page.
+/// Each finding of at least this level with its line, carets under what is meant, its steps, its hint and its page.
 pub fn text_findings(
     alloc: Global,
     names: Names,
@@ -56,13 +57,13 @@ fn push_findings(
     colour: bool,
 ) -> Result<(), AllocError> {
     let shown = shown_of(names, explanation, Letters::Ascii);
-    let mut codes: Vec<Code> = Vec::new(out.alloc());
+    let mut pages: Vec<&str> = Vec::new(out.alloc());
     for finding in &explanation.findings {
         if is_listed(finding, least) {
             let gutter = push_finding(out, &shown, finding, colour)?;
-            if !matches!(finding.level, Level::Note) && !codes.contains(&finding.code) {
-                codes.push(finding.code)?;
-                let page = page_of(finding.code);
+            let page = page_of(finding);
+            if !matches!(finding.level, Level::Note) && !pages.contains(&page) {
+                pages.push(page)?;
                 let see = format!(in out.alloc(); "docs/{page}")?;
                 push_remark(out, gutter, "see", see.as_str(), colour);
             }
@@ -86,7 +87,7 @@ fn push_finding(
     let place = prefix(out.alloc(), shown.names, finding.position)?;
     push_headline(out, place.as_str(), ink, finding);
     let gutter = match finding.position {
-        Some(position) => push_line(out, shown, position, ink)?,
+        Some(position) => push_line(out, shown, position, length_of(finding), ink)?,
         None => 4,
     };
     let rows = rows_of(out.alloc(), shown, &finding.steps)?;
@@ -104,23 +105,35 @@ fn push_remark(out: &mut Written, gutter: usize, what: &str, words: &str, colour
     out.text(": ").text(words).text("\n");
 }
 
-/// Adds the line in which the position is, behind its number, and a caret under the byte; how wide the number's column is.
+/// Adds the line in which the position is, behind its number, and carets under what is meant; how wide the number's column is.
 fn push_line(
     out: &mut Written,
     shown: &Shown,
     position: Position,
+    length: usize,
     ink: &str,
 ) -> Result<usize, AllocError> {
     let line = shown.names.place_of(position).line;
     let number = format!(in out.alloc(); "{line}")?;
     let gutter = number.len().saturating_add(2).max(4);
-    let part = excerpt(out.alloc(), shown, position, LINE_WIDTH)?;
+    let part = excerpt(out.alloc(), shown, position, length, LINE_WIDTH)?;
     push_aligned(out, number.as_str(), gutter);
-    out.text(" | ").text(part.shown.as_str()).text("\n");
-    out.spaces(gutter).text(" | ").spaces(part.before);
-    push_inked(out, ink, "^");
+    out.text(" | ").text(part.front.as_str());
+    out.text(part.meant.as_str()).text(part.back.as_str());
+    out.text("\n").spaces(gutter).text(" | ");
+    out.spaces(width_of(part.front.as_str()));
+    push_carets(out, ink, width_of(part.meant.as_str()));
     out.text("\n");
     Ok(gutter)
+}
+
+/// Adds so many carets, and at least one.
+fn push_carets(out: &mut Written, ink: &str, width: usize) {
+    out.text(ink);
+    for _ in 0..width.max(1) {
+        out.byte(b'^');
+    }
+    out.text(if ink.is_empty() { "" } else { PLAIN });
 }
 
 /// A step as it is printed.

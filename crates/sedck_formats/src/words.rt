@@ -79,6 +79,9 @@ pub(crate) const YELLOW: &str = "\x1b[1;33m";
 
 pub(crate) const CYAN: &str = "\x1b[1;36m";
 
+/// What ends a colour.
+pub(crate) const PLAIN: &str = "\x1b[0m";
+
 /// The colour where colours are wanted, and nothing where not.
 pub(crate) fn ink_where(colour: bool, ink: &'static str) -> &'static str {
     if colour { ink } else { "" }
@@ -86,7 +89,7 @@ pub(crate) fn ink_where(colour: bool, ink: &'static str) -> &'static str {
 
 /// Adds the words in this colour, or without one where it is nothing.
 pub(crate) fn push_inked(out: &mut Written, ink: &str, words: &str) {
-    let plain = if ink.is_empty() { "" } else { "\x1b[0m" };
+    let plain = if ink.is_empty() { "" } else { PLAIN };
     out.text(ink).text(words).text(plain);
 }
 

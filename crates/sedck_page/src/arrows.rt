@@ -80,7 +80,8 @@ pub(crate) fn jumps_of(alloc: Global, explanation: &Explanation) -> Result<Vec<A
     Ok(arrows)
 }
 
-/// The jumps between the lines of the commands, each pair and kind once, in order. `end` is the line of the script's end.
+/// The jumps between the lines of the commands, each pair and kind once, in order, and of those within a line the ones of the loop. `end`
+/// is the line of the script's end.
 pub(crate) fn line_jumps(
     alloc: Global,
     jumps: &[Arrow],
@@ -95,6 +96,7 @@ pub(crate) fn line_jumps(
             ..*jump
         })?;
     }
+    lines.retain(|jump| jump.from != jump.to || jump.is_bold);
     merged(alloc, lines)
 }
 

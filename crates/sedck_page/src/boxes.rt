@@ -3,9 +3,13 @@
 use crate::markup::{push_place, push_prose};
 use sedck_explanation::{Finding, Step};
 use sedck_formats::{
-    Shown, Written, command_line, level_word, listed_steps, page_of, push_left_out,
+    Shown, Written, command_line, excerpt, length_of, level_word, listed_steps, page_of,
+    push_left_out,
 };
 use std::alloc::AllocError;
+
+/// The most characters of a line that are shown in a finding.
+const LINE_WIDTH: usize = 160;
 
 /// The most characters of a line that are shown beside a step.
 const STEP_WIDTH: usize = 60;
@@ -24,6 +28,7 @@ pub(crate) fn push_box(
 ) -> Result<(), AllocError> {
     push_level(out, shown, finding, number);
     push_message(out, finding);
+    push_excerpt(out, shown, finding)?;
     if !finding.steps.is_empty() {
         push_steps(out, shown, &finding.steps)?;
     }
@@ -33,8 +38,22 @@ pub(crate) fn push_box(
         out.text("</p>");
     }
     out.text("<p><strong>see</strong>: <code>docs/")
-        .html(page_of(finding.code))
+        .html(page_of(finding))
         .text("</code></p></div>\n");
+    Ok(())
+}
+
+/// Adds the line of a finding at the top, with a mark on what is meant.
+fn push_excerpt(out: &mut Written, shown: &Shown, finding: &Finding) -> Result<(), AllocError> {
+    if let Some(position) = finding.position
+        && is_at_top(finding)
+    {
+        let part = excerpt(out.alloc(), shown, position, length_of(finding), LINE_WIDTH)?;
+        out.text("<p><code>").html(part.front.as_str());
+        out.text("<mark>").html(part.meant.as_str());
+        out.text("</mark>").html(part.back.as_str());
+        out.text("</code></p>");
+    }
     Ok(())
 }
 

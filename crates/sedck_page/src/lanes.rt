@@ -1,6 +1,7 @@
 //! Which jump is drawn where beside the lines.
 
 use crate::arrows::Arrow;
+use sedck_flow::Kind;
 use std::alloc::{AllocError, Global};
 
 /// The most jumps that are drawn beside one line.
@@ -13,9 +14,20 @@ pub(crate) struct Lane {
 }
 
 impl Lane {
-    /// Whether the jump shares no line with those that are here.
-    fn has_room(&self, jump: Arrow) -> bool {
-        self.jumps.iter().all(|other| other.bottom() < jump.top() || jump.bottom() < other.top())
+    /// Where the jump belongs among those that are here, if it shares no line with them.
+    fn room_for(&self, jump: Arrow) -> Option<usize> {
+        let above = self
+            .jumps
+            .partition_point(|other| other.bottom() < jump.top());
+        match self.jumps.get(above) {
+            Some(next) if next.top() <= jump.bottom() => None,
+            _ => Some(above),
+        }
+    }
+
+    /// Whether one of the jumps has this kind.
+    fn has(&self, kind: Kind) -> bool {
+        self.jumps.iter().any(|jump| jump.kind == kind)
     }
 
     /// The jump that begins, ends or passes at the line.
@@ -33,6 +45,13 @@ pub(crate) struct Drawing {
     pub left_out: usize,
 }
 
+impl Drawing {
+    /// Whether one of the jumps has this kind.
+    pub(crate) fn has(&self, kind: Kind) -> bool {
+        self.lanes.iter().any(|lane| lane.has(kind))
+    }
+}
+
 /// Gives each jump a lane while there is room: those of the loop first, then the shorter ones.
 pub(crate) fn drawing_of(alloc: Global, mut jumps: Vec<Arrow>) -> Result<Drawing, AllocError> {
     jumps.sort_by_key(|jump| (!jump.is_bold, jump.span()))?;
@@ -43,17 +62,14 @@ pub(crate) fn drawing_of(alloc: Global, mut jumps: Vec<Arrow>) -> Result<Drawing
     for jump in &jumps {
         add_jump(alloc, &mut drawing, *jump)?;
     }
-    for lane in &mut drawing.lanes {
-        lane.jumps.sort_by_key(|jump| jump.top())?;
-    }
     Ok(drawing)
 }
 
 /// Adds the jump to the first lane that has room for it, or to a new one.
 fn add_jump(alloc: Global, drawing: &mut Drawing, jump: Arrow) -> Result<(), AllocError> {
     for lane in &mut drawing.lanes {
-        if lane.has_room(jump) {
-            lane.jumps.push(jump)?;
+        if let Some(place) = lane.room_for(jump) {
+            lane.jumps.insert(place, jump)?;
             return Ok(());
         }
     }

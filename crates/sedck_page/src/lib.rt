@@ -14,6 +14,7 @@ mod margin;
 mod markup;
 mod page;
 mod page_style;
+mod runs;
 mod strokes;
 mod tables;
 mod top;

@@ -5,26 +5,20 @@ use crate::boxes::{is_at_top, push_box, push_mention};
 use crate::margin::{Margin, Spot, margin_of};
 use crate::strokes::{drawing_width, push_strokes};
 use sedck_explanation::{Explanation, Finding, Level};
+use sedck_flow::Kind;
 use sedck_formats::{Letters, Shown, Written, line_in, mark_len};
 use std::alloc::AllocError;
 
-/// What the kinds of jumps look like.
-const LEGEND: &str = "<ul class=\"legend\">
-<li><svg aria-hidden=\"true\"><g class=\"consume\"><line x1=\"0\" x2=\"48\" y1=\"6\" y2=\"6\"/></g></svg>
-consume: a line is read</li>
-<li><svg aria-hidden=\"true\"><g class=\"shorten\"><line x1=\"0\" x2=\"48\" y1=\"6\" y2=\"6\"/></g></svg>
-shorten: the pattern space gets shorter</li>
-<li><svg aria-hidden=\"true\"><g class=\"keep\"><line x1=\"0\" x2=\"48\" y1=\"6\" y2=\"6\"/></g></svg>
-keep: it doesn&rsquo;t get longer</li>
-<li><svg aria-hidden=\"true\"><g class=\"grow\"><line x1=\"0\" x2=\"48\" y1=\"6\" y2=\"6\"/></g></svg>
-grow: it may get longer</li>
-";
-
-/// What the jumps of a loop look like.
-const LOOP_LEGEND: &str =
-    "<li><svg aria-hidden=\"true\"><g class=\"keep bold\"><line x1=\"0\" x2=\"48\" y1=\"6\" y2=\"6\"/></g></svg>
-bold: part of the loop</li>
-";
+/// What the kinds of jumps mean.
+static KINDS: [(Kind, &'static str); 4] = [
+    (Kind::Consume, "consume: a line is read"),
+    (Kind::Shorten, "shorten: the pattern space gets shorter"),
+    (
+        Kind::Keep,
+        "keep: the pattern space doesn&rsquo;t get longer",
+    ),
+    (Kind::Grow, "grow: the pattern space may get longer"),
+];
 
 /// Adds the script's lines with what is beside them, and its end.
 pub(crate) fn push_listing(
@@ -59,8 +53,16 @@ pub(crate) fn push_listing(
 fn push_legend(out: &mut Written, margin: &Margin) {
     out.text("<h2 id=\"script\">Script</h2>\n");
     if !margin.drawing.lanes.is_empty() {
-        let loops = if margin.has_loop() { LOOP_LEGEND } else { "" };
-        out.text(LEGEND).text(loops).text("</ul>\n");
+        out.text("<ul class=\"legend\">\n");
+        for (kind, words) in &KINDS {
+            if margin.drawing.has(*kind) {
+                push_entry(out, *kind, "", words);
+            }
+        }
+        if margin.has_loop() {
+            push_entry(out, Kind::Keep, " bold", "red: part of the loop");
+        }
+        out.text("</ul>\n");
     }
     if margin.drawing.left_out > 0 {
         out.text("<p>").counted(
@@ -72,6 +74,13 @@ fn push_legend(out: &mut Written, margin: &Margin) {
     out.text("<ol class=\"script\" style=\"--jumps:")
         .number(drawing_width(&margin.drawing))
         .text("px\">\n");
+}
+
+/// Adds what a line of this look means.
+fn push_entry(out: &mut Written, kind: Kind, bold: &str, words: &str) {
+    out.words(format!(in out.alloc(); "<li><svg aria-hidden=\"true\"><g class=\"{kind}{bold}\">"));
+    out.text("<line x1=\"0\" x2=\"48\" y1=\"6\" y2=\"6\"/></g></svg>\n");
+    out.text(words).text("</li>\n");
 }
 
 /// Begins a line, with the strokes beside it.
@@ -133,16 +142,17 @@ fn push_code(out: &mut Written, letters: Letters, bytes: &[u8], spots: &[Spot]) 
         let at = spot.column.saturating_sub(1);
         if at >= start {
             push_bytes(out, letters, bytes.get(start..at.min(bytes.len())));
-            start = at.saturating_add(push_mark(out, letters, bytes.get(at..)));
+            start = at.saturating_add(push_mark(out, letters, bytes.get(at..), spot.length));
         }
     }
     push_bytes(out, letters, bytes.get(start..));
 }
 
-/// Adds the first of the bytes with a mark, or its whole character, or a blank where there is none; how many bytes that are.
-fn push_mark(out: &mut Written, letters: Letters, rest: Option<&[u8]>) -> usize {
+/// Adds so many of the bytes with a mark, and at least the first one or its whole character, or a blank where there is none; how many
+/// bytes that are.
+fn push_mark(out: &mut Written, letters: Letters, rest: Option<&[u8]>, length: usize) -> usize {
     let rest = rest.unwrap_or(&[]);
-    let length = mark_len(letters, rest);
+    let length = mark_len(letters, rest, length);
     out.text("<mark>");
     push_bytes(out, letters, Some(rest.get(..length).unwrap_or(b" ")));
     out.text("</mark>");

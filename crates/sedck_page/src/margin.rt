@@ -3,7 +3,7 @@
 use crate::arrows::{Arrow, line_of};
 use crate::lanes::{Drawing, drawing_of};
 use sedck_explanation::{Answer, Explanation, Level};
-use sedck_formats::is_listed;
+use sedck_formats::{is_listed, length_of};
 use std::alloc::{AllocError, Global};
 
 /// How many lines apart the ends of a jump back are at least, where it has a label.
@@ -14,6 +14,8 @@ const LONG: usize = 20;
 pub(crate) struct Spot {
     pub line: usize,
     pub column: usize,
+    /// How many bytes it is about.
+    pub length: usize,
     /// Its number among the findings, from 0.
     pub finding: usize,
 }
@@ -99,6 +101,7 @@ fn spots_of(
             spots.push(Spot {
                 line: position.line,
                 column: position.column,
+                length: length_of(finding),
                 finding: index,
             })?;
         }

@@ -45,8 +45,8 @@ svg g,svg .line{fill:none;stroke-width:1.5;stroke:currentColor}
 .keep{stroke:var(--keep)!important;stroke-dasharray:2 2;stroke-width:1.75}
 .keep.bold{stroke-dasharray:3 3}
 .grow{stroke:var(--grow)!important;stroke-dasharray:10 2 2 2 2 2}
-svg .bold{stroke-width:3.5}
+svg .bold{stroke:var(--error)!important;stroke-width:3.5}
 .head{stroke-dasharray:none;stroke-width:1}
-.consume>.head{fill:var(--consume)}.shorten>.head{fill:var(--shorten)}.keep>.head{fill:var(--keep)}.grow>.head{fill:var(--grow)}
+.consume>.head{fill:var(--consume)}.shorten>.head{fill:var(--shorten)}.keep>.head{fill:var(--keep)}.grow>.head{fill:var(--grow)}.bold>.head{fill:var(--error)}
 @media print{:root{color-scheme:light}body{max-width:none;padding:0;font-size:.8rem}a{color:inherit;text-decoration:none}.script>li,.finding,tr{break-inside:avoid}details::details-content{display:block;content-visibility:visible;height:auto}}
 ";

@@ -5,10 +5,10 @@ use crate::lanes::Drawing;
 use sedck_formats::Written;
 
 /// How far lanes are apart.
-const STEP: usize = 10;
+const STEP: usize = 8;
 
 /// How much room the arrows take between the lanes and the lines.
-const ARROWS: usize = 18;
+const ARROWS: usize = 16;
 
 /// How wide the drawing is.
 pub(crate) fn drawing_width(drawing: &Drawing) -> usize {
