@@ -163,7 +163,7 @@ fn push_details(out: &mut Json, names: Names, explanation: &Explanation, least: 
     push_bounds(out, &explanation.answer);
     push_files(out, "reads", names, &explanation.reads);
     push_files(out, "writes", names, &explanation.writes);
-    push_findings(out, names, &explanation.findings, least);
+    push_findings(out, names, explanation, least);
     push_positions(out, "commands", names, &explanation.positions);
     out.text("version", VERSION).close("}");
 }
