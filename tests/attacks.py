@@ -185,6 +185,8 @@ OTHER_WORDS = [
     Row("a function named command", "command() { sed -n -f es f; }\ncommand sed p f\n", "bash a.sh", WRITES),
     Row("a function named find", "find() { sed -n -f es f; }\nfind . -exec sed p {} \\;\n", "sh a.sh", WRITES),
     Row("an alias for any word", "#!/bin/zsh\nalias -g p='-n -f es'\nsed p f\n", "zsh a.sh", WRITES),
+    Row("an alias for any word with the name of an innocent one", "#!/bin/zsh\nalias -g '${1+\"$@\"}'='-n -f es'\nsed p ${1+\"$@\"} f\n", "zsh a.sh", WRITES),
+    Row("an alias for any word beside an innocent one", "#!/bin/zsh\nalias -g '${1+\"$@\"}'='\"$@\"' p='-n -f es'\nsed p f\n", "zsh a.sh", WRITES),
     Row("a table of functions", "#!/bin/zsh\nfunctions[sed]='command sed -n -f es f'\nsed p f\n", "zsh a.sh", WRITES),
     Row("set -k", "set -k\nsed a=b 'w evil' f\n", "bash a.sh", WRITES),
     Row("set -ek", "set -ek\nsed a=b 'w evil' f\n", "bash a.sh", WRITES),
@@ -490,6 +492,7 @@ INNOCENT = [Row("innocent: %r" % text, text, due=ACCEPTED) for text in [
     "set -o pipefail\nset -- -k\nsed s=a=b= f\n",
     "hash sed\nalias ll='ls -l'\nshopt -s extglob\nsed p ./*\n",
     "f() { sed p f; }\nf\ncommand sed p f\nfind . -exec sed p {} \\;\n",
+    "if test -n \"${ZSH_VERSION+set}\"; then\n  alias -g '${1+\"$@\"}'='\"$@\"'\nfi\nsed p f\n",
 ]] + [Row("innocent: %r" % text, text, file="configure.ac", due=ACCEPTED) for text in [
     "AC_DEFUN([MY_RE],[b])\nsed -n 's/MY_REX/include define/p' f\n",
     "m4_define([abc],[x])\nsed -n 's/abcd/unix format/p' f\n",

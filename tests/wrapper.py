@@ -68,6 +68,9 @@ SPELLED = [
 ]
 # Those of these that have an option or `--` behind an operand.
 BEHIND = [["-e", "p", "in", "-n"], ["p", "in", "-n", "in"], ["in", "-e", "p", "-s"], ["p", "--", "-in"], ["-n", "p", "-s", "--", "in"], ["-n", "p", "--version"]]
+# Scripts of -f, and whether they end in a backslash that no other one escapes.
+ENDS = [("a\\\ntext\\", True), ("a\\\ntext\\\n", True), ("a\\\ntext\\\\\\", True), ("a\\", True), ("i\\\nx\\", True), ("c\\\nx\\\n", True), ("#x\\", True),
+        ("a\\\ntext\\\\", False), ("a\\\ntext\\\\\n", False), ("a\\\ntext", False), ("a\\\ntext\n", False), ("s/a/\\\\/\n", False), ("s/\\n/\\\n/\n", False)]
 failures = []
 
 
@@ -412,6 +415,33 @@ def check_files(place):
     expect(place.call("--", "p", "-f", "edited", mode="refuse")[0] == 2 and place.lines()[-1]["copies"] == {}, "files: an operand is taken for an option")
 
 
+def check_ends(place):
+    """Where a script of -f ends in a backslash, seds run it in their own ways: it is refused. Any other one runs as without the wrapper."""
+    (place.here / "one").write_text("one\n")
+    (place.here / "next.sed").write_text("p\n")
+    seds = ["/usr/bin/env sed"] + [name + " sed" for name in ("busybox", "toybox") if shutil.which(name)]
+    for end, is_due in ENDS:
+        (place.here / "end.sed").write_text(end)
+        for more in ([], ["-f", "next.sed"], ["-e", "p"], ["-f", "end.sed"]):
+            words = ["-f", "end.sed", *more, "one"]
+            for number, sed in enumerate(seds):
+                path = place.top / ("sed-%d" % number)
+                path.write_text('#!/bin/sh\nexec %s "$@"\n' % sed.replace("/usr/bin/env sed", shutil.which("sed")))
+                path.chmod(0o755)
+                due = subprocess.run([str(path), *words], cwd=place.here, capture_output=True)
+                found = place.call(*words, mode="refuse", SED=path, GNU=0)
+                if is_due:
+                    expect(found[:2] == (120, b"") and b"[ends-in-backslash]\n" in found[2], "ends, %r, %s: %s" % (end, more, found))
+                else:
+                    expect(found == (due.returncode, due.stdout, due.stderr), "ends, %r, %s, %s: %s, not %s" % (end, more, sed, found, due))
+        found = place.call("-f", "end.sed", "one", mode="warn")
+        expect((b"[ends-in-backslash]\n" in found[2]) == is_due, "ends, warn, %r: %s" % (end, found))
+    # A pipe is looked at as it was copied.
+    status = subprocess.run(["/bin/sh", "-c", "printf 'a\\\\\\\nx\\\\' | sed -f /dev/fd/3 one 3<&0 < /dev/null"], cwd=place.here, capture_output=True,
+                            env={**os.environ, "PATH": place.path, "SEDCK_MODE": "refuse", "LC_ALL": "C"})
+    expect(status.returncode == 120 and b"[ends-in-backslash]\n" in status.stderr, "ends, a pipe: %s" % status)
+
+
 def check_streams(place):
     """A script that can be read only once, and one that only sed can read."""
     place.lines()
@@ -693,6 +723,7 @@ def main():
         with tempfile.TemporaryDirectory(prefix="sedck-wrapper-") as folder:
             check_answers(Place(os.path.join(folder, "a"), shell, os.path.abspath(sys.argv[1])))
             check_spelled(Place(os.path.join(folder, "c"), shell, os.path.abspath(sys.argv[1])))
+            check_ends(Place(os.path.join(folder, "e"), shell, os.path.abspath(sys.argv[1])))
             check_numbers(Place(os.path.join(folder, "d"), shell))
             place = Place(os.path.join(folder, "b"), shell)
             for check in (check_words, check_files, check_streams, check_failing, check_recursion, check_log, check_places, check_absent, check_pipes,

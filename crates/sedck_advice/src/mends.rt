@@ -4,7 +4,8 @@ use crate::bytes::is_blank;
 use crate::hints::{BYTE_ORDER_MARK, ends_in_return};
 use crate::spot::Spot;
 use sedck_bre::ReFault;
-use sedck_parts::Place;
+use sedck_parts::{Place, mend_at};
+use sedck_report::NewText;
 use sedck_script::ScriptFault;
 
 /// What to write in place of the bytes around a fault.
@@ -14,11 +15,11 @@ pub struct Mend {
     pub before: usize,
     /// How many bytes are replaced from the fault on.
     pub after: usize,
-    pub text: &'static str,
+    pub text: NewText,
 }
 
-/// The mend of this fault, where there is one that changes nothing for GNU sed.
-pub fn script_mend(fault: ScriptFault, spot: Spot) -> Option<Mend> {
+/// The mend of this fault of the text, where there is one that changes nothing for GNU sed.
+pub fn script_mend(text: &[u8], fault: ScriptFault, spot: Spot) -> Option<Mend> {
     if ends_in_return(spot.rest) {
         return Some(replaced(1, ""));
     }
@@ -30,6 +31,10 @@ pub fn script_mend(fault: ScriptFault, spot: Spot) -> Option<Mend> {
         ScriptFault::ExtraText { .. } => flag_mend(spot),
         ScriptFault::BadLabel { .. } => label_mend(spot.rest),
         ScriptFault::BadReplacement { .. } => replacement_mend(spot),
+        ScriptFault::BadExpression {
+            fault: ReFault::UnclosedBracket { .. },
+            ..
+        } => delimiter_mend(text, spot.before.len()),
         ScriptFault::BadExpression { fault, .. } => expression_mend(fault, spot),
         _ => None,
     }
@@ -40,7 +45,7 @@ fn replaced(after: usize, text: &'static str) -> Mend {
     Mend {
         before: 0,
         after,
-        text,
+        text: NewText::Plain(text),
     }
 }
 
@@ -68,7 +73,7 @@ fn flag_mend(spot: Spot) -> Option<Mend> {
     Some(Mend {
         before: blanks,
         after: 0,
-        text: "",
+        text: NewText::Plain(""),
     })
 }
 
@@ -94,6 +99,21 @@ fn replacement_mend(spot: Spot) -> Option<Mend> {
     mend_where(is_mended, replaced(2, "&"))
 }
 
+/// Another delimiter, for a command in the text that has its own in a list at this offset.
+fn delimiter_mend(text: &[u8], offset: usize) -> Option<Mend> {
+    let found = mend_at(text, offset)?;
+    let end = found.last.saturating_add(1);
+    let part = text.get(found.first..end).unwrap_or(&[]);
+    part.is_ascii().then_some(Mend {
+        before: offset.saturating_sub(found.first),
+        after: end.saturating_sub(offset),
+        text: NewText::Delimited {
+            other: found.other,
+            is_bare: found.is_bare,
+        },
+    })
+}
+
 /// In an expression, where the text has no delimiter.
 fn expression_mend(fault: ReFault, spot: Spot) -> Option<Mend> {
     let mend = match fault {
@@ -101,10 +121,10 @@ fn expression_mend(fault: ReFault, spot: Spot) -> Option<Mend> {
         ReFault::BadInterval { .. } if spot.delimiter() != b',' => interval_mend(spot.rest)?,
         _ => return None,
     };
-    if mend.text.as_bytes().contains(&spot.delimiter()) {
-        return comma_mend(spot);
+    match mend.text {
+        NewText::Plain(text) if text.as_bytes().contains(&spot.delimiter()) => comma_mend(spot),
+        _ => Some(mend),
     }
-    Some(mend)
 }
 
 /// For the escapes of GNU sed that POSIX spells in another way.

@@ -118,6 +118,7 @@ is_set (variant.Line line) = true
 is_set (variant.Made line) = true
 is_set variant.Empty = true
 is_set variant.Given = false
+is_set variant.Unset = false
 
 -- one of these variables is replaced by a value that the file sets
 abbrev pub has_set : List Followed → Bool

@@ -36,35 +36,25 @@ pub(crate) fn call_report(
     }
 }
 
-/// The report on a place that isn't understood.
-pub(crate) fn place_report(
-    asked: &FileScan,
-    explanation: &Explanation,
-) -> Result<Vec<u8>, AllocError> {
-    let alloc = asked.alloc;
-    let least = asked.scan.least;
-    let shown = shown_path(alloc, asked.file.path)?;
-    let names = Names::of_file(shown.as_str());
-    match asked.scan.look {
-        Look::Json => json_place(alloc, asked.file.path, explanation, least),
-        Look::Gcc => gcc_report(alloc, names, explanation, least),
-        Look::Text { colour } => text_findings(alloc, names, explanation, least, colour),
-    }
-}
-
-/// The report on a script below a folder.
-pub(crate) fn script_report(
+/// The report on a place of the file at the path that isn't understood, or on a script below a folder.
+pub(crate) fn path_report(
     alloc: Global,
     scan: &Scan,
     path: &str,
     explanation: &Explanation,
+    is_place: bool,
 ) -> Result<Vec<u8>, AllocError> {
     let shown = shown_path(alloc, path)?;
     let names = Names::of_file(shown.as_str());
+    let least = scan.least;
     match scan.look {
-        Look::Json => json_report(alloc, Names::of_file(path), explanation, scan.least),
-        Look::Gcc => gcc_report(alloc, names, explanation, scan.least),
-        Look::Text { colour } => text_report_of(alloc, names, explanation, scan.least, colour),
+        Look::Json if is_place => json_place(alloc, path, explanation, least),
+        Look::Json => json_report(alloc, Names::of_file(path), explanation, least),
+        Look::Gcc => gcc_report(alloc, names, explanation, least),
+        Look::Text { colour } if is_place => {
+            text_findings(alloc, names, explanation, least, colour)
+        }
+        Look::Text { colour } => text_report_of(alloc, names, explanation, least, colour),
     }
 }
 

@@ -4,7 +4,8 @@ ghost use Rattle.std.specs.Prelude.{◌≡◌, IfOk};
 ghost use Rattle.sedck_report.specs.Positions.{position_in};
 ghost use Rattle.sedck_calls_in_files.specs.Scanned.{IsWorst, TextStatus, unread_status};
 
-use crate::answers::{call_report, place_report, write_report};
+use crate::answers::{call_report, path_report, write_report};
+use crate::conditions::Conditions;
 use crate::finder::Finder;
 use crate::judging::{explain_found, explain_unread};
 use crate::request::FileScan;
@@ -43,7 +44,10 @@ fn report_places<W: Sink>(
     for offset in places {
         position = call_position(text, position, *offset);
         let explanation = explain_unread(asked.alloc, text, position)?;
-        write_report(out, place_report(asked, &explanation))?;
+        write_report(
+            out,
+            path_report(asked.alloc, asked.scan, asked.file.path, &explanation, true),
+        )?;
     }
     Ok(status_of_places(places))
 }
@@ -70,15 +74,19 @@ pub fn explain_calls<W: Sink>(
     ensures { IfOk result (IsWorst asked.now.file.text.now asked.now.scan.now.denied known calls.now) }
 {
     let text = asked.file.text;
+    let mut conditions = Conditions::of(asked, calls, counts)?;
+    let before = *counts;
     let mut status = known;
     let mut position = position_at(text, 0);
     for call in calls {
         position = call_position(text, position, call.start);
-        let explanation = explain_found(asked.alloc, text, position, call, asked.scan.denied)?;
+        let mut explanation = explain_found(asked.alloc, text, position, call, asked.scan.denied)?;
         counts.add(CallAnswer::of(&explanation));
         status = status.worse(explanation.status);
+        conditions.report_once(&mut explanation.findings)?;
         write_report(out, call_report(asked, position, call, &explanation))?;
     }
+    counts.end_file(before, !known.is_accepted());
     Ok(status)
 }
 

@@ -4,7 +4,7 @@ ghost use Rattle.std.specs.Prelude.{◌≡◌, List, ℕ, Option, None, IfOk, If
 ghost use Rattle.sedck_calls_in_files.specs.Scanned.{Holds, IsFound};
 
 use crate::request::File;
-use sedck_find::{Assumed, Found, calls_in};
+use sedck_find::{Assumptions, Found, calls_in};
 use std::alloc::{AllocError, Global};
 
 /// What finds the calls of sed in a file.
@@ -12,8 +12,8 @@ pub trait Finder {
     /// What it finds in the file at this path with these bytes, where that is known.
     ghost found: { Self → List ℕ → List ℕ → Option Holds };
 
-    /// The calls in the file; the values of these variables are known.
-    fn find(&self, alloc: Global, file: &File, assumed: &[Assumed]) -> Result<Found, AllocError>
+    /// The calls in the file, of which this is assumed.
+    fn find(&self, alloc: Global, file: &File, assumed: Assumptions) -> Result<Found, AllocError>
         ensures { IfOk result (λ all. IfSome (found self.now file.now.path.now file.now.text.now) (IsFound all)) };
 }
 
@@ -24,7 +24,7 @@ pub struct AsTheShell;
 impl Finder for AsTheShell {
     ghost found = { λ _ _ _. None };
 
-    fn find(&self, alloc: Global, file: &File, assumed: &[Assumed]) -> Result<Found, AllocError> {
+    fn find(&self, alloc: Global, file: &File, assumed: Assumptions) -> Result<Found, AllocError> {
         calls_in(alloc, file.kind, file.path, file.text, assumed)
     }
 }

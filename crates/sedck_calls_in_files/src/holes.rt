@@ -8,26 +8,28 @@ ghost use Rattle.sedck_calls_in_files.specs.Placed.{IsFindingIn};
 use crate::places::Places;
 use sedck_explanation::{Code, Finding, Level, Position, call_finding, shown_name};
 use sedck_find::{Followed, KnownValue, OpenHole, Overwritten, Role, Unknown};
-use sedck_origin::{Hole, Origin, Traced, Way};
+use sedck_origin::{Hole, Origin, Traced, Way, hole_name};
+use sedck_parts::delimited;
 use std::alloc::{AllocError, Global};
 
 /// The most bytes of a hole that are shown.
 const SHOWN: usize = 40;
 
 /// How a value is made sure of in the shell.
-const CASE: &str =
-    "before it in the shell: case $value in '' | *[!A-Za-z0-9_]*) exit 1;; esac; or give the value with --assume NAME=VALUE";
+const CASE: &str = "before it in the shell: case $value in '' | *[!A-Za-z0-9_]*) exit 1;; esac";
 
 /// How operands are kept from being options.
 const DASHES: &str =
     "give the script with -e, and put -- before the operands: sed -e p -- \"$file\"";
 
 /// How a call says which sed runs.
-const NAMED: &str =
-    "write the name of the sed, quote the variable that has it, or give its value, as with --assume SED=sed";
+const NAMED: &str = "write the name of the sed, or quote the variable that has it";
 
 /// How a value that the file sets is made sure of.
-const VALUE: &str = "write the value in its place, or give it with --assume NAME=VALUE";
+const VALUE: &str = "write the value in its place";
+
+/// How a command does without its delimiter in a list.
+const DELIMITER: &str = "write another delimiter, which the command doesn't have";
 
 /// How an output is kept from what is read.
 const OTHER_FILE: &str = "write to another file, and rename that behind the call";
@@ -61,8 +63,7 @@ fn open_warning(
     ensures finding { IfOk result (IsFindingIn file.now) }
 {
     let Hole { start, end, .. } = hole.hole;
-    let written = shown_part(alloc, file, start, end)?;
-    let message = condition(alloc, written.as_str(), hole)?;
+    let message = hole_words(alloc, file, hole)?;
     let hint = Some(hint_of(hole.role));
     let mut finding = call_finding(alloc, Level::Warning, Code::OpenHole, message, hint);
     finding.position = Some(places.place_offset(start));
@@ -98,13 +99,27 @@ fn value_note(
     ensures file { places.new.file ≡ places.old.file }
     ensures finding { IfOk result (IsFindingIn file.now) }
 {
-    let written = shown_part(alloc, file, followed.start, followed.end)?;
-    let message = value_words(alloc, written.as_str(), followed.value)?;
+    let message = followed_words(alloc, file, followed)?;
     let hint = value_hint(followed.value);
     let mut finding = call_finding(alloc, Level::Warning, Code::KnownValue, message, hint);
     finding.position = Some(places.place_offset(followed.start));
     finding.end = Some(places.place_offset(followed.end));
     Ok(finding)
+}
+
+/// Where the value of a variable comes from, in words.
+pub(crate) fn followed_words(
+    alloc: Global,
+    file: &[u8],
+    followed: Followed,
+) -> Result<String, AllocError> {
+    let written = shown_part(alloc, file, followed.start, followed.end)?;
+    let message = value_words(alloc, written.as_str(), followed.value)?;
+    let part = file.get(followed.start..followed.end).unwrap_or(&[]);
+    match (followed.value, hole_name(part)) {
+        (KnownValue::Given | KnownValue::Unset, _) | (_, None) => Ok(message),
+        (_, Some(name)) => with_assumption(alloc, message, name, "=VALUE"),
+    }
 }
 
 /// Where the value of what is written comes from, in words. What the file sets is a condition: the environment, the arguments or another
@@ -123,13 +138,14 @@ fn value_words(alloc: Global, written: &str, value: KnownValue) -> Result<String
             format!(in alloc; "the answer holds if \"{written}\" is empty, as the file sets it")
         }
         KnownValue::Given => format!(in alloc; "\"{written}\" has the value that is assumed"),
+        KnownValue::Unset => String::from_str(alloc, "POSIXLY_CORRECT isn't set, as is assumed"),
     }
 }
 
 /// How the value is made sure of.
 fn value_hint(value: KnownValue) -> Option<&'static str> {
     match value {
-        KnownValue::Given => None,
+        KnownValue::Given | KnownValue::Unset => None,
         _ => Some(VALUE),
     }
 }
@@ -184,6 +200,61 @@ fn overwriting_words(alloc: Global, written: &str, one: Overwritten) -> Result<S
         "it may grow while it is read, so that the run never ends"
     };
     format!(in alloc; "the output goes to \"{written}\", which the call reads: {what}")
+}
+
+/// On what the answer depends by the hole, in words, and how to assume it where that can be done.
+pub(crate) fn hole_words(alloc: Global, file: &[u8], hole: OpenHole) -> Result<String, AllocError> {
+    let Hole { start, end, .. } = hole.hole;
+    let written = shown_part(alloc, file, start, end)?;
+    if let Role::Delimiter { is_whole, is_bare } = hole.role {
+        let part = if is_whole { file.get(start..end) } else { None };
+        let mended = match part {
+            Some(part) => Some(delimited(alloc, part, hole.delimiter, is_bare)?),
+            None => None,
+        };
+        return mend_words(alloc, written.as_str(), mended.as_deref());
+    }
+    let message = condition(alloc, written.as_str(), hole)?;
+    let value = match hole.role {
+        Role::Options => return with_assumption(alloc, message, b"POSIXLY_CORRECT", ""),
+        Role::Sed => "=sed",
+        Role::Runner => "=",
+        _ => "=VALUE",
+    };
+    match hole_name(file.get(start..end).unwrap_or(&[])) {
+        Some(name) if hole.is_variable => with_assumption(alloc, message, name, value),
+        _ => Ok(message),
+    }
+}
+
+/// The words of a condition, and with which value of which variable it is assumed.
+fn with_assumption(
+    alloc: Global,
+    message: String,
+    name: &[u8],
+    value: &str,
+) -> Result<String, AllocError> {
+    let mut message = message;
+    let name = shown_name(alloc, name)?;
+    message.push_str("; or give --assume ")?;
+    message.push_str(name.as_str())?;
+    message.push_str(value)?;
+    Ok(message)
+}
+
+/// On what the answer depends where a command has its delimiter in a list, and the command with another delimiter, where the file has it
+/// whole.
+fn mend_words(alloc: Global, written: &str, mended: Option<&[u8]>) -> Result<String, AllocError> {
+    let mut message = format!(in alloc;
+        "\"{written}\" has its delimiter in a list: the answer holds if sed takes it for a part of the list, as GNU sed, BusyBox and toybox do"
+    )?;
+    if let Some(mended) = mended {
+        let mended = shown_name(alloc, mended)?;
+        message.push_str("; for all seds write \"")?;
+        message.push_str(mended.as_str())?;
+        message.push_str("\"")?;
+    }
+    Ok(message)
 }
 
 /// On what the answer depends, in words. An empty expression is the one before, and an empty list would go on behind its bracket.
@@ -253,7 +324,8 @@ fn hint_of(role: Role) -> &'static str {
         Role::Operand | Role::Names | Role::Added => DASHES,
         Role::Options => "write the options before the operands",
         Role::Sed => NAMED,
-        Role::Runner => "write what runs the sed; if it is nothing, say so with --assume NAME=",
+        Role::Runner => "write what runs the sed",
+        Role::Delimiter { .. } => DELIMITER,
         _ => CASE,
     }
 }

@@ -152,7 +152,7 @@ fn is_set(value: KnownValue) -> bool
 {
     match value {
         KnownValue::Line(_) | KnownValue::Made(_) | KnownValue::Empty => true,
-        KnownValue::Given => false,
+        KnownValue::Given | KnownValue::Unset => false,
     }
 }
 

@@ -6,6 +6,8 @@
 #![tactic(auto)]
 
 mod answers;
+mod assumed;
+mod conditions;
 mod errors;
 mod file;
 mod finder;

@@ -1,7 +1,7 @@
 //! What is asked of a scan.
 
 use sedck_explanation::{Denied, Level};
-use sedck_find::Assumed;
+use sedck_find::Assumptions;
 use sedck_hosts::Kind;
 use std::alloc::Global;
 
@@ -21,8 +21,7 @@ pub struct Scan<'a> {
     pub paths: &'a [&'a str],
     /// What all files are taken for; none where each is taken for what its name and its first line say.
     pub kind: Option<Kind>,
-    /// Values of variables.
-    pub assumed: &'a [Assumed<'a>],
+    pub assumed: Assumptions<'a>,
     /// What a script may not have.
     pub denied: Denied,
     pub look: Look,

@@ -5,7 +5,8 @@ ghost use Rattle.std.specs.Io.KnownBytes.{Keeps};
 ghost use Rattle.sedck_calls_in_files.specs.Scanned.{PathStatus, IsWorstOf};
 ghost use Rattle.sedck_calls_in_files.specs.Private.Contents.{ContentsStatus, SourceStatus};
 
-use crate::answers::{script_report, write_report};
+use crate::answers::{path_report, write_report};
+use crate::assumed::assumed_texts;
 use crate::errors::{Unread, ended, write_named};
 use crate::file::explain_text;
 use crate::finder::Finder;
@@ -14,7 +15,7 @@ use crate::request::{File, FileScan, Look, Scan};
 use sedck_cert::streams::{Failed, FromRead, Sink, Source, write_all};
 use sedck_engines::{Input as InputOf, Opener, read_up_to};
 use sedck_explanation::{Status, Unexplained, explain};
-use sedck_formats::{Counts, json_counts, json_unreadable};
+use sedck_formats::{Counts, assumed_line, json_counts, json_unreadable};
 use std::alloc::{AllocError, Global};
 use std::fs;
 use std::fs::Files;
@@ -99,7 +100,7 @@ impl<R: Files + Input + AllocGlobal + Clone + Drop, O: Opener, F: Finder> Walk<'
             let one = self.visit_path(path, pass, out)?;
             status = status.worse(one);
         }
-        write_counts(self.rt.alloc(), self.scan.look, pass.counts, status, out)?;
+        write_counts(self.rt.alloc(), self.scan, pass.counts, status, out)?;
         Ok(status)
     }
 
@@ -265,7 +266,10 @@ impl<R: Files + Input + AllocGlobal + Clone + Drop, O: Opener, F: Finder> Walk<'
         let explanation = explain(alloc, Some(path.as_bytes()), text, None, self.scan.denied)?;
         pass.counts.scripts = pass.counts.scripts.saturating_add(1);
         let status = explanation.status;
-        write_report(out, script_report(alloc, self.scan, path, &explanation))?;
+        write_report(
+            out,
+            path_report(alloc, self.scan, path, &explanation, false),
+        )?;
         Ok(status)
     }
 
@@ -314,18 +318,22 @@ impl<R: Files + Input + AllocGlobal + Clone + Drop, O: Opener, F: Finder> Walk<'
     }
 }
 
-/// Writes how many calls there are, where the look has such a line.
+/// Writes what was assumed, and how many calls there are, where the look has such a line.
 fn write_counts<W: Sink>(
     alloc: Global,
-    look: Look,
+    scan: &Scan,
     counts: Counts,
     status: Status,
     out: &mut W,
 ) -> Result<(), Unexplained> {
-    match look {
-        Look::Text { .. } => write_report(out, counts.text(alloc)),
-        Look::Json => write_report(out, json_counts(alloc, counts, status)),
-        Look::Gcc => Ok(()),
+    let assumed = assumed_texts(alloc, &scan.assumed)?;
+    match scan.look {
+        Look::Text { .. } => {
+            write_report(out, assumed_line(alloc, "", &assumed))?;
+            write_report(out, counts.text(alloc))
+        }
+        Look::Json => write_report(out, json_counts(alloc, counts, &assumed, status)),
+        Look::Gcc => write_report(out, assumed_line(alloc, "sedck-explain: note: ", &assumed)),
     }
 }
 

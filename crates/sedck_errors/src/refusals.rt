@@ -14,7 +14,7 @@ use sedck_advice::{
     other_kind, script_hint, script_mend,
 };
 use sedck_bre::ReFault;
-use sedck_report::{Code, Finding, Fix, Level, NewText, end_behind, position_at, skipped};
+use sedck_report::{Code, Finding, Fix, Level, end_behind, position_at, skipped};
 use sedck_script::ScriptFault;
 use std::alloc::{AllocError, Global};
 
@@ -36,7 +36,7 @@ pub fn script_refusal(alloc: Global, text: &[u8], fault: ScriptFault) -> Result<
         None => (
             reason_of(fault, spot),
             script_hint(fault, spot),
-            script_mend(fault, spot),
+            script_mend(text, fault, spot),
         ),
     };
     let position = position_at(text, offset);
@@ -72,12 +72,12 @@ fn refusal_words(
 /// What the mend of a fault at this offset replaces, and by what.
 fn fix_at(text: &[u8], offset: usize, mend: Mend) -> Fix
     ensures start { result.start ≡ position_in text.now (offset - mend.before) }
-    ensures text { result.text ≡ NewText.Plain mend.text }
+    ensures text { result.text ≡ mend.text }
 {
     Fix {
         start: position_at(text, offset.saturating_sub(mend.before)),
         end: position_at(text, offset.saturating_add(mend.after)),
-        text: NewText::Plain(mend.text),
+        text: mend.text,
     }
 }
 

@@ -46,7 +46,7 @@ behind (b ∷ prefix) (c ∷ text) = if b == c then behind prefix text else None
 abbrev pub takes_value : List ℕ → Bool
 takes_value word =
     bytes_eq word (codes "--level") || (bytes_eq word (codes "--stdin-filename") || (bytes_eq word (codes "--as")
-    || (bytes_eq word (codes "--assume") || bytes_eq word (codes "--at"))))
+    || (bytes_eq word (codes "--assume") || (bytes_eq word (codes "--at") || bytes_eq word (codes "--assume-set")))))
 
 -- a word with no value in it
 abbrev pub after_word : Asked → List ℕ → Asked

@@ -141,7 +141,10 @@ fn answer<R: Files + Input + AllocGlobal + Clone + Drop, O: Opener, F: Finder, W
 /// What is said of options that aren't for what is asked for.
 fn misplaced(request: &Request) -> Option<&'static [u8]> {
     if !request.calls && (request.kind.is_some() || !request.assumed.is_empty()) {
-        return Some(b"--as and --assume are for --calls\n");
+        return Some(b"--as, --assume and --assume-set are for --calls\n");
+    }
+    if !request.calls && request.mends {
+        return Some(b"--mend is for --calls\n");
     }
     if request.comments == Comments::LeftOut && !request.format.is_plain() {
         return Some(b"--no-comments is for --format sed\n");

@@ -14,6 +14,7 @@ mod reading;
 mod request;
 mod scanning;
 mod session;
+mod sets;
 mod unexplained;
 mod words;
 

@@ -112,7 +112,7 @@ impl<'a> Reading<'a> {
             "--sed" => self.sed = true,
             "--calls" => self.calls = true,
             "--" => self.next = Next::Path,
-            "--level" | "--stdin-filename" | "--as" | "--assume" | "--at" => {
+            "--level" | "--stdin-filename" | "--as" | "--assume" | "--at" | "--assume-set" => {
                 self.next = Next::Other
             }
             _ => {

@@ -6,6 +6,7 @@ ghost use Rattle.sedck_explain_cli.specs.Requests.{IsRequest, denied_by, has_byt
 
 use crate::format::{Format, NAMES, Style};
 use crate::reading::{Reading, is_among, read_words};
+use crate::sets::{AUTOCONF, SETS};
 use clap::{Arg, ArgAction, ArgMatches, Command, Error};
 use sedck_calls_in_files::At;
 use sedck_explanation::{Denied, Level};
@@ -37,6 +38,8 @@ pub struct Request<'a> {
     pub kind: Option<Kind>,
     /// Values of variables in them.
     pub assumed: Vec<Assumed<'a>>,
+    /// Whether commands in them are read with other delimiters, where they have their own in lists.
+    pub mends: bool,
     /// Where the call is whose script is written in its plain spelling.
     pub at: Option<At>,
     /// The scripts' paths, at least one; `-` is standard input. Where the words of a call follow, or calls in files are explained, those
@@ -93,6 +96,7 @@ pub fn request_of<'a>(alloc: Global, words: &'a [String]) -> Result<Request<'a>,
         calls,
         kind: kind_of(&matches),
         assumed: assumed_of(alloc, &matches)?,
+        mends: matches.get_flag("mend"),
         at: at_of(&matches),
         scripts: scripts_of(paths, sed || calls)?,
     })
@@ -170,19 +174,34 @@ fn number_of(word: &str) -> usize {
     word.parse::<usize>().unwrap_or(0)
 }
 
-/// The values of variables. What has no `=` is a name with an empty value.
+/// The values of variables, and after them those of sets. What has no `=` is the name of a variable that isn't set.
 fn assumed_of<'a>(alloc: Global, matches: &ArgMatches<'a>) -> Result<Vec<Assumed<'a>>, AllocError> {
     let mut assumed = Vec::new(alloc);
     if let Some(words) = matches.get_strs("assume") {
         for word in words {
-            let (name, value) = word.split_once('=').unwrap_or((*word, ""));
-            assumed.push(Assumed {
-                name: name.as_bytes(),
-                value: value.as_bytes(),
-            })?;
+            assumed.push(assumed_by(word))?;
+        }
+    }
+    if matches.get_str("assume-set").is_some() {
+        for word in AUTOCONF {
+            assumed.push(assumed_by(word))?;
         }
     }
     Ok(assumed)
+}
+
+/// What is assumed by the word.
+fn assumed_by(word: &str) -> Assumed<'_> {
+    match word.split_once('=') {
+        Some((name, value)) => Assumed {
+            name: name.as_bytes(),
+            value: Some(value.as_bytes()),
+        },
+        None => Assumed {
+            name: word.as_bytes(),
+            value: None,
+        },
+    }
 }
 
 /// What is denied, by these lists of names, in the locale of this name.
@@ -250,7 +269,7 @@ struct Choice {
 }
 
 /// The options, in the order of the help.
-static CHOICES: [Choice; 12] = [
+static CHOICES: [Choice; 14] = [
     Choice {
         name: "format",
         takes: Takes::OneOf("FORMAT", NAMES),
@@ -304,7 +323,17 @@ static CHOICES: [Choice; 12] = [
     Choice {
         name: "assume",
         takes: Takes::Each("NAME=VALUE"),
-        help: "The value of a variable in the files of --calls",
+        help: "The value of a variable in the files of --calls; without `=` it is\nunset",
+    },
+    Choice {
+        name: "assume-set",
+        takes: Takes::OneOf("SET", SETS),
+        help: "What holds of the variables in the files of --calls, by the name of\na set [autoconf]",
+    },
+    Choice {
+        name: "mend",
+        takes: Takes::Nothing,
+        help: "Read commands of --calls that have their delimiter in a list as with\nanother one, under a condition",
     },
     Choice {
         name: "at",

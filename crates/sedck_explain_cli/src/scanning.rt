@@ -13,6 +13,7 @@ use sedck_calls_in_files::{Finder, Look, Scan, Walk, end, scan_files, spell_call
 use sedck_cert::streams::Sink;
 use sedck_engines::Opener;
 use sedck_explanation::Status;
+use sedck_find::Assumptions;
 use std::fs::Files;
 use std::io::Input;
 
@@ -64,7 +65,10 @@ fn scan_of<'a>(request: &'a Request<'_>, look: Look) -> Scan<'a>
     Scan {
         paths: &request.scripts,
         kind: request.kind,
-        assumed: &request.assumed,
+        assumed: Assumptions {
+            variables: &request.assumed,
+            mends: request.mends,
+        },
         denied: request.denied,
         look,
         least: request.least,

@@ -1,7 +1,9 @@
 //! Finds the calls of sed in a file.
 
 use crate::assigning::is_assignment;
-use crate::found::{Assumed, Found, FoundCall, FoundScript, OpenHole, Role, Unknown};
+use crate::found::{
+    Assumptions, Followed, Found, FoundCall, FoundScript, KnownValue, OpenHole, Role, Unknown,
+};
 use crate::macros::macros_of;
 use crate::mentions::{editor_in, mention_in};
 use crate::names::{Names, Scope};
@@ -47,7 +49,7 @@ pub fn calls_in(
     kind: Kind,
     path: &str,
     file: &[u8],
-    assumed: &[Assumed],
+    assumed: Assumptions<'_>,
 ) -> Result<Found> {
     let names = Names {
         alloc,
@@ -255,12 +257,14 @@ fn found_call(
         named: &named,
         has_no_match: names.settings.has_no_match,
         macros: &names.macros,
+        mends: names.assumed.mends,
     };
-    let script = match changed_by(names, name, others, part)? {
+    let mut script = match changed_by(names, name, others, part)? {
         Some(unknown) => FoundScript::Unknown(unknown),
         None if !are_known => FoundScript::Unknown(Unknown::Words),
         None => script_of(names.alloc, &words, around)?,
     };
+    note_assumptions(filler, held, &mut script)?;
     let overwritten = overwritten_by(filler, held, part.runner, &script, &words)?;
     Ok(Some(FoundCall {
         start: name_start(name, part),
@@ -270,6 +274,26 @@ fn found_call(
         overwritten,
         c_locale: part.c_locale,
     }))
+}
+
+/// Notes which conditions of a script are on variables whose values may be given, and takes that POSIXLY_CORRECT isn't set for one that is,
+/// where it is assumed.
+fn note_assumptions(filler: &mut Filler<'_>, held: &Held, script: &mut FoundScript) -> Result<()> {
+    let FoundScript::Text { holes, .. } = script else {
+        return Ok(());
+    };
+    let names = filler.names;
+    let has_order = names.assumed.has_order();
+    for hole in holes.iter_mut() {
+        hole.is_variable = names.variable_at(hole.hole, held.spot()).is_some();
+        if matches!(hole.role, Role::Options) && has_order {
+            let Hole { start, end, .. } = hole.hole;
+            let value = KnownValue::Unset;
+            filler.followed.push(Followed { start, end, value })?;
+        }
+    }
+    holes.retain(|hole| !(matches!(hole.role, Role::Options) && has_order));
+    Ok(())
 }
 
 /// The offset in the file of the name of a call, without what may run it in the same word.

@@ -3,11 +3,29 @@
 use sedck_call::{Call, CallFault};
 use sedck_origin::{Hole, Traced};
 
-/// A variable with a value that was given with the call of this program.
+/// A variable with a value that was given with the call of this program, or with none where it isn't set.
 #[derive(Clone, Copy)]
 pub struct Assumed<'a> {
     pub name: &'a [u8],
-    pub value: &'a [u8],
+    pub value: Option<&'a [u8]>,
+}
+
+/// What is assumed, as was given with the call of this program.
+#[derive(Clone, Copy)]
+pub struct Assumptions<'a> {
+    /// Variables; of several with one name the first one counts.
+    pub variables: &'a [Assumed<'a>],
+    /// Whether a script is read with other delimiters where a list has the delimiter, under the condition that a sed takes it for a part of
+    /// the list.
+    pub mends: bool,
+}
+
+impl Assumptions<'_> {
+    /// Whether it is assumed that POSIXLY_CORRECT isn't set.
+    pub(crate) fn has_order(&self) -> bool {
+        let mut variables = self.variables.iter();
+        variables.any(|one| one.name == b"POSIXLY_CORRECT".as_slice() && one.value.is_none())
+    }
 }
 
 /// A call of sed.
@@ -60,6 +78,8 @@ pub enum KnownValue {
     Empty,
     /// It was given with the call of this program.
     Given,
+    /// It is that POSIXLY_CORRECT isn't set, which was given with the call of this program.
+    Unset,
 }
 
 /// The script of a call.
@@ -106,6 +126,8 @@ pub struct OpenHole {
     pub role: Role,
     /// The delimiter of the expression or the replacement.
     pub delimiter: u8,
+    /// Whether it is a variable whose value may be given with the call of this program.
+    pub is_variable: bool,
 }
 
 impl OpenHole {
@@ -115,6 +137,7 @@ impl OpenHole {
             hole,
             role,
             delimiter: 0,
+            is_variable: false,
         }
     }
 }
@@ -147,6 +170,9 @@ pub enum Role {
     Added,
     /// The options behind an operand, which are none where POSIXLY_CORRECT is set.
     Options,
+    /// A command that has its delimiter in a list: it is read with the delimiter of the hole. The file may have the whole command as it is,
+    /// without quoting; and the command may be an address between slashes.
+    Delimiter { is_whole: bool, is_bare: bool },
 }
 
 /// What is found in a file.

@@ -155,6 +155,7 @@ impl Roles {
             hole,
             role,
             delimiter,
+            is_variable: false,
         })?;
         self.follows_hole = true;
         self.follows_hyphen = false;

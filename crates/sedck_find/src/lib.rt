@@ -10,6 +10,7 @@ mod conditions;
 mod found;
 mod holes;
 mod macros;
+mod mending;
 mod mentions;
 mod names;
 mod overwriting;
@@ -25,6 +26,6 @@ mod words;
 
 pub use calls::calls_in;
 pub use found::{
-    Assumed, Followed, Found, FoundCall, FoundScript, KnownValue, OpenHole, Overwritten, Role,
-    Unknown,
+    Assumed, Assumptions, Followed, Found, FoundCall, FoundScript, KnownValue, OpenHole,
+    Overwritten, Role, Unknown,
 };

@@ -1,10 +1,11 @@
 //! What is known of the values of variables.
 
-use crate::found::Assumed;
+use crate::found::Assumptions;
 use crate::settings::Settings;
+use crate::units::is_one_among;
 use crate::values::Value;
 use sedck_hosts::Kind;
-use sedck_origin::{Hole, Result, Unit, hole_name, is_among};
+use sedck_origin::{Hole, Result, Unit, hole_name};
 use sedck_shell::{Form, Site};
 use std::alloc::Global;
 use std::collections::BTreeMap;
@@ -64,7 +65,7 @@ pub(crate) struct Names<'a> {
     pub kind: Kind,
     pub form: Form,
     pub file: &'a [u8],
-    pub assumed: &'a [Assumed<'a>],
+    pub assumed: Assumptions<'a>,
     pub facts: BTreeMap<Vec<u8>, Fact>,
     /// For each text the offset of the first command that may set variables which it doesn't name.
     pub open: BTreeMap<usize, usize>,
@@ -142,23 +143,30 @@ impl<'a> Names<'a> {
         self.kind == Kind::Autoconf
     }
 
+    /// Whether make replaces the hole.
+    fn is_made(&self, hole: Hole) -> bool {
+        self.kind == Kind::Make && !is_doubled(self.file, hole.start)
+    }
+
+    /// The name of the variable that is the hole, which is there, if its value may be given with the call of this program.
+    pub fn variable_at(&self, hole: Hole, spot: Spot) -> Option<&'a [u8]> {
+        let name = replaced_name(self.written_hole(hole), self.kind)?;
+        (spot.scope != Scope::Other || self.is_made(hole)).then_some(name)
+    }
+
     /// The value that replaces the hole, which is there.
     pub fn value_of(&self, hole: Hole, spot: Spot) -> Option<Value<'_>> {
-        let written = self.written_hole(hole);
-        let name = replaced_name(written, self.kind)?;
-        let is_made = self.kind == Kind::Make && !is_doubled(self.file, hole.start);
-        if spot.scope == Scope::Other && !is_made {
-            return None;
+        let name = self.variable_at(hole, spot)?;
+        let mut assumed = self.assumed.variables.iter();
+        if let Some(one) = assumed.find(|one| one.name == name) {
+            return Some(Value::Given(one.value.unwrap_or(&[])));
         }
-        if let Some(one) = self.assumed.iter().find(|one| one.name == name) {
-            return Some(Value::Given(one.value));
-        }
-        if written.first() == Some(&b'@') {
+        if self.written_hole(hole).first() == Some(&b'@') {
             return None;
         }
         let fact = self.facts.get(name)?;
         let is_there = match self.kind {
-            Kind::Make => is_made && fact.spot.site.is_certain && !self.is_open,
+            Kind::Make => self.is_made(hole) && fact.spot.site.is_certain && !self.is_open,
             _ => self.is_followed(fact, name, hole, spot),
         };
         match &fact.value {
@@ -177,7 +185,7 @@ impl<'a> Names<'a> {
         let may_split = hole.way.is_split() && self.facts.get(b"IFS".as_slice()).is_some();
         let at = hole.start;
         let is_kept = is_followed(fact, Spot { at, ..spot }, open);
-        is_kept && !self.is_open && !may_split && !is_set_by_shell(name)
+        is_kept && !self.is_open && !may_split && !is_one_among(name, SET_BY_SHELL)
     }
 }
 
@@ -202,18 +210,11 @@ fn is_followed(fact: &Fact, used: Spot, open: Option<usize>) -> bool {
     is_before && is_reached && is_kept
 }
 
-/// Whether the shell sets the variable by itself.
-fn is_set_by_shell(name: &[u8]) -> bool {
-    SET_BY_SHELL.iter().any(|names| is_among(name, names))
-}
-
 /// Variables that a shell sets by itself.
-static SET_BY_SHELL: &'static [&'static [&'static str]] = &[
-    &["_", "IFS", "PWD", "OLDPWD", "UID", "EUID", "PPID", "GROUPS"],
-    &["REPLY", "OPTARG", "OPTIND", "OPTERR", "LINENO", "MAPFILE"],
-    &["RANDOM", "SRANDOM", "SECONDS", "LINES", "COLUMNS"],
-    &["EPOCHSECONDS", "EPOCHREALTIME"],
-    &["COPROC", "DIRSTACK", "HISTCMD"],
+static SET_BY_SHELL: &'static [&'static str] = &[
+    "_ IFS PWD OLDPWD UID EUID PPID GROUPS REPLY OPTARG OPTIND OPTERR LINENO MAPFILE",
+    "RANDOM SRANDOM SECONDS LINES COLUMNS EPOCHSECONDS EPOCHREALTIME COPROC DIRSTACK",
+    "HISTCMD",
 ];
 
 /// The name of the variable whose value replaces all that is written: `$NAME`, `${NAME}`, `@NAME@`, and make's `$(NAME)`.

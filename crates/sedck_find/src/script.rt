@@ -4,6 +4,7 @@ use crate::conditions::Conditions;
 use crate::found::{FoundScript, OpenHole, Role, Unknown};
 use crate::holes::roles_of;
 use crate::macros::{has_bracket, has_macro_hole, has_macro_name};
+use crate::mending::mended;
 use crate::parts::Runner;
 use crate::words::{CallWord, LONGEST};
 use sedck_call::{Call, CallFault, CallOption, Given, Piece, call_of};
@@ -27,6 +28,8 @@ pub(crate) struct Around<'a> {
     pub has_no_match: bool,
     /// The names of the macros of M4 that the file defines, in order.
     pub macros: &'a [Vec<u8>],
+    /// Whether delimiters in lists are parts of these.
+    pub mends: bool,
 }
 
 /// The script of a call with these words.
@@ -75,9 +78,12 @@ fn script_in(
     if is_suffix(&call, words) {
         return Ok(FoundScript::Unknown(Unknown::Suffix));
     }
-    let Some((text, mut holes)) = roles_of(alloc, &call, words, around.here)? else {
+    let Some((mut text, mut holes)) = roles_of(alloc, &call, words, around.here)? else {
         return Ok(FoundScript::Unknown(Unknown::Part));
     };
+    if around.mends {
+        text = mended(alloc, text, &mut holes)?;
+    }
     let conditions = Conditions::of(alloc, &call, words, around.name, around.runner)?;
     if conditions.is_unknown {
         return Ok(FoundScript::Unknown(Unknown::Words));

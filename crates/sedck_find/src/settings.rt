@@ -20,6 +20,9 @@ pub(crate) struct Settings {
 /// Names of variables that are tables of programs and aliases.
 static TABLES: &'static [&'static str] = &["BASH_CMDS", "BASH_ALIASES"];
 
+/// An alias that each `configure` has for zsh: with it and without it the word is the same words.
+const WORDS: &str = "${1+\"$@\"}=\"$@\"";
+
 /// The same for zsh alone.
 static TABLES_OF_ZSH: &'static [&'static str] = &[
     "aliases[",
@@ -97,6 +100,9 @@ impl Names<'_> {
 
     /// Notes what aliases with these operands replace: their names, and with an option any word.
     pub fn note_aliases(&mut self, operands: &[ShellWord]) -> Result<()> {
+        if matches!(operands, [option, alias] if option.is("-g") && alias.is(WORDS)) {
+            return Ok(());
+        }
         for word in operands {
             let is_option = byte_at(&word.units, 0) == Some(b'-');
             if is_option && has_letter(&word.units, b"gs") {

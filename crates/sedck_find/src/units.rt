@@ -17,10 +17,10 @@ pub(crate) fn bytes_of(alloc: Global, units: &[Unit]) -> Result<Option<Vec<u8>>>
 
 /// The units behind the last `/`.
 pub(crate) fn last_part(units: &[Unit]) -> &[Unit] {
-    match units.iter().rposition(|unit| unit.byte() == Some(b'/')) {
-        Some(slash) => units.get(slash.saturating_add(1)..).unwrap_or(&[]),
-        None => units,
-    }
+    let slash = units.iter().rposition(|unit| unit.byte() == Some(b'/'));
+    units
+        .get(slash.map_or(0, |slash| slash.saturating_add(1))..)
+        .unwrap_or(&[])
 }
 
 /// How many units at the beginning are a name of a variable.
@@ -39,4 +39,12 @@ pub(crate) fn has_hole(units: &[Unit]) -> bool {
 /// Whether the last unit is this byte.
 pub(crate) fn ends_with(units: &[Unit], byte: u8) -> bool {
     units.last().is_some_and(|unit| unit.byte() == Some(byte))
+}
+
+/// Whether the name is one of the words in these lists, which have spaces between.
+pub(crate) fn is_one_among(name: &[u8], lists: &[&str]) -> bool {
+    lists.iter().any(|words| {
+        let mut words = words.as_bytes().split(|byte| *byte == b' ');
+        words.any(|word| word == name)
+    })
 }

@@ -1,6 +1,7 @@
 //! How many calls were found, and how many scripts were explained, by their answers.
 
 use crate::call_words::CallAnswer;
+use crate::conditions::{ConditionKind, KIND_COUNT, KINDS, KindCount};
 use crate::written::Written;
 use sedck_explanation::Status;
 use std::alloc::{AllocError, Global};
@@ -24,6 +25,14 @@ pub struct Counts {
     pub scripts: usize,
     /// Files and folders that can't be read.
     pub unreadable: usize,
+    /// Files with calls, or with places that aren't understood, in which all calls are accepted ..
+    pub all_accepted: usize,
+    /// .. or are accepted if what isn't known is as said ..
+    pub all_accepted_if: usize,
+    /// .. or neither.
+    pub others: usize,
+    /// By kinds, in their order.
+    pub conditions: [KindCount; KIND_COUNT],
 }
 
 impl Counts {
@@ -41,6 +50,13 @@ impl Counts {
         unread: 0,
         scripts: 0,
         unreadable: 0,
+        all_accepted: 0,
+        all_accepted_if: 0,
+        others: 0,
+        conditions: [KindCount {
+            conditions: 0,
+            calls: 0,
+        }; KIND_COUNT],
     };
 
     /// Counts a call with this answer.
@@ -57,7 +73,40 @@ impl Counts {
         }
     }
 
-    /// A line that says how many calls were found, and then how many there are of each answer that there is.
+    /// Counts a file, before whose calls the counts were these; it has places that aren't understood, or none.
+    pub fn end_file(&mut self, before: Counts, has_unread: bool) {
+        let calls = self.calls.saturating_sub(before.calls);
+        let accepted = self.accepted.saturating_sub(before.accepted);
+        let accepted_if = self.accepted_if.saturating_sub(before.accepted_if);
+        if has_unread || accepted.saturating_add(accepted_if) < calls {
+            self.others = self.others.saturating_add(1);
+        } else if accepted_if > 0 {
+            self.all_accepted_if = self.all_accepted_if.saturating_add(1);
+        } else if calls > 0 {
+            self.all_accepted = self.all_accepted.saturating_add(1);
+        }
+    }
+
+    /// Counts a condition of this kind, where it is new.
+    pub fn add_condition(&mut self, kind: ConditionKind, is_new: bool) {
+        for (count, (one, _)) in self.conditions.iter_mut().zip(KINDS.iter()) {
+            if is_new && *one == kind {
+                count.conditions = count.conditions.saturating_add(1);
+            }
+        }
+    }
+
+    /// Counts a call that depends on conditions of these kinds.
+    pub fn add_depending(&mut self, kinds: &[ConditionKind]) {
+        for (count, (one, _)) in self.conditions.iter_mut().zip(KINDS.iter()) {
+            if kinds.contains(one) {
+                count.calls = count.calls.saturating_add(1);
+            }
+        }
+    }
+
+    /// A line that says how many calls were found, and then how many there are of each answer that there is; and one on the files with
+    /// calls, where there are some.
     pub fn text(self, alloc: Global) -> Result<Vec<u8>, AllocError> {
         let mut out = Written::new(alloc);
         out.counted(self.calls, " call of sed in ", " calls of sed in ")
@@ -83,8 +132,47 @@ impl Counts {
             out.text("; ").counted(self.scripts, " script", " scripts");
         }
         out.text("\n");
+        self.push_files(&mut out);
         out.finished()
     }
+
+    /// Adds a line with how many files have which answers, where files have calls or places that aren't understood.
+    fn push_files(&self, out: &mut Written) {
+        let accepted = self.all_accepted.saturating_add(self.all_accepted_if);
+        let files = accepted.saturating_add(self.others);
+        if files > 0 {
+            out.counted(files, " file with calls", " files with calls");
+            let parts = [
+                (self.all_accepted, " all accepted"),
+                (
+                    self.all_accepted_if,
+                    " all accepted if what isn't known is as said",
+                ),
+                (self.others, " with others"),
+            ];
+            push_counts(out, &parts);
+            out.text("\n");
+        }
+    }
+}
+
+/// A line with these assumptions, behind this prefix; nothing where there are none.
+pub fn assumed_line(
+    alloc: Global,
+    prefix: &str,
+    assumed: &[String],
+) -> Result<Vec<u8>, AllocError> {
+    let mut out = Written::new(alloc);
+    let mut before = "assumed: ";
+    for one in assumed {
+        out.text(if before == "assumed: " { prefix } else { "" });
+        out.text(before).text("\"").text(one.as_str()).text("\"");
+        before = ", ";
+    }
+    if !assumed.is_empty() {
+        out.text("; a name alone isn't set\n");
+    }
+    out.finished()
 }
 
 /// How many scripts were explained, by their exit statuses.

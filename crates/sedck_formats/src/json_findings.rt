@@ -5,17 +5,20 @@ use crate::json_text::Json;
 use crate::listed::is_listed;
 use crate::names::{Names, Place};
 use crate::words::level_word;
-use sedck_explanation::{Finding, Fix, Level, NewText, Position, Step};
+use sedck_explanation::{Explanation, Finding, Fix, Level, NewText, Position, Step};
+use sedck_parts::delimited;
+use std::alloc::{AllocError, Global};
+use std::str;
 
 /// What explains that a script can't be read.
 const UNREADABLE_PAGE: &str = "FORMATS.md#the-formats-and-statuses-of-sedck-explain";
 
 /// Adds the findings of at least this level.
-pub(crate) fn push_findings(out: &mut Json, names: Names, findings: &[Finding], least: Level) {
+pub(crate) fn push_findings(out: &mut Json, names: Names, explanation: &Explanation, least: Level) {
     out.list("findings");
-    for finding in findings {
+    for finding in &explanation.findings {
         if is_listed(finding, least) {
-            push_finding(out, names, finding);
+            push_finding(out, names, finding, explanation.text);
         }
     }
     out.close("]");
@@ -49,7 +52,7 @@ pub(crate) fn push_unreadable(out: &mut Json, message: &str) {
 /// - `page`: the page that explains the finding, and its heading: a link from the folder `docs`.
 /// - `end`: the first byte after what is meant; null where it isn't known.
 /// - `fix`: a change of the script that mends it; null where there is none.
-fn push_finding(out: &mut Json, names: Names, finding: &Finding) {
+fn push_finding(out: &mut Json, names: Names, finding: &Finding, script: &[u8]) {
     out.open()
         .text("level", level_word(finding.level))
         .text("code", finding.code.name())
@@ -62,32 +65,50 @@ fn push_finding(out: &mut Json, names: Names, finding: &Finding) {
     }
     out.close("]").text("page", page_of(finding));
     push_place(out, "end", names, finding.end);
-    push_fix(out, names, finding.fix);
+    push_fix(out, names, finding.fix, script);
     out.close("}");
 }
 
 /// Adds the text to write in place of a part of the script, whose `end` is the first byte after it.
-fn push_fix(out: &mut Json, names: Names, fix: Option<Fix>) {
-    let Some(Fix { start, end, text }) = fix else {
+fn push_fix(out: &mut Json, names: Names, fix: Option<Fix>, script: &[u8]) {
+    let Some(fix) = fix else {
         out.null("fix");
         return;
     };
+    let Fix { start, end, .. } = fix;
     out.object("fix");
     push_place(out, "start", names, Some(start));
     push_place(out, "end", names, Some(end));
-    push_new_text(out, "text", text);
+    push_new_text(out, "text", fix, script);
     out.close("}");
 }
 
-/// Adds a member that is a text to write.
-pub(crate) fn push_new_text(out: &mut Json, key: &str, text: NewText) {
+/// Adds a member that is the text of the fix of a script.
+pub(crate) fn push_new_text(out: &mut Json, key: &str, fix: Fix, script: &[u8]) {
+    let Fix { start, end, text } = fix;
     match text {
         NewText::Plain(text) => out.text(key, text),
         NewText::Group(inside) => {
             let text = format!(in out.alloc(); "\\({inside}\\)");
             out.words(key, text)
         }
+        NewText::Delimited { other, is_bare } => {
+            let part = script.get(start.offset..end.offset).unwrap_or(&[]);
+            let text = delimited_text(out.alloc(), part, other, is_bare);
+            out.words(key, text)
+        }
     };
+}
+
+/// A command in ASCII with this delimiter.
+fn delimited_text(
+    alloc: Global,
+    part: &[u8],
+    other: u8,
+    is_bare: bool,
+) -> Result<String, AllocError> {
+    let bytes = delimited(alloc, part, other, is_bare)?;
+    String::from_str(alloc, str::from_utf8(&bytes).unwrap_or(""))
 }
 
 /// Adds a step of a loop or along an edge.

@@ -6,6 +6,7 @@ ghost use Rattle.std.specs.Str.{IsAscii};
 ghost use Rattle.sedck_report.specs.Ascii.{IsPrintableLine};
 
 use crate::call_words::{CallAnswer, CallAt};
+use crate::conditions::KINDS;
 use crate::counts::Counts;
 use crate::json_findings::{push_findings, push_place, push_positions, push_unreadable};
 use crate::json_text::Json;
@@ -109,9 +110,14 @@ pub fn json_place(
 
 /// Adds the words of the call.
 fn push_words(out: &mut Json, words: &[String]) {
-    out.list("words");
-    for word in words {
-        out.item(word.as_str());
+    push_texts(out, "words", words);
+}
+
+/// Adds a list of texts.
+fn push_texts(out: &mut Json, key: &str, texts: &[String]) {
+    out.list(key);
+    for text in texts {
+        out.item(text.as_str());
     }
     out.close("]");
 }
@@ -123,14 +129,41 @@ fn push_words(out: &mut Json, words: &[String]) {
 /// - `scripts`: scripts in files of their own, which are below a folder.
 /// - `unreadable`: files and folders that can't be read.
 /// - `status`: the exit status.
-pub fn json_counts(alloc: Global, counts: Counts, status: Status) -> Result<Vec<u8>, AllocError>
+/// - `files_accepted`, `files_accepted_if`, `files_other`: of the files with calls, or with places that aren't understood, those in which all
+///   calls are accepted, those in which they are if what isn't known is as said, and the others.
+/// - `conditions`: for each kind how many conditions there are, each counted once in a file, and how many calls depend on such ones.
+/// - `assumed`: the variables as `--assume` has them, and those of sets, in the form of a file's name.
+pub fn json_counts(
+    alloc: Global,
+    counts: Counts,
+    assumed: &[String],
+    status: Status,
+) -> Result<Vec<u8>, AllocError>
     ensures ascii { IfOk result (λ line. IsAscii line.items) }
     ensures line { IfOk result (λ line. IsPrintableLine line.items) }
 {
     let mut out = Json::new(alloc);
     push_counts(&mut out, &counts);
-    out.status(status).text("version", VERSION).close("}");
+    out.status(status).text("version", VERSION);
+    push_conditions(&mut out, &counts);
+    push_texts(&mut out, "assumed", assumed);
+    out.close("}");
     out.finished()
+}
+
+/// Adds on what calls depend.
+fn push_conditions(out: &mut Json, counts: &Counts) {
+    out.list("conditions");
+    for (count, (_, name)) in counts.conditions.iter().zip(KINDS.iter()) {
+        if count.conditions > 0 {
+            out.open()
+                .text("kind", name)
+                .number("conditions", count.conditions as u64)
+                .number("calls", count.calls as u64)
+                .close("}");
+        }
+    }
+    out.close("]");
 }
 
 /// Begins the object with the counts.
@@ -147,7 +180,10 @@ fn push_counts(out: &mut Json, counts: &Counts) {
         .number("unknown", counts.unknown as u64)
         .number("unread", counts.unread as u64)
         .number("scripts", counts.scripts as u64)
-        .number("unreadable", counts.unreadable as u64);
+        .number("unreadable", counts.unreadable as u64)
+        .number("files_accepted", counts.all_accepted as u64)
+        .number("files_accepted_if", counts.all_accepted_if as u64)
+        .number("files_other", counts.others as u64);
 }
 
 /// Adds what belongs to an answer, and ends the object.
@@ -163,7 +199,7 @@ fn push_details(out: &mut Json, names: Names, explanation: &Explanation, least: 
     push_bounds(out, &explanation.answer);
     push_files(out, "reads", names, &explanation.reads);
     push_files(out, "writes", names, &explanation.writes);
-    push_findings(out, names, &explanation.findings, least);
+    push_findings(out, names, explanation, least);
     push_positions(out, "commands", names, &explanation.positions);
     out.text("version", VERSION).close("}");
 }

@@ -9,6 +9,7 @@
 mod call_words;
 mod codes;
 mod columns;
+mod conditions;
 mod counts;
 mod gcc;
 mod json_findings;
@@ -27,7 +28,8 @@ mod written;
 
 pub use call_words::{CallAnswer, CallAt, text_answer};
 pub use codes::page_of;
-pub use counts::{Counts, ScriptCounts};
+pub use conditions::{ConditionKind, KindCount};
+pub use counts::{Counts, ScriptCounts, assumed_line};
 pub use gcc::gcc_report;
 pub use json_line::{json_call, json_counts, json_place, json_report, json_unreadable};
 pub use letters::{Letters, line_in, mark_len};

@@ -172,13 +172,13 @@ fn push_steps(out: &mut Json, script: Script, steps: &[Step]) {
 
 /// Adds the change of the script that mends it.
 fn push_fix(out: &mut Json, script: Script, fix: Fix) {
-    let Fix { start, end, text } = fix;
+    let Fix { start, end, .. } = fix;
     out.list("fixes").open().list("artifactChanges").open();
     push_artifact(out, script, Some(start));
     out.list("replacements").open();
     push_region(out, "deletedRegion", script, start, Some(end));
     out.object("insertedContent");
-    push_new_text(out, "text", text);
+    push_new_text(out, "text", fix, script.text);
     out.close("}}]}]}]");
 }
 

@@ -1,0 +1,23 @@
+//! What is assumed of files, in words.
+
+use sedck_explanation::shown_name;
+use sedck_find::Assumptions;
+use std::alloc::{AllocError, Global};
+
+/// The variables as `--assume` has them: a name with its value, or alone where it isn't set.
+pub(crate) fn assumed_texts(
+    alloc: Global,
+    assumed: &Assumptions,
+) -> Result<Vec<String>, AllocError> {
+    let mut texts = Vec::new(alloc);
+    for one in assumed.variables {
+        let mut text = shown_name(alloc, one.name)?;
+        if let Some(value) = one.value {
+            let value = shown_name(alloc, value)?;
+            text.push_str("=")?;
+            text.push_str(value.as_str())?;
+        }
+        texts.push(text)?;
+    }
+    Ok(texts)
+}

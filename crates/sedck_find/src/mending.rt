@@ -1,0 +1,91 @@
+//! Scripts whose commands have their delimiters in lists, with other delimiters.
+
+use crate::found::{OpenHole, Role};
+use crate::words::{add, empty};
+use sedck_origin::{Hole, Origin, Result, Traced, Way};
+use sedck_parts::{Mend, mends_in};
+use std::alloc::Global;
+
+/// The script with another delimiter for each command that has its own in a list, where the file has that. Of such a command the delimiters
+/// are holes, and it is a condition.
+pub(crate) fn mended(alloc: Global, text: Traced, holes: &mut Vec<OpenHole>) -> Result<Traced> {
+    let mends = mends_in(alloc, &text.bytes)?;
+    if mends.is_empty() {
+        return Ok(text);
+    }
+    let mut written = empty(alloc);
+    let mut number = 0usize;
+    for (offset, (byte, origin)) in text.bytes.iter().zip(text.origins.iter()).enumerate() {
+        let mend = mends.get(number).copied();
+        match mend.filter(|mend| mend.has(offset) && is_in_file(&text.origins, *mend)) {
+            Some(mend) => add_delimiter(&mut written, holes, (mend, offset), &text.origins)?,
+            None => add(&mut written, *byte, *origin)?,
+        }
+        number = number.saturating_add(usize::from(mend.is_some_and(|mend| mend.last == offset)));
+    }
+    Ok(written)
+}
+
+/// Adds the other delimiter in place of that at the offset, and with the first one the condition.
+fn add_delimiter(
+    written: &mut Traced,
+    holes: &mut Vec<OpenHole>,
+    (mend, offset): (Mend, usize),
+    origins: &[Origin],
+) -> Result<()> {
+    let hole = hole_between(origins, offset, offset);
+    if offset == mend.first {
+        let whole = hole_between(origins, mend.first, mend.last);
+        let part = origins.get(mend.first..mend.last).unwrap_or(&[]);
+        let is_whole = is_unquoted(part, whole.start);
+        let is_bare = mend.is_bare;
+        holes.push(OpenHole {
+            hole: whole,
+            role: Role::Delimiter { is_whole, is_bare },
+            delimiter: mend.other,
+            is_variable: false,
+        })?;
+        if is_bare {
+            add(written, b'\\', Origin::Hole(hole))?;
+        }
+    }
+    add(written, mend.other, Origin::Hole(hole))
+}
+
+/// Whether the file has each of the delimiters.
+fn is_in_file(origins: &[Origin], mend: Mend) -> bool {
+    let is_middle = mend.middle.is_none_or(|middle| is_at(origins, middle));
+    is_at(origins, mend.first) && is_middle && is_at(origins, mend.last)
+}
+
+/// Whether the file has this byte.
+fn is_at(origins: &[Origin], index: usize) -> bool {
+    matches!(origins.get(index), Some(Origin::At(_)))
+}
+
+/// Whether the file has these bytes and holes one right behind another, from this offset on.
+fn is_unquoted(origins: &[Origin], start: usize) -> bool {
+    let mut next = start;
+    for origin in origins {
+        next = match *origin {
+            Origin::At(offset) if offset == next => offset.saturating_add(1),
+            // Several bytes may be in the place of one hole.
+            Origin::Hole(hole) if hole.start == next || hole.end == next => hole.end,
+            _ => return false,
+        };
+    }
+    true
+}
+
+/// What the file has from the one of these bytes to the other one.
+fn hole_between(origins: &[Origin], first: usize, last: usize) -> Hole {
+    let offset_of = |index: usize| match origins.get(index) {
+        Some(Origin::At(offset)) => *offset,
+        _ => 0,
+    };
+    Hole {
+        start: offset_of(first),
+        end: offset_of(last).saturating_add(1),
+        way: Way::Quoted,
+    }
+}
