@@ -1,5 +1,5 @@
 #!/usr/bin/env python3
-"""Measures `sedck` on large inputs: wall time, the best and the median of several runs, and peak memory.
+"""Measures `sedck` on large inputs: wall time, the best and the median of several runs, peak memory, and how the time grows.
 
     python3 bench/run.py build/sedck [RUNS]
 
@@ -7,6 +7,7 @@ Each input is made here, in a folder of its own. A run is timed from its start t
 /dev/null, and its status is compared. Peak resident memory is measured with GNU time, where that is installed.
 """
 
+import math
 import os
 import random
 import statistics
@@ -128,6 +129,52 @@ def scripts():
     yield "an idle loop that jumps to and fro 1,364 times", round_trip(to_and_fro), 1
 
 
+def back_to_the_last(labels):
+    """Labels, each followed by a branch to the label before it; the last one is where a run begins."""
+    back = b":l0\n" + b"".join(b":l%d\nb l%d\n" % (at, at - 1) for at in range(1, labels))
+    return b"b l%d\n" % (labels - 1) + back
+
+
+def in_random_order(labels):
+    drawn = list(range(labels))
+    random.Random(3).shuffle(drawn)
+    return round_trip(drawn)
+
+
+def written(size):
+    """Names in increasing order, each of 250 bytes."""
+    return b"".join(b"w %05d%s\n" % (at, b"n" * 242) for at in range(size // 250))
+
+
+# What grows: a name, the subcommand with its status, a function from a size to a script, and three sizes, each twice the one before.
+GROWTH = [
+    ("`p`, by commands", "rank", 0, lambda size: b"p\n" * size, 1000),
+    ("`s/abc/ab/`, by commands", "rank", 0, lambda size: b"s/abc/ab/\n" * size, 1000),
+    ("an idle loop of `p`, by commands", "rank", 1, lambda size: b":a\n" + b"p\n" * (size - 2) + b"ba\n", 1000),
+    ("branches back to the label before, by labels", "rank", 0, back_to_the_last, 500),
+    ("an idle loop through labels in random order, by labels", "rank", 1, in_random_order, 340),
+    ("names written, in increasing order, by bytes", "files", 0, written, 250000),
+    ("one expression, by bytes", "files", 0, lambda size: b"/" + b"e" * size + b"/p", 250000),
+    ("one text, by bytes", "files", 0, lambda size: b"a\\\n" + b"t" * size + b"\n", 250000),
+]
+
+
+def growth(program, runs):
+    """For each shape the best times of three sizes, without that of an empty script, and the exponent between the last two."""
+    print("\n| what grows | sizes | best ms, without an empty script's | exponent |")
+    print("|---|---|---|---|")
+    for name, subcommand, status, make, first in GROWTH:
+        sizes, times = [first, 2 * first, 4 * first], []
+        for script, due in [(b"", 0)] + [(make(size), status) for size in sizes]:
+            with tempfile.TemporaryDirectory(prefix="bench") as folder:
+                with open(os.path.join(folder, "script"), "wb") as handle:
+                    handle.write(script)
+                times.append(min(measure(program, folder, [subcommand, "script"], due) for _ in range(runs)))
+        own = [max(time - times[0], 0.01) for time in times[1:]]
+        print("| %s | %s | %s | %.2f |" % (name, ", ".join(format(size, ",") for size in sizes), ", ".join("%.1f" % time for time in own),
+                                           math.log2(own[2] / own[1])))
+
+
 def measure(program, folder, words, status):
     begin = time.perf_counter()
     done = subprocess.run([program, *words], cwd=folder, stdout=subprocess.DEVNULL)
@@ -170,6 +217,7 @@ def main():
                 handle.write(script)
             times = [measure(program, folder, ["rank", "script"], status) for _ in range(runs)]
         print("| %s | %s | %.1f | %.1f |" % (name, format(len(script), ","), min(times), statistics.median(times)))
+    growth(program, runs)
 
 
 if __name__ == "__main__":

@@ -1,11 +1,11 @@
 -- Rows as sets: what their counts say of their nodes.
-use Rattle.std.proofs.Common.{◌≡◌, ◌≢◌, ℕ, suc, ◌+◌, ◌*◌, ◌/◌, ◌%◌, ◌<◌, ◌≤◌, Bool, true, false, List, replicate, sym, ap, ◌∙◌, arith}
+use Rattle.std.proofs.Common.{◌≡◌, ◌≢◌, ℕ, suc, ◌+◌, ◌*◌, ◌/◌, ◌%◌, ◌<◌, ◌≤◌, Bool, true, false, List, replicate, refl, sym, ap, ◌∙◌, arith}
 use Rattle.std.specs.Prelude.{slice_index, count_ones}
 use Rattle.std.specs.Int.{bit_at}
 use Rattle.std.proofs.lemmas.Bool.{false≢true, true≢false}
 use Rattle.std.proofs.lemmas.Nat.{ones-le}
 use Rattle.sedck_search.specs.Rows.{bit_count}
-use Rattle.sedck_search.specs.Private.NodeSet.{has, IsNodeSet, HasChanged}
+use Rattle.sedck_search.specs.Private.NodeSet.{has, IsNodeSet, IsEmpty, HasChanged}
 use Rattle.sedck_search.proofs.Totals.{total, total_same, total_fewer, total_less, total_one_more, total_within, word_total, set_total}
 use Rattle.sedck_search.proofs.NodeBits.{bit_of, node_bit, at_node, word_below, none_behind, empty_set, empty_nodes}
 
@@ -74,6 +74,14 @@ same_nodes a b x y h same i some = grind (arith, strictly_fewer a b x y h i)
 pub counts_node : (a : List ℕ) → IsNodeSet a → (i : ℕ) → has a i ≡ true → 0 < bit_count a
 counts_node a members i some =
     omega (arith, strictly_fewer (replicate 256 0) a empty_set members (λ k h. absurd (false≢true (sym (empty_nodes k) ∙ h))) i (empty_nodes i) some)
+
+-- a set that counts no node has none
+pub count_none : (a : List ℕ) → IsNodeSet a → bit_count a ≡ 0 → IsEmpty a
+count_none a members none i = go (has a i) refl
+  where
+    go : (found : Bool) → has a i ≡ found → has a i ≡ false
+    go true e = absurd (omega (arith, none, counts_node a members i e))
+    go false e = e
 
 pub count_within : (a : List ℕ) → IsNodeSet a → bit_count a ≤ 16384
 count_within a members =

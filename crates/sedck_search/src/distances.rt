@@ -12,6 +12,7 @@ use crate::filter::Graph;
 use crate::kept_sets::KeptSets;
 use crate::node_set::NodeSet;
 use crate::reaching::{Known, add_reached};
+use crate::turned::nearest_first;
 use sedck_flow::{Edge, Node, edges_of, node_count};
 use std::alloc::{AllocError, Global};
 
@@ -37,18 +38,40 @@ pub(crate) fn distances_to(alloc: Global, graph: Graph, to: Node) -> Result<Vec<
         counts: &[],
     };
     add_reached(known, to, &mut reached, &mut frontier);
-    settle(graph, to, &reached, &mut distances);
+    let order = nearest_first(alloc, graph, to.index())?;
+    settle(graph, to, &reached, &order, &mut distances);
     Ok(distances)
 }
 
-/// Shortens distances as long as any gets shorter. `_to` is there for the contract alone: the node that they lead to.
-fn settle(graph: Graph, _to: Node, reached: &NodeSet, distances: &mut [u16])
+/// Shortens the distance of each node of the order. Where the nearest nodes come first, no distance gets shorter afterwards.
+/// `_to` is there for the contract alone: the node that they lead to.
+fn relax_in_order(
+    graph: Graph,
+    _to: Node,
+    reached: &NodeSet,
+    order: &[usize],
+    distances: &mut [u16],
+)
+    requires script { IsScript graph.script.now }
+    requires some { ArePathLengths graph.script.now graph.filter _to distances.old }
+    ensures { ArePathLengths graph.entry.script.now graph.entry.filter _to distances.new }
+{
+    for index in order {
+        if *index < distances.len() {
+            relax_at(graph, _to, reached, *index, distances);
+        }
+    }
+}
+
+/// Shortens distances, in this order first, and then as long as any gets shorter. `_to` is there for the contract alone.
+fn settle(graph: Graph, _to: Node, reached: &NodeSet, order: &[usize], distances: &mut [u16])
     requires script { IsScript graph.script.now }
     requires here { IsIn reached.now _to }
     requires closed { IsClosed graph.script.now graph.filter reached.now }
     requires some { ArePathLengths graph.script.now graph.filter _to distances.old }
     ensures { AreDistances graph.entry.script.now graph.entry.filter _to distances.new }
 {
+    relax_in_order(graph, _to, reached, order, distances);
     while relax_all(graph, _to, reached, distances) {}
 }
 

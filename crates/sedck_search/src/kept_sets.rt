@@ -10,7 +10,7 @@ ghost use Rattle.sedck_search.specs.Private.KeptSets.{IsKeptFor, StoresSet};
 use crate::node_set::NodeSet;
 use std::alloc::{AllocError, Global};
 
-/// How many of the sets stored last are kept.
+/// How many of the sets stored last are kept at most.
 const LATEST: u32 = 64;
 
 /// Of the other sets every one with this step between them is kept. It is a prime: where nodes of several kinds take turns,
@@ -22,6 +22,8 @@ const STRIDE: u32 = 13;
 pub(crate) struct KeptSets {
     pub(crate) sets: Vec<NodeSet>,
     pub(crate) slots: Vec<u16>,
+    /// How many of the sets stored last are kept: no more than there are nodes on one side of the last line.
+    pub(crate) latest: u32,
     /// How many sets were stored, and of how many nodes.
     pub(crate) stored: u32,
     pub(crate) nodes: u32,
@@ -35,6 +37,7 @@ impl KeptSets {
         KeptSets {
             sets: Vec::new(alloc),
             slots: Vec::new(alloc),
+            latest: 0,
             stored: 0,
             nodes: 0,
         }
@@ -46,7 +49,9 @@ impl KeptSets {
         ensures { IfOk result (λ kept. All IsEmpty kept.sets.items × (length kept.slots.items ≡ nodes)) }
     {
         let mut kept = KeptSets::none(alloc);
-        for _ in 0..LATEST + nodes as u32 / (2 * STRIDE) + 1 {
+        let side = nodes as u32 / 2;
+        kept.latest = LATEST.min(side);
+        for _ in 0..kept.latest + side / STRIDE + 1 {
             kept.sets.push(NodeSet::new())?;
         }
         kept.slots.resize(nodes, 0)?;
@@ -92,9 +97,9 @@ impl KeptSets {
         let after = self.nodes / STRIDE;
         self.stored = self.stored.wrapping_add(1);
         let slot = if after == before {
-            self.stored % LATEST
+            self.stored.checked_rem(self.latest).unwrap_or(0)
         } else {
-            LATEST + after
+            self.latest.saturating_add(after)
         };
         (slot % 65536) as u16
     }

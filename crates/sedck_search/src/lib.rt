@@ -23,6 +23,7 @@ mod reaching;
 pub mod rows;
 mod searching;
 mod sets;
+mod turned;
 
 pub use answer::{Form, Found, Walk};
 pub use reachable::reachability;

@@ -7,22 +7,24 @@ ghost use Rattle.sedck_search.specs.Private.NodeSet.{has, IsNodeSet, IsEmpty, Ha
 use crate::rows::{both, count_bits};
 use std::marker::Model;
 
-/// A set of nodes, one bit a node: those of 4,095 commands and the script's end, four each.
+/// A set of nodes, one bit a node: those of 4,095 commands and the script's end, four each. It knows how many nodes it has.
 #[derive(Drop)]
 pub(crate) struct NodeSet {
     words: [u64; 256],
+    count: usize,
 }
 
 impl Model for NodeSet {
-    ghost use Rattle.std.specs.Prelude.{ℕ, List};
+    ghost use Rattle.std.specs.Prelude.{◌≡◌, ℕ, List};
 
     ghost Value = { List ℕ };
 
+    ghost use Rattle.sedck_search.specs.Rows.{bit_count};
     ghost use Rattle.sedck_search.specs.Private.NodeSet.{IsNodeSet};
 
     ghost view = { λ a. a.words };
 
-    ghost invariant = { λ a. IsNodeSet a.words };
+    ghost invariant = { λ a. IsNodeSet a.words × (a.count ≡ bit_count a.words) };
 }
 
 impl NodeSet {
@@ -31,7 +33,10 @@ impl NodeSet {
         ensures nodes { IsEmpty result }
         ensures is_set { IsNodeSet result }
     {
-        NodeSet { words: [0; 256] }
+        NodeSet {
+            words: [0; 256],
+            count: 0,
+        }
     }
 
     /// Takes all nodes out.
@@ -40,6 +45,7 @@ impl NodeSet {
         ensures is_set { IsNodeSet self.new }
     {
         self.words = [0; 256];
+        self.count = 0;
     }
 
     /// Whether the node is in the set.
@@ -64,6 +70,7 @@ impl NodeSet {
             return false;
         }
         self.words[node / 64] |= 1 << (node % 64);
+        self.count += 1;
         true
     }
 
@@ -75,12 +82,16 @@ impl NodeSet {
         ensures is_set { IsNodeSet self.new }
     {
         self.words[node / 64] &= !(1 << (node % 64));
+        self.count -= 1;
     }
 
     /// The first node of the set from this one on.
     pub(crate) fn next_from(&self, from: usize) -> Option<usize>
         ensures { MatchOption result (HasNoneFrom self.now from) (λ next. IsNext self.now from next) }
     {
+        if self.count == 0 {
+            return None;
+        }
         let words = &self.words;
         let first = from / 64;
         if first >= 256 {
@@ -105,6 +116,7 @@ impl NodeSet {
         ensures is_set { IsNodeSet self.new }
     {
         self.words = other.words;
+        self.count = other.count;
     }
 
     /// Puts the nodes of another set in.
@@ -112,14 +124,16 @@ impl NodeSet {
         ensures nodes { IsUnion self.old other.now self.new }
         ensures is_set { IsNodeSet self.new }
     {
-        self.words = both(&self.words, &other.words);
+        let words = both(&self.words, &other.words);
+        self.words = words;
+        self.count = count_bits(&words) as usize;
     }
 
-    /// The number of nodes in the set, which are counted each time.
+    /// The number of nodes in the set.
     pub(crate) fn len(&self) -> usize
         ensures value { result ≡ bit_count self.now }
         ensures is_set { IsNodeSet self.now }
     {
-        count_bits(&self.words) as usize
+        self.count
     }
 }

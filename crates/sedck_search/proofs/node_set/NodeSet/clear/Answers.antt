@@ -1,8 +1,9 @@
-use Rattle.sedck_search.proofs.NodeBits.{empty_set, empty_nodes}
+use Rattle.std.proofs.Common.{sym}
+use Rattle.sedck_search.proofs.NodeBits.{empty_set, empty_nodes, empty_count}
 use Rattle.sedck_search.proofs.node_set.NodeSet.clear.Goals as goal
 
 pub invariant_of-self : goal.invariant_of-self
-invariant_of-self c = empty_set
+invariant_of-self c = (empty_set, sym empty_count)
 
 pub returns-clause-nodes : goal.returns-clause-nodes
 returns-clause-nodes c = empty_nodes
