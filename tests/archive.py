@@ -151,7 +151,7 @@ def check_library(place, folder):
     config = {"PKG_CONFIG_PATH": str(place / "lib/pkgconfig")}
     words = run(["pkg-config", "--cflags", "--libs", "sedck"], folder, **config)[1].split()
     version = run(["pkg-config", "--modversion", "sedck"], folder, **config)[1].strip()
-    expect(version == re.search(r"^## (\d+\.\d+\.\d+)$", (TOP / "CHANGELOG.md").read_text(), re.M)[1], "pkg-config says the version %s" % version)
+    expect(version == re.search(r"^## (\d+\.\d+\.\d+) \(", (TOP / "CHANGELOG.md").read_text(), re.M)[1], "pkg-config says the version %s" % version)
     status, said = run([*compiler.split(), str(place / "share/doc/sedck/library/example.c"), "-o", "example", *words], folder)
     expect(status == 0, "the example isn't compiled: %s" % said)
     status, said = run(["./example", str(place / "share/doc/sedck/examples/mail-body.sed")], folder)

@@ -8,7 +8,7 @@ from pathlib import Path
 
 TOP = os.path.dirname(os.path.dirname(os.path.abspath(__file__)))
 with open(os.path.join(TOP, "CHANGELOG.md")) as changes:
-    VERSION = re.search(r"^## (\d+\.\d+\.\d+)$", changes.read(), flags=re.M)[1]
+    VERSION = re.search(r"^## (\d+\.\d+\.\d+) \(", changes.read(), flags=re.M)[1]
 
 
 class Tools:

@@ -65,7 +65,7 @@ def missing():
 
 
 def version():
-    return re.search(r"^## (\d+\.\d+\.\d+)$", (TOP / "CHANGELOG.md").read_text(), re.M)[1]
+    return re.search(r"^## (\d+\.\d+\.\d+) \(", (TOP / "CHANGELOG.md").read_text(), re.M)[1]
 
 
 def kit_of(rt):
