@@ -27,7 +27,7 @@ SILENT = {"SYNOPSIS", "EXAMPLES", "SEE ALSO", "NAME"}
 
 def of_markdown(text: str) -> Iterator[str]:
     """The paragraphs of a page, with each piece of code as one word and each link as its words."""
-    text = re.sub(r"^(\s*)```.*?^\s*```$", "", text, flags=re.M | re.S)
+    text = re.sub(r"\A---\n.*?^---$|^(\s*)```.*?^\s*```$", "", text, flags=re.M | re.S)
     text = re.sub(r"<!--.*?-->|<[^>\n]+>", "", text, flags=re.S)
     text = re.sub(r"(`+)(?!`).+?(?<!`)\1(?!`)", "CODE", text)
     text = re.sub(r"!\[[^\]]*\]\([^)]*\)", "", text)
