@@ -1,7 +1,7 @@
 #!/usr/bin/env python3
 """Runs tests by name: python3 tests/run.py [--unproved] [-k WORD] [NAME ..]
 
-A NAME is that of a test or of a target of the Makefile, which stands for all its tests. -k runs those with the WORD in their names. Without
+A NAME is that of a test or of a group, which stands for all its tests; most groups are targets of the Makefile. -k runs those with the WORD in their names. Without
 either the tests are listed, and none is run. The programs are those of build/. With --unproved they are those of build/unproved, which
 `rt try` compiles without a proof where a source has changed; tests that need more are skipped, which is said. Each test has a line at the
 end. The status is 0 only where each one has ended with 0.
@@ -17,7 +17,8 @@ TOP = Path(__file__).resolve().parent.parent
 PROVED = {"sedck": "build/sedck", "explain": "build/sedck-explain", "probe": "crates/sedck_probe/out/sedck_probe", "library": "build/libsedck.a",
           "refuse": "build/refuse.so", "all": ""}
 UNPROVED = {"sedck": "build/unproved/sedck", "explain": "build/unproved/sedck-explain", "probe": "build/unproved/sedck_probe", "refuse": "build/refuse.so"}
-# The target of the Makefile, the test, and its arguments: a word between braces is a program, and `all` everything in build/.
+# The target of the Makefile, the test, and its arguments: a word between braces is a program, and `all` everything in build/. What `pages`
+# and `style` have is also in `docs`.
 TESTS = """\
 docs documents.sh {all}
 rows rows.py {sedck} {probe}
