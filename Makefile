@@ -66,25 +66,20 @@ test: build/refuse.so
 
 docs examples: build
 	@echo "Checking the documents: the examples and their certificates, and each command that the pages show ..."
-	sh tests/documents.sh
+	python3 tests/run.py docs
 
 rows: build probe
 	@echo "Running build/sedck on rows of scripts and certificates ..."
-	python3 tests/rows.py build/sedck crates/sedck_probe/out/sedck_probe
-	python3 tests/matchers.py build/sedck build/sedck-explain
+	python3 tests/run.py rows matchers
 
 explain-tests: build probe
 	@echo "Testing the reports of sedck-explain ..."
-	python3 tests/explain.py build/sedck-explain build/sedck
-	python3 tests/hints.py build/sedck-explain build/sedck
-	python3 tests/fixes.py build/sedck-explain
-	python3 tests/parts.py crates/sedck_probe/out/sedck_probe
-	python3 tests/locales.py build/sedck-explain
+	python3 tests/run.py $@
 
 # `sedck_probe --twice` makes one call twice, also those that sedck doesn't show; the library refuses one request for memory of the program that it is loaded into.
 refusals: build probe build/refuse.so
 	@echo "Refusing each request for memory in turn ..."
-	python3 tests/refusals.py crates/sedck_probe/out/sedck_probe build/sedck build/refuse.so build/sedck-explain
+	python3 tests/run.py $@
 
 build/refuse.so: tests/refuse.c
 	@mkdir -p build
@@ -92,41 +87,36 @@ build/refuse.so: tests/refuse.c
 
 streams: build
 	@echo "Writing reports to streams that accept nothing ..."
-	sh tests/streams.sh build/sedck build/sedck-explain
+	python3 tests/run.py $@
 
 tools-tests:
 	@echo "Testing make build, make demo, make try and make dist with a stand-in for rt ..."
-	python3 tests/tools.py
+	python3 tests/run.py $@
 
 calls-tests: build
 	@echo "Comparing what is made of the words of a call with two other readers, and the calls in files with the shell ..."
-	python3 tests/calls.py build/sedck-explain
-	python3 tests/calls_in_files.py build/sedck-explain
-	python3 tests/attacks.py build/sedck-explain
+	python3 tests/run.py $@
 
 wrapper-tests: build
 	@echo "Testing the sed that has its calls judged, and the formatter ..."
-	python3 tests/wrapper.py build/sedck-explain
-	python3 tests/formatter.py build/sedck-explain
+	python3 tests/run.py $@
 
 # Tests the page that is there: without it, or without a tool, a line says what is skipped.
 page-tests:
 	@echo "Testing the page that make page has made, if there is one ..."
-	python3 tests/page.py
+	python3 tests/run.py $@
 
 library-tests: lib build build/refuse.so
 	@echo "Judging by the library, from C and from Python, and refusing each request for memory in turn ..."
-	python3 tests/library.py build/libsedck.a build/sedck build/refuse.so
+	python3 tests/run.py $@
 
 integration-tests: build
 	@echo "Testing the language server, the completions, the macro of Autoconf, the action and the lines for editors ..."
-	python3 tests/language_server.py build/sedck-explain
-	python3 tests/completions.py build/sedck build/sedck-explain
-	python3 tests/integrations.py build/sedck-explain
+	python3 tests/run.py $@
 
 archive-tests: build lib
 	@echo "Packing an archive, and installing from it and by make install ..."
-	python3 tests/archive.py
+	python3 tests/run.py $@
 
 bench: build
 	@echo "Measuring build/sedck and build/sedck-explain (bench/run.py prints the tables of docs/BENCH.md) ..."

@@ -83,7 +83,7 @@ def check_lists(whole):
 
 
 def check_installing(whole, folder):
-    """install.sh puts each file below DESTDIR and PREFIX, refuses a file that was changed, and wants a path from the root."""
+    """install.sh puts each file below DESTDIR and PREFIX, names the checker's sum, refuses a changed file, and wants a path from the root."""
     status, said = run(["sh", str(whole / "install.sh")], folder, PREFIX="usr", DESTDIR=str(folder / "none"))
     expect(status == 3 and not (folder / "none").exists(), "a relative PREFIX gives %d: %s" % (status, said))
     page = whole / "share/doc/sedck/SECURITY.md"
@@ -96,6 +96,7 @@ def check_installing(whole, folder):
     for _ in range(2):
         status, said = run(["sh", str(whole / "install.sh")], folder, PREFIX="/opt/own sedck", DESTDIR=str(to))
         expect(status == 0, "install.sh ends with %d: %s" % (status, said))
+        expect(hashlib.sha256((whole / "bin/sedck").read_bytes()).hexdigest() in said, "install.sh doesn't name the checker's sum: %s" % said)
     seen = {str(path.relative_to(to / "opt/own sedck")) for path in to.rglob("*") if path.is_file()}
     due = {str(path.relative_to(whole)) for part in ("bin", "include", "lib", "libexec", "share") for path in (whole / part).rglob("*") if path.is_file()}
     expect(seen == due and len(due) > 40, "install.sh installs other files: %s" % sorted(seen ^ due))
@@ -150,7 +151,7 @@ def check_library(place, folder):
     config = {"PKG_CONFIG_PATH": str(place / "lib/pkgconfig")}
     words = run(["pkg-config", "--cflags", "--libs", "sedck"], folder, **config)[1].split()
     version = run(["pkg-config", "--modversion", "sedck"], folder, **config)[1].strip()
-    expect(version == re.search(r"^## (\d+\.\d+\.\d+)$", (TOP / "CHANGELOG.md").read_text(), re.M)[1], "pkg-config says the version %s" % version)
+    expect(version == re.search(r"^## (\d+\.\d+\.\d+) \(", (TOP / "CHANGELOG.md").read_text(), re.M)[1], "pkg-config says the version %s" % version)
     status, said = run([*compiler.split(), str(place / "share/doc/sedck/library/example.c"), "-o", "example", *words], folder)
     expect(status == 0, "the example isn't compiled: %s" % said)
     status, said = run(["./example", str(place / "share/doc/sedck/examples/mail-body.sed")], folder)

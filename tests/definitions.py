@@ -178,7 +178,7 @@ def faults_of_text(tool):
         if not list(made.faults(book)):
             yield f"{wrong!r} names what isn't there, and isn't missed"
     try:
-        tool.page(book, tool.Text(kept.replace("{list The search}\n", "")))
+        tool.page(book, tool.Text(kept.replace("{list The search}", "")))
         yield "a list that the text leaves out isn't missed"
     except tool.Unplaced:
         pass
@@ -206,8 +206,9 @@ def requiring(tool):
 def faults_of_requires(tool):
     """docs/PROVED.md names just the exported functions that require something."""
     page = (TOP / "docs" / "PROVED.md").read_text(encoding="utf-8")
-    said = re.search(r"^These functions require something, and no other exported one does:\n\n((?:- .*\n)+)", page, re.M)
-    named, there = set(re.findall(r"`([^`]+)`", said[1])) if said else set(), set(requiring(tool))
+    said = re.search(r"^\| function \| requires \|\n.*\n((?:\| .*\n)+)", page, re.M)
+    cells = re.findall(r"^\| (.*?) \|", said[1], re.M) if said else []
+    named, there = {name for cell in cells for name in re.findall(r"`([^`]+)`", cell)}, set(requiring(tool))
     if not there or named != there:
         yield f"docs/PROVED.md, what functions require: {', '.join(sorted(named ^ there))}"
 

@@ -1,7 +1,7 @@
 #!/bin/sh
 # Checks the examples by what their README.md says: the answer in each row of its tables, each certificate as `rank`
 # writes it, what each command prints that the documents show, the answers in docs/FAULTS.md and docs/MENDING.md,
-# the table of edges, the pages of faults, the picture, and docs/DEFINITIONS.md. Needs build/sedck, build/sedck-explain and Python 3; blocks that need
+# the table of edges, the pages of faults, the pictures, and docs/DEFINITIONS.md. Needs build/sedck, build/sedck-explain and Python 3; blocks that need
 # more, as a sed, are left out where it is missing. Says what was left out and what failed, and ends with status 1 on any failure.
 
 CDPATH= cd -- "$(dirname -- "$0")/.." || exit 1
@@ -120,19 +120,22 @@ for document in man/sedck.1 man/sedck-explain.1 man/sedck-fmt.1 man/sedck-sed.1 
     if has groff && groff -ww -man -T utf8 "$documents/$document" 2>&1 > groffed | grep . >&2; then fail "$document has warnings"; fi
 done
 
-# The picture of README.md has the boxes and edges of the graph; where they are drawn depends on the version of Graphviz.
+# The pictures of README.md have the boxes and edges of the graph; where they are drawn depends on the version of Graphviz.
 words_drawn() { grep -E '<(title|text)' | sed 's/ x="[^>]*>/>/' | sort; }
 if has dot; then
-    words_drawn < "$documents/docs/img/explain.svg" > shown
     (cd .. && build/sedck-explain --format dot examples/join-all-loop.sed | dot -Tsvg) | words_drawn > drawn
-    diff shown drawn >&2 || fail "docs/img/explain.svg isn't the graph of join-all-loop.sed"
+    for picture in explain explain-dark; do
+        words_drawn < "$documents/docs/img/$picture.svg" > shown
+        diff shown drawn >&2 || fail "docs/img/$picture.svg isn't the graph of join-all-loop.sed"
+    done
 else
-    echo "documents: docs/img/explain.svg isn't compared, since this machine lacks dot" >&2
+    echo "documents: the pictures of README.md aren't compared, since this machine lacks dot" >&2
 fi
 
 # What sedck answers in the table of seds; links, and the version in the manual pages.
 (cd "$documents" && python3 tests/seds/seds.py build/sedck --table) >&2 || fail "the table of docs/SEDS.md has other statuses of sedck"
 (cd "$documents" && python3 tests/links.py) >&2 || fail "a link leads nowhere, or a page or a version is missing"
+(cd "$documents" && python3 tests/sentences.py) >&2 || fail "a page has a long sentence, or a paragraph with many semicolons"
 version=$(awk '/^## [0-9]/ { print $2; exit }' "$documents/CHANGELOG.md")
 [ "$(../build/sedck-explain --version)" = "sedck-explain $version" ] || fail "sedck-explain isn't of version $version, as CHANGELOG.md"
 # The Makefile, the hooks and the steps of the recipes.

@@ -8,7 +8,7 @@ from pathlib import Path
 
 TOP = os.path.dirname(os.path.dirname(os.path.abspath(__file__)))
 with open(os.path.join(TOP, "CHANGELOG.md")) as changes:
-    VERSION = re.search(r"^## (\d+\.\d+\.\d+)$", changes.read(), flags=re.M)[1]
+    VERSION = re.search(r"^## (\d+\.\d+\.\d+) \(", changes.read(), flags=re.M)[1]
 
 
 class Tools:
@@ -105,10 +105,9 @@ def line_of(data, line):
     return data.split(b"\n")[line - 1]
 
 
-# The page of a code, but of the faults of scripts and expressions, of which each has its number and its name in a heading of FAULTS.md.
+# The page of a code, but of the faults of scripts and expressions, each of which has a heading of its own in FAULTS.md.
 PAGES = {
     "MENDING.md#repairing-loops": ["loop-idle", "loop-growing"],
-    "FAULTS.md#18-too-deep-19-too-many-commands": ["too-deep", "too-many-commands"],
     "FAULTS.md#faults-of-certificates": ["bad-header", "bad-count", "bad-node", "bad-names", "bad-end"],
     "FAULTS.md#rejections": ["wrong-count", "start-unranked", "leaves-ranked", "not-lowered", "reads-differ", "writes-differ"],
     "TRUST.md#scripts-of-strangers": ["denied-reads", "denied-writes", "denied-unbounded", "denied-growing", "denied-warnings"],
@@ -131,9 +130,8 @@ def page_due(code):
     for page, codes in PAGES.items():
         if code in codes:
             return page
-    heads = re.findall(r"^#+ (.*)$", (Path(TOP) / "docs" / "FAULTS.md").read_text(), flags=re.M)
-    names = [re.sub(r"[^\w\- ]", "", head.lower()).replace(" ", "-") for head in heads]
-    return "FAULTS.md#" + next(name for name in names if re.search(r"\d-%s($|-)" % code, name))
+    heads = re.findall(r"^### (.*)$", (Path(TOP) / "docs" / "FAULTS.md").read_text(), flags=re.M)
+    return "FAULTS.md#" + next(head for head in heads if head == code)
 
 
 def with_pages(report):

@@ -2,7 +2,7 @@
 """Checks links, versions, edits and crates in the documents: python3 tests/links.py, in any folder.
 
 Each link to a file of the repository must lead to one, and to a heading of it where it names one, also those to pages of docs/ that
-the code has as texts; each page is linked from README.md; the manual pages have the version of the first entry of CHANGELOG.md; each
+the code has as texts; each page is linked from docs/README.md; the manual pages have the version of the first entry of CHANGELOG.md; each
 edit says what is wrong and which function of its crate promises otherwise, and docs/PROVED.md lists those that the gate tries, as
 tools/edits.py does; CONTRIBUTING.md has a line for each crate of crates.txt, with the crates right below it, and each file of a crate's
 src begins with what it is for. The status is 0 only where all of this holds.
@@ -15,7 +15,9 @@ TOP = Path(__file__).resolve().parent.parent
 sys.path.insert(0, str(TOP / "tools"))
 import edits
 
-PAGES = [TOP / "README.md", TOP / "CONTRIBUTING.md", TOP / "CHANGELOG.md", TOP / "SECURITY.md", TOP / "examples" / "README.md"] + sorted((TOP / "docs").glob("*.md"))
+PAGES = [TOP / "README.md", TOP / "CONTRIBUTING.md", TOP / "CHANGELOG.md", TOP / "SECURITY.md", TOP / "examples" / "README.md",
+         TOP / "tests" / "seds" / "README.md", *sorted((TOP / "docs").glob("*.md"))]
+INDEX = TOP / "docs" / "README.md"
 MANUAL = sorted((TOP / "man").glob("sedck*.[1-8]"))
 
 
@@ -83,11 +85,11 @@ def faults():
             if not page.exists() or head not in anchors(page):
                 yield "%s: no heading %s#%s" % (source.relative_to(TOP), name, head)
     yield from crates()
-    linked = {file for _, file, _ in links(TOP / "README.md")}
-    for page in PAGES[1:] + MANUAL:
+    linked = {file for _, file, _ in links(INDEX)}
+    for page in [page for page in PAGES if page != INDEX] + MANUAL:
         if page not in linked:
-            yield "README.md has no link to %s" % page.relative_to(TOP)
-    version = re.search(r"^## (\d+\.\d+\.\d+)$", (TOP / "CHANGELOG.md").read_text(), flags=re.M)[1]
+            yield "docs/README.md has no link to %s" % page.relative_to(TOP)
+    version = re.search(r"^## (\d+\.\d+\.\d+) \(", (TOP / "CHANGELOG.md").read_text(), flags=re.M)[1]
     for page in MANUAL:
         if '"sedck %s"' % version not in page.read_text().split("\n")[0]:
             yield "%s isn't of version %s" % (page.relative_to(TOP), version)

@@ -1,11 +1,12 @@
 #!/usr/bin/env python3
 """Checks the scripts that pages show: python3 tests/pages.py build/sedck PAGE ..
 
-In each section of a page a block that begins with ```sed is a script, and the paragraph after it begins with what sedck answers,
-between backquotes: `accepted`, the first line of a loop, or the line of a refusal without `sedck: `. A block that begins with
-```text is an input: where the machine has a sed, all scripts of the section that this sed and sedck read make the same of it, and
-with GNU sed the others too, whose extensions other seds may read as something else. The status is 0 only where each page shows a
-script, each answer is as the page says, and the outputs are the same.
+In each section of a page a block that begins with ```sed is a script, and the page says what sedck answers: `accepted`, the first line
+of a loop, or the line of a refusal without `sedck: `. The answer stands in the line before the block, after "Refused", or is `accepted`
+after "Instead:"; or else the paragraph after the block begins with it, between backquotes. A block that begins with ```text is an input:
+where the machine has a sed, all scripts of the section that this sed and sedck read make the same of it, and with GNU sed the others
+too, whose extensions other seds may read as something else. The status is 0 only where each page shows a script, each answer is as the
+page says, and the outputs are the same.
 """
 import os
 import re
@@ -13,88 +14,105 @@ import shutil
 import subprocess
 import sys
 import tempfile
+from collections.abc import Iterator
+from pathlib import Path
 
 ENDLESS = "a run without an end"
 
 
-def answer(sedck, folder, script):
+def answer(sedck: str, folder: str, script: str) -> str:
     """The first line of what `rank` says of the script, or `accepted` where `check` takes the certificate."""
-    with open(os.path.join(folder, "script"), "w") as out:
-        out.write(script)
-    ranked = subprocess.run([sedck, "rank", "script"], cwd=folder, capture_output=True, text=True)
+    Path(folder, "script").write_text(script)
+    ranked = subprocess.run([sedck, "rank", "script"], cwd=folder, capture_output=True, text=True, check=False)
     if ranked.returncode != 0:
         return (ranked.stdout or ranked.stderr).split("\n")[0].removeprefix("sedck: ")
-    with open(os.path.join(folder, "cert"), "w") as out:
-        out.write(ranked.stdout)
-    checked = subprocess.run([sedck, "check", "script", "cert"], cwd=folder, capture_output=True, text=True)
+    Path(folder, "cert").write_text(ranked.stdout)
+    checked = subprocess.run([sedck, "check", "script", "cert"], cwd=folder, capture_output=True, text=True, check=False)
     return checked.stdout.split("\n")[0]
 
 
-def output(folder, script, given):
+def output(folder: str, script: str, given: str) -> str | None:
     """What the machine's sed makes of the input; None where it doesn't read the script, and a word where it doesn't end."""
-    with open(os.path.join(folder, "script"), "w") as out:
-        out.write(script)
+    Path(folder, "script").write_text(script)
     try:
-        done = subprocess.run(["sed", "-f", "script"], cwd=folder, input=given, capture_output=True, text=True, timeout=20,
+        done = subprocess.run(["sed", "-f", "script"], cwd=folder, input=given, capture_output=True, text=True, timeout=20, check=False,
                               env={"PATH": os.environ["PATH"], "LC_ALL": "C"})
     except subprocess.TimeoutExpired:
         return ENDLESS
     return done.stdout if done.returncode == 0 else None
 
 
-def is_gnu():
-    return subprocess.run(["sed", "--version"], capture_output=True, text=True).stdout.startswith("sed (GNU sed)")
+def is_gnu() -> bool:
+    """Whether the machine's sed is that of GNU."""
+    return subprocess.run(["sed", "--version"], capture_output=True, text=True, check=False).stdout.startswith("sed (GNU sed)")
 
 
-def sections(text):
-    """The name of each section, with its blocks: kind, text, and the paragraph that follows."""
+def due(before: str, after: str) -> str | None:
+    """The answer that the page has for a block, from the line before it or the paragraph after it."""
+    label = before.rstrip("\n").split("\n")[-1]
+    if label == "Instead:":
+        return "accepted"
+    found = re.fullmatch(r"Refused, `([^`]*)`:", label) or re.match(r"`([^`]*)`", after.lstrip("\n"))
+    return found[1] if found else None
+
+
+def sections(text: str) -> Iterator[tuple[str, list[tuple[str, str, str | None]]]]:
+    """The name of each section, with its blocks: kind, text, and the answer that is due."""
     for section in re.split(r"^#+ ", text, flags=re.M)[1:]:
         name = section.split("\n")[0]
-        yield name, [(block[1], block[2], section[block.end():].lstrip("\n").split("\n")[0])
+        yield name, [(block[1], block[2], due(section[:block.start()], section[block.end():]))
                      for block in re.finditer(r"^```(sed|text)\n(.*?)^```\n", section, flags=re.M | re.S)]
 
 
-def main():
-    sedck, pages = os.path.abspath(sys.argv[1]), sys.argv[2:]
-    has_sed, failures, scripts, compared = shutil.which("sed") is not None, 0, 0, 0
-    compares_all = has_sed and is_gnu()
+class Checker:
+    """Checks the sections of pages, and counts what it has seen."""
 
-    def fail(page, name, text):
-        nonlocal failures
-        failures += 1
+    def __init__(self, sedck: str) -> None:
+        self.sedck, self.has_sed = os.path.abspath(sedck), shutil.which("sed") is not None
+        self.compares_all = self.has_sed and is_gnu()
+        self.failures = self.scripts = self.compared = 0
+
+    def fail(self, page: str, name: str, text: str) -> None:
+        """Reports what is wrong in a section."""
+        self.failures += 1
         print("%s, %s: %s" % (page, name, text))
 
-    for page in pages:
-        with open(page) as file:
-            text = file.read()
-        shown = 0
+    def section(self, page: str, name: str, blocks: list[tuple[str, str, str | None]], folder: str) -> None:
+        """Checks the answers of a section, and compares what sed makes of its input."""
+        given = [block for kind, block, _ in blocks if kind == "text"]
+        made = []
+        for script, says in [(block, says) for kind, block, says in blocks if kind == "sed"]:
+            self.scripts += 1
+            answered = answer(self.sedck, folder, script)
+            if says != answered:
+                self.fail(page, name, "sedck answers %r, and the page %r" % (answered, says))
+            if given and self.has_sed and (self.compares_all or not answered.startswith("script fault ")):
+                text = output(folder, script, given[0])
+                if text is not None and not (text == ENDLESS and answered.startswith("loop ")):
+                    made.append(text)
+        self.compared += len(made) > 1
+        if any(text != made[0] for text in made):
+            self.fail(page, name, "the scripts differ: %r" % made)
+
+    def page(self, page: str) -> None:
+        """Checks a page, which must show a script."""
+        before = self.scripts
         with tempfile.TemporaryDirectory(prefix="sedck-pages-") as folder:
-            for name, blocks in sections(text):
-                given = [block for kind, block, _ in blocks if kind == "text"]
-                made = []
-                for kind, block, after in blocks:
-                    if kind != "sed":
-                        continue
-                    shown += 1
-                    due = re.match(r"`([^`]*)`", after)
-                    says = answer(sedck, folder, block)
-                    if due is None or due[1] != says:
-                        fail(page, name, "sedck answers %r, and the page %r" % (says, due and due[1]))
-                    if given and has_sed and (compares_all or not says.startswith("script fault ")):
-                        made.append(output(folder, block, given[0]))
-                        if made[-1] == ENDLESS and says.startswith("loop "):
-                            made.pop()
-                made = [text for text in made if text is not None]
-                compared += len(made) > 1
-                if any(text != made[0] for text in made):
-                    fail(page, name, "the scripts differ: %r" % made)
-        scripts += shown
-        if shown == 0:
-            fail(page, "page", "it shows no script")
-    if failures == 0:
-        print("pages: %d scripts are answered as the pages say, %s" % (
-            scripts, "and %d sections give one output in sed" % compared if has_sed else "and there is no sed to compare them in"))
-    return 1 if failures else 0
+            for name, blocks in sections(Path(page).read_text()):
+                self.section(page, name, blocks, folder)
+        if self.scripts == before:
+            self.fail(page, "page", "it shows no script")
+
+
+def main() -> int:
+    """Checks the pages that are named."""
+    checker = Checker(sys.argv[1])
+    for page in sys.argv[2:]:
+        checker.page(page)
+    if checker.failures == 0:
+        compared = "and %d sections give one output in sed" % checker.compared if checker.has_sed else "and there is no sed to compare them in"
+        print("pages: %d scripts are answered as the pages say, %s" % (checker.scripts, compared))
+    return 1 if checker.failures else 0
 
 
 if __name__ == "__main__":

@@ -479,8 +479,6 @@ LIBRARY = {
     "decimal": "a number's decimal digits, without leading zeros",
     "digits_value": "`digits_value 10 text`: the number that decimal digits write",
 }
-# The words of the table with which a line of the page begins.
-LINES = ("ℕ", "Bool", "◌≡◌", "Option", "List", "Contains", "Less")
 
 
 def short(module):
@@ -557,14 +555,14 @@ class Seen:
 
 
 def files(book, text, seen, blocks):
-    """The files of these definitions, in reading order, each with its lines and what they mean."""
-    rows = []
+    """A table of the files of these definitions, in reading order, each with its lines and what they mean."""
+    rows = ["| file | lines | what it defines |", "|---|---|---|"]
     for module in sorted({b.module for b in blocks}, key=place_in_order):
         here = [b for b in book.all_blocks[module] if b in blocks]
         path = book.paths[module].relative_to(TOP)
         meaning = text.meaning(module, here, module not in seen.modules, sentence(book.heads[module]))
         seen.modules.add(module)
-        rows.append(f"- [`{path.relative_to('crates')}`](../{path}) ({size(here)}): {meaning}")
+        rows.append(f"| [`{path.relative_to('crates')}`](../{path}) | {size(here)} | {meaning} |")
     return "\n".join(rows)
 
 
@@ -599,15 +597,13 @@ def library_words(blocks):
 
 
 def library_text():
+    """A table of the words of the library."""
     # A meaning that begins with the word and its arguments shows them in place of the word; an operator is shown without its places.
-    lines = []
+    rows = ["| word | meaning |", "|---|---|"]
     for word, meaning in LIBRARY.items():
-        said = meaning if meaning.startswith(f"`{word} ") else f"`{' '.join(parts_of(word)) or word}`: {meaning}"
-        if word in LINES:
-            lines.append(f"- {said}")
-        else:
-            lines[-1] += f"; {said}"
-    return "\n".join(lines)
+        shown, _, said = meaning.partition(": ") if meaning.startswith(f"`{word} ") else (f"`{' '.join(parts_of(word)) or word}`", "", meaning)
+        rows.append("| %s | %s |" % (shown.replace("|", "\\|"), said))
+    return "\n".join(rows)
 
 
 def page(book, text):

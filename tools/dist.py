@@ -65,7 +65,7 @@ def missing():
 
 
 def version():
-    return re.search(r"^## (\d+\.\d+\.\d+)$", (TOP / "CHANGELOG.md").read_text(), re.M)[1]
+    return re.search(r"^## (\d+\.\d+\.\d+) \(", (TOP / "CHANGELOG.md").read_text(), re.M)[1]
 
 
 def kit_of(rt):
@@ -182,6 +182,7 @@ def pack(rt):
     name = name_of(kit)
     (TOP / "build" / (name + ".tar.gz")).write_bytes(packed(name, with_sums(files)))
     print("The archive is build/%s.tar.gz." % name)
+    print("The checker in it is bin/sedck, with the SHA-256 sum %s." % hashlib.sha256(files["bin/sedck"]).hexdigest())
     return 0
 
 

@@ -114,19 +114,19 @@ def table():
 
 
 def tried():
-    """The list in docs/PROVED.md of the edits that the gate tries: a line for each crate, by function."""
-    lines = {}
+    """The table in docs/PROVED.md of the edits that the gate tries: a row for each function."""
+    rows = {}
     for head in heads():
         if head.is_tried:
-            lines.setdefault(head.crate, {}).setdefault(head.promised.split(",")[0], []).append("`%s`" % head.name)
-    return "".join("- `%s`: %s\n" % (crate, "; ".join("`%s`: %s" % (function, ", ".join(names)) for function, names in by_function.items()))
-                   for crate, by_function in lines.items())
+            rows.setdefault((head.crate, head.promised.split(",")[0]), []).append("`%s`" % head.name)
+    return "| crate | function | wrong bodies |\n|---|---|---|\n" + "".join(
+        "| `%s` | `%s` | %s |\n" % (crate, function, ", ".join(names)) for (crate, function), names in rows.items())
 
 
 def put_into_proved():
-    """Puts that list into docs/PROVED.md, in place of what is there."""
+    """Puts that table into docs/PROVED.md, in place of what is there."""
     page = TOP / "docs" / "PROVED.md"
-    text, found = re.subn(r"(?m)^(## Wrong bodies that the gate sees refused\n\n.*\n\n)(?:- .*\n)*", lambda match: match[1] + tried(), page.read_text())
+    text, found = re.subn(r"(?m)^(## Wrong bodies that the gate sees refused\n\n.*\n\n)(?:[|].*\n)*", lambda match: match[1] + tried(), page.read_text())
     page.write_text(text)
     return 0 if found == 1 else 1
 

@@ -123,12 +123,12 @@ class Costs:
 
 
 def table(costs, names, bodies):
-    """The table of BENCH: a row for each crate with wrong bodies, the proofs of the others, and what all took in seconds and in units."""
+    """The table of BENCH: a row for each crate, first those with wrong bodies, and what all took in seconds and in units."""
     rows = {name: costs.row(name, bodies[name]) for name in names}
     whole, unit = sum(sum(row) for row in rows.values()), rows.get(UNIT, (0.0,))[0]
     text = HEAD + "".join("| `%s` | %.0f | %s | %d, %.0f |\n" % (name, proof, "%.0f" % once_more if once_more else "", bodies[name], tried)
                           for name, (proof, once_more, tried) in rows.items() if bodies[name])
-    text += "\nThe proofs of the others: %s.\n" % ", ".join("`%s` %.0f" % (name, row[0]) for name, row in rows.items() if not bodies[name])
+    text += "".join("| `%s` | %.0f | | |\n" % (name, row[0]) for name, row in rows.items() if not bodies[name])
     columns = [sum(row[at] for row in rows.values()) for at in range(3)]
     text += "\n%.0f s for proofs, %.0f s once more, %.0f s for %d wrong bodies: %.0f s" % (*columns, sum(bodies.values()), whole)
     return text + (", or %.1f units of %.0f s. %.0f s more were seen for what starts them.\n" % (whole / unit, unit, costs.rest) if unit else ".\n")

@@ -100,39 +100,39 @@ FAULTS.md#11-bad-reference-beside-a-repeated-group repeat bytes and lists
 
 /// A row for each code: its name, its page, and what is found.
 static ROWS: &str = "\
-too-long FAULTS.md#1-too-long The script has more than 1,048,576 bytes
-nul-byte FAULTS.md#2-nul-byte The script contains a NUL byte
-unknown-command FAULTS.md#3-unknown-command A byte that is no command
-bad-address FAULTS.md#4-bad-address No address where one is expected, or an invalid line number
-too-many-addresses FAULTS.md#5-too-many-addresses More addresses than the command takes
-unterminated FAULTS.md#7-unterminated A delimiter is missing or invalid
-bad-replacement FAULTS.md#8-bad-replacement An unknown escape in a replacement, or a group that the expression does not have
-bad-flag FAULTS.md#9-bad-flag An unknown flag of s, or the same flag twice
-bad-transliteration FAULTS.md#10-bad-transliteration The lists of y differ in length, or one has an unknown escape
-missing-text FAULTS.md#11-missing-text No text after a, i or c
-missing-name FAULTS.md#12-missing-name No file name
-bad-label FAULTS.md#13-bad-label No label, or a byte that a label cannot have
-duplicate-label FAULTS.md#14-duplicate-label A label is defined twice
-unknown-label FAULTS.md#15-unknown-label A branch to a label that is not defined
-unopened-block FAULTS.md#16-unopened-block-17-unclosed-block A } that closes nothing
-unclosed-block FAULTS.md#16-unopened-block-17-unclosed-block A { that is not closed
-too-deep FAULTS.md#18-too-deep-19-too-many-commands A block inside 64 others, or a group inside 32
-too-many-commands FAULTS.md#18-too-deep-19-too-many-commands More than 4,095 commands
-extra-text FAULTS.md#20-extra-text Unexpected text after a command, or a byte there that seds read differently
-no-previous-expression FAULTS.md#21-no-previous-expression An empty expression in a script that has no other
-escaped-delimiter FAULTS.md#22-escaped-delimiter A backslash before a delimiter that cannot be escaped
-trailing-backslash FAULTS.md#1-trailing-backslash An expression ends in a lone backslash
-bad-escape FAULTS.md#2-bad-escape--and- An escape that POSIX does not define in an expression
-unclosed-bracket FAULTS.md#3-unclosed-bracket A bracket list, or a class in one, is not closed before the delimiter
-bad-bracket FAULTS.md#4-bad-bracket An invalid range, class or hyphen in a bracket list
-empty-set FAULTS.md#5-empty-set A bracket list that matches nothing
-unclosed-group FAULTS.md#6-unclosed-group-7-unopened-group A group that is not closed
-unopened-group FAULTS.md#6-unclosed-group-7-unopened-group The end of a group that is not open
-bad-interval FAULTS.md#8-bad-interval An invalid interval, or one with a number above 255
-nothing-to-repeat FAULTS.md#9-nothing-to-repeat Nothing before an interval that it could repeat
-double-repeat FAULTS.md#10-double-repeat What is already repeated is repeated again
-bad-reference FAULTS.md#11-bad-reference A reference to a group that is not closed before it
-too-many-groups FAULTS.md#12-too-deep-13-too-many-groups More than 99 groups in an expression
+too-long FAULTS.md#too-long The script has more than 1,048,576 bytes
+nul-byte FAULTS.md#nul-byte The script contains a NUL byte
+unknown-command FAULTS.md#unknown-command A byte that is no command
+bad-address FAULTS.md#bad-address No address where one is expected, or an invalid line number
+too-many-addresses FAULTS.md#too-many-addresses More addresses than the command takes
+unterminated FAULTS.md#unterminated A delimiter is missing or invalid
+bad-replacement FAULTS.md#bad-replacement An unknown escape in a replacement, or a group that the expression does not have
+bad-flag FAULTS.md#bad-flag An unknown flag of s, or the same flag twice
+bad-transliteration FAULTS.md#bad-transliteration The lists of y differ in length, or one has an unknown escape
+missing-text FAULTS.md#missing-text No text after a, i or c
+missing-name FAULTS.md#missing-name No file name
+bad-label FAULTS.md#bad-label No label, or a byte that a label cannot have
+duplicate-label FAULTS.md#duplicate-label A label is defined twice
+unknown-label FAULTS.md#unknown-label A branch to a label that is not defined
+unopened-block FAULTS.md#unopened-block A } that closes nothing
+unclosed-block FAULTS.md#unclosed-block A { that is not closed
+too-deep FAULTS.md#too-deep A block inside 64 others, or a group inside 32
+too-many-commands FAULTS.md#too-many-commands More than 4,095 commands
+extra-text FAULTS.md#extra-text Unexpected text after a command, or a byte there that seds read differently
+no-previous-expression FAULTS.md#no-previous-expression An empty expression in a script that has no other
+escaped-delimiter FAULTS.md#escaped-delimiter A backslash before a delimiter that cannot be escaped
+trailing-backslash FAULTS.md#trailing-backslash An expression ends in a lone backslash
+bad-escape FAULTS.md#bad-escape An escape that POSIX does not define in an expression
+unclosed-bracket FAULTS.md#unclosed-bracket A bracket list, or a class in one, is not closed before the delimiter
+bad-bracket FAULTS.md#bad-bracket An invalid range, class or hyphen in a bracket list
+empty-set FAULTS.md#empty-set A bracket list that matches nothing
+unclosed-group FAULTS.md#unclosed-group A group that is not closed
+unopened-group FAULTS.md#unopened-group The end of a group that is not open
+bad-interval FAULTS.md#bad-interval An invalid interval, or one with a number above 255
+nothing-to-repeat FAULTS.md#nothing-to-repeat Nothing before an interval that it could repeat
+double-repeat FAULTS.md#double-repeat What is already repeated is repeated again
+bad-reference FAULTS.md#bad-reference A reference to a group that is not closed before it
+too-many-groups FAULTS.md#too-many-groups More than 99 groups in an expression
 bad-header FAULTS.md#faults-of-certificates The first line of the certificate is invalid
 bad-count FAULTS.md#faults-of-certificates The line with the number of commands is invalid
 bad-node FAULTS.md#faults-of-certificates A line with the ranks of a node is invalid
