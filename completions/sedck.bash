@@ -38,9 +38,10 @@ _sedck_explain() {
         --locale) _sedck_reply C POSIX C.UTF-8 ;;
         --as) _sedck_reply sh make docker yaml spec m4 ;;
         --assume | --at | --stdin-filename) COMPREPLY=() ;;
+        --assume-set) _sedck_reply autoconf ;;
         *)
             case ${COMP_WORDS[COMP_CWORD]} in
-                -*) _sedck_reply --format --level --no-comments --cert --deny --locale --stdin-filename --sed --calls --as --assume --at --help --version -- ;;
+                -*) _sedck_reply --format --level --no-comments --cert --deny --locale --stdin-filename --sed --calls --as --assume --assume-set --mend --at --help --version -- ;;
                 *) _sedck_reply ;;
             esac ;;
     esac

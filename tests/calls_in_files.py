@@ -125,6 +125,19 @@ ROWS = [
     ("a.sh", ["--assume", "SUDO="], "$SUDO sed p f\n", 0, [("1:7", A, ["p", "f"])]),
     ("a.sh", [], "$SUDO ${x}sed p f\n", 5, [("1:11", UNKNOWN, None)]),
     ("a.sh", ["--assume", "SED=sed"], "$SED p f\n", 0, [("1:1", A, ["p", "f"])]),
+    ("a.sh", ["--assume", "POSIXLY_CORRECT"], "sed p f -e d\nsed -e p f -e d $x\n", 5, [("1:1", A, ["p", "f", "-e", "d"]), ("2:1", IF, None)]),
+    ("a.sh", ["--assume", "POSIXLY_CORRECT="], "sed p f -e d\n", 5, [("1:1", IF, ["p", "f", "-e", "d"])]),
+    ("a.sh", ["--assume-set", "autoconf"], '$SED p conftest.$ac_ext\nsed p f -n\n$ECHO "$x" | $SED "$delay_single_quote_subst"\nsed "s/[^_$as_cr_alnum]/_/g" f\nsed p $x\n', 5,
+     [("1:1", A, ["p", "conftest.c"]), ("2:1", A, ["p", "f", "-n"]), ("3:14", A, ["s/'/'\\\\\\''/g"]), ("4:1", A, None), ("5:1", IF, ["p", "x"])]),
+    ("a.sh", ["--assume", "ac_ext=-x", "--assume-set", "autoconf"], "sed p $ac_ext\n", 2, [("1:1", NOT, ["p", "-x"])]),
+    # A delimiter in a list.
+    ("a.sh", ["--mend"], "sed 's/[^/]*$//' f\nsed '/[/]/d;s/[a/]b/c/' f\nsed -n '\\,[,],p' f\nsed \"s/[$x/]/$y/\" f\nsed 's/a/b/' f\n", 5,
+     [("1:1", IF, ["s/[^/]*$//", "f"]), ("2:1", IF, None), ("3:1", IF, None), ("4:1", IF, None), ("5:1", A, ["s/a/b/", "f"])]),
+    ("a.sh", ["--mend"], "sed 's/[[:alpha:]/]//' f\nsed 's/[a\\\\/]//' f\nsed 's/[/]\\/x//' f\nsed 's/[]/]//' f\nsed 's/[^]/]//' f\nsed 's,|:@%#;~!=/[,],,' f\nsed 's/[/]' f\nsed 's_[_]__' f\n", 2,
+     [("%d:1" % line, REFUSED, None) for line in range(1, 9)]),
+    ("a.sh", ["--mend"], "sed ':a;s/[/]*/x/;ta' f\n", 1, [("1:1", LOOP, None)]),
+    ("a.sh", ["--mend", "--assume", "s=s/[/]/x/"], 's=s/[/]/x/\nsed "$s" f\n', 2, [("2:1", REFUSED, None)]),
+    ("a.sh", ["--mend", "--deny", "writes"], "sed 's/[/]/x/w evil' f\n", 1, [("1:1", "denied", None)]),
     ("a.sh", [], "$dir/sed p f\n\"$dir\"/sed p f\n${x:-sed} p f\n", 5, [("1:1", IF, ["p", "f"]), ("2:1", A, ["p", "f"]), ("3:1", IF, ["p", "f"])]),
     ("a.sh", [], "find $d -exec sed p {} \\;\nfind \"$d\" -name '*.c' -exec sed p {} \\;\nfind \"$d\" f -exec sed p {} \\;\n", 5, [("1:15", IF, ["p", "xx"]), ("2:29", A, ["p", "xx"]), ("3:19", IF, ["p", "xx"])]),
     ("a.sh", [], "sed -i '' p f\nsed -i.bak '' f\nsed -i -e '' f\n", 5, [("1:1", UNKNOWN, ["-i", "", "p", "f"]), ("2:1", A, ["-i.bak", "", "f"]), ("3:1", A, ["-i", "-e", "", "f"])]),
@@ -305,7 +318,7 @@ def places():
         status, out, _ = run(folder, "--calls", "a.sh")
         lines = out.decode().splitlines()
         if not ("   2 | sed ':x;bx' f" in lines and "a.sh:2:1: loop, no file" in lines and "a.sh:3:1: accepted, no file" in lines
-                and lines[-1] == "2 calls of sed in 1 file: 1 accepted, 1 with a loop"):
+                and lines[-2:] == ["2 calls of sed in 1 file: 1 accepted, 1 with a loop", "1 file with calls: 1 with others"]):
             fail("text: %r" % out)
 
 
@@ -315,7 +328,8 @@ def values():
     if status != 5 or any(finding["level"] != "warning" for finding in calls[0]["findings"] if finding["code"] == "known-value"):
         fail("values: %d %s" % (status, calls))
     got = [finding["message"] for finding in calls[0]["findings"] if finding["code"] == "known-value"]
-    if got != ['the answer holds if "$a" has the value that line 1 sets', '"$c" has the value that is assumed', 'the answer holds if "$b" is empty, as the file sets it']:
+    if got != ['the answer holds if "$a" has the value that line 1 sets; or give --assume a=VALUE', '"$c" has the value that is assumed',
+               'the answer holds if "$b" is empty, as the file sets it; or give --assume b=VALUE']:
         fail("values: %s" % got)
     # What a value makes of a script is a part of the condition: no plain spelling is written.
     with tempfile.TemporaryDirectory() as folder:
@@ -326,10 +340,95 @@ def values():
                 fail("values: the spelling of line %d with %s: %s" % (line, given, got))
 
 
+# A file with conditions, each with how many calls depend on it, and of which kind it is.
+DEPENDING = """$SED p f
+$SED "s/$a/b/" $f
+$SED "s/$a/$a/;s/$a/c/" $f
+sed p f -e d
+b=u
+sed "s/$b/$a/" f
+sed "$x"
+"""
+SAID = [(1, '"$SED" isn\'t known: the answer holds if it is the name of a sed, without options; or give --assume SED=sed (3 calls of this file depend on it)'),
+        (2, '"$a" isn\'t known: the answer holds if it isn\'t empty, and has no `/`, no newline, and none of `\\[.*^$`; or give --assume a=VALUE (2 calls of this file depend on it)'),
+        (2, '"$f" isn\'t known: the answer holds if no word of it begins with `-`; or give --assume f=VALUE (2 calls of this file depend on it)'),
+        (3, '"$a" isn\'t known: the answer holds if it has no `/`, no newline, and none of `\\&`; or give --assume a=VALUE (2 calls of this file depend on it)'),
+        (4, '"p" isn\'t known: the answer holds if POSIXLY_CORRECT isn\'t set, with which an option behind an operand is none; or give --assume POSIXLY_CORRECT'),
+        (6, 'the answer holds if "$b" has the value that line 5 sets; or give --assume b=VALUE')]
+KINDS = [("sed", 1, 3), ("operand", 1, 2), ("order", 1, 1), ("script", 2, 3), ("value", 1, 1)]
+
+
+def conditions():
+    """People are told each condition of a file once, at the first call that depends on it; programs at each call."""
+    with tempfile.TemporaryDirectory() as folder:
+        for name, text in (("a.sh", DEPENDING), ("b.sh", "$SED p f\n"), ("c.sh", "sed p f\n"), ("d.sh", "sed ':a;ba' f\n"), ("e.sh", "echo\n"), ("f.sh", "sed 'p\n")):
+            Path(folder, name).write_text(text)
+        for form in ("text", "gcc"):
+            out = run(folder, "--format", form, "--calls", "a.sh")[1].decode()
+            got = [(int(found[1]), found[2]) for found in re.finditer(r"(?m)^a\.sh:(\d+):\d+: warning: (.*) \[(?:open-hole|known-value)\]$", out)]
+            if got != SAID:
+                fail("conditions in %s: %s" % (form, got))
+            # Another file has its own.
+            if len(re.findall(r"\$SED", run(folder, "--format", form, "--calls", "a.sh", "b.sh")[1].decode())) < 2:
+                fail("conditions of two files in %s" % form)
+        lines = [json.loads(line) for line in run(folder, "--format", "json", "--calls", "a.sh")[1].splitlines()]
+        got = [[finding["message"] for finding in line["findings"] if "$SED" in finding["message"]] for line in lines[:-1]]
+        if got != [[SAID[0][1][:-len(" (3 calls of this file depend on it)")]]] * 3 + [[]] * 3:
+            fail("conditions in json: %s" % got)
+        if [(kind["kind"], kind["conditions"], kind["calls"]) for kind in lines[-1]["conditions"]] != KINDS:
+            fail("kinds of conditions: %s" % lines[-1]["conditions"])
+        status, out, _ = run(folder, "--calls", ".")
+        last = out.decode().splitlines()[-1]
+        if status != 5 and last != "5 files with calls: 1 all accepted, 1 all accepted if what isn't known is as said, 3 with others":
+            fail("files by their answers: %d %s" % (status, last))
+        counts = json.loads(run(folder, "--format", "json", "--calls", ".")[1].splitlines()[-1])
+        if [counts["files"]] + [counts["files_" + name] for name in ("accepted", "accepted_if", "other")] != [6, 1, 1, 3]:
+            fail("files by their answers in json: %s" % counts)
+
+
+def assumptions():
+    """A set says the same as its words, which the page lists, and each report says what was assumed."""
+    page = (Path(__file__).resolve().parent.parent / "docs/CALLS.md").read_text()
+    words = re.findall(r"(?m)^\| `` ?(.*?) ?`` \|", page.partition("## What is assumed")[2])
+    singles = [part for word in words for part in ("--assume", word)]
+    text = '$SED p f\nsed p f -e d\nsed "s/[^$as_cr_alnum]/x/" f\n$SED -e "$sed_quote_subst" f\nsed "s/$x/y/" f\n'
+    with tempfile.TemporaryDirectory() as folder:
+        Path(folder, "a.sh").write_text(text)
+        for form in ("text", "gcc", "json"):
+            given = run(folder, "--format", form, *singles, "--calls", "a.sh")
+            by_set = run(folder, "--format", form, "--assume-set", "autoconf", "--calls", "a.sh")
+            if given != by_set or given[0] != 5 or not words:
+                fail("a set, in %s: %s and %s" % (form, by_set, given))
+            if form == "json" and [bytes_of(word) for word in json.loads(by_set[1].splitlines()[-1])["assumed"]] != [word.encode() for word in words]:
+                fail("a set, in %s: not all is said: %s" % (form, by_set[1]))
+            if form != "json" and (by_set[1].count(b"assumed: ") != 1 or b'assumed: "SED=sed", ' not in by_set[1]):
+                fail("a set, in %s: not all is said: %s" % (form, by_set[1]))
+            if form != "json" and b"assumed:" in run(folder, "--format", form, "--calls", "a.sh")[1]:
+                fail("nothing is assumed, in %s, and something is said" % form)
+        Path(folder, "b.sh").write_text("$SED p f\nsed p f -e d\n")
+        status, out, _ = run(folder, "--format", "json", "--assume-set", "autoconf", "--calls", "b.sh")
+        found = [[finding["code"] for finding in json.loads(line)["findings"]] for line in out.splitlines()[:-1]]
+        if status != 0 or any("known-value" not in codes for codes in found):
+            fail("what is assumed isn't said of a call: %d %s" % (status, found))
+
+
+def mends():
+    """The command with another delimiter is said where the file has the command without quoting."""
+    for text, due in (("sed 's/[^/]*$//' f\n", ",[^/]*$,,"), ("sed -n '/[/]/p' f\n", "\\\\,[/],"), ("sed 's/[/]/,|/' f\n", ":[/]:,|:"), ("sed \"s/[/]/$x/\" f\n", ",[/],$x,"),
+                      ("sed \"s/[/]/\\$x/\" f\n", None)):
+        status, calls, _ = explained(text, "a.sh", "--mend")
+        said = [finding["message"] for finding in calls[0]["findings"] if "has its delimiter in a list" in finding["message"]]
+        if status != 5 or len(said) != 1 or said[0].partition("; for all seds write ")[2] != ('"%s"' % due if due else ""):
+            fail("a mend of %r: %d %s" % (text, status, said))
+        if explained(text, "a.sh")[0] != 2:
+            fail("%r isn't refused without --mend" % text)
+
+
 def refused_words():
     with tempfile.TemporaryDirectory() as folder:
         Path(folder, "a.sh").write_text("sed p\n")
         for words in (["--calls"], ["--calls", "--format", "html", "a.sh"], ["--calls", "--cert", "a", "a.sh"], ["--as", "sh", "a.sh"], ["--assume", "a=b", "a.sh"],
+                      ["--assume-set", "autoconf", "a.sh"], ["--mend", "a.sh"], ["--assume-set", "automake", "--calls", "a.sh"],
                       ["--calls", "--as", "perl", "a.sh"], ["--calls", "--sed", "a.sh"]):
             status, out, err = run(folder, *words)
             if status != 3 or out or not err.startswith(b"sedck-explain: "):
@@ -410,7 +509,7 @@ def scripts_below():
                 fail("a script below a folder: %s %d %r" % (form, status, out))
         Path(folder, "b.sed").write_text("p\n")
         status, out, err = run(folder, "--calls", ".")
-        if status != 0 or not out.decode().splitlines()[-1].endswith("; 1 script"):
+        if status != 0 or out.decode().splitlines()[-2:] != ["1 call of sed in 1 file: 1 accepted; 1 script", "1 file with calls: 1 all accepted"]:
             fail("a script below a folder: %d %r" % (status, out))
         Path(folder, "c.sh").write_bytes(b"sed p\n" * 700000)
         status, out, err = run(folder, "--format", "json", "--calls", "c.sh")
@@ -552,7 +651,7 @@ def many():
 
 
 def main():
-    for part in (table, places, locales, values, unread, scripts_below, refused_words, folders, judged_by_the_shell, hostile, many):
+    for part in (table, places, locales, values, unread, scripts_below, conditions, assumptions, mends, refused_words, folders, judged_by_the_shell, hostile, many):
         part()
     if not failures:
         print("calls in files: %d rows are as they should be" % (len(ROWS) + len(PLACES)))
