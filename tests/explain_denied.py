@@ -190,7 +190,7 @@ def check_texts(tools):
     tools.write("d.sed", b"p\nw out\n")
     said = 'd.sed:2:1: error: this writes "out", which `--deny writes` forbids [denied-writes]\n'
     tools.same("text of a denial", tools.explain("--deny", "writes", "d.sed"), (1, (said + (
-        "   2 | w out\n     | ^\n     = see: docs/TRUST.md#scripts-of-strangers\nd.sed: denied, though every run ends\n"
+        "   2 | w out\n     | ^^^^^\n     = see: docs/TRUST.md#scripts-of-strangers\nd.sed: denied, though every run ends\n"
         "  steps: at most 4 a line, plus 1; for 1,000 lines of 80 bytes at most 4,001\n  memory: each space at most as long as the input\n"
         "  reads: no file\n  writes: \"out\" (2:1)\n")).encode(), b""))
     tools.same("gcc of a denial", tools.explain("--format", "gcc", "--deny=writes", "d.sed"), (1, said.encode(), b""))

@@ -88,6 +88,11 @@ def check_headings(tools):
     tools.holds("rows of codes", len(rows) > 80)
     for code, page, _ in rows:
         tools.holds("page %s of %s" % (page, code), page in headings())
+    with open(os.path.join(TOP, "crates", "sedck_formats", "src", "codes.rt")) as file:
+        sections = re.findall(r"^(\w+\.md#\S+) \S.*$", file.read(), flags=re.M)
+    tools.holds("rows of sections", len(sections) > 50)
+    for page in sections:
+        tools.holds("section %s" % page, page in headings())
 
 
 def positions_in(value):

@@ -2,7 +2,7 @@
 import json
 import re
 
-from explain_texts import IDLE, ROUND
+from explain_texts import ENDLESS, ROUND
 from explain_tools import with_pages
 
 LEVELS = ("error", "warning", "note")
@@ -80,9 +80,9 @@ def check_long_loops(tools):
         parts = [steps] if left_out == 0 else [steps[:1], steps[-2:]]
         gap = "%s steps left out\n" % format(left_out, ",")
         width = max(len("%d:1" % line) for part in parts for line, _, _ in part)
-        head = "v.sed:1:1: error: %s [loop-idle]\n" % IDLE
+        head = "v.sed:1:1: error: %s [loop-idle]\n" % ENDLESS
         rows = ["".join("       %*s  %s  %s\n" % (width, "%d:1" % line, source, words) for line, source, words in part) for part in parts]
-        text = head + "   1 | :a\n     | ^\n" + ("       ... " + gap).join(rows) + "     = hint: %s\n" % ROUND
+        text = head + "   1 | :a\n     | ^^\n" + ("       ... " + gap).join(rows) + "     = hint: %s\n" % ROUND
         text = with_pages(text) + "v.sed: loop: a run may never end\n  reads: no file\n  writes: no file\n"
         tools.same("text of %d steps" % count, tools.explain("v.sed"), (1, text.encode(), b""))
         notes = ["".join("v.sed:%d:1: note: `%s` %s\n" % (line, source.strip(), words) for line, source, words in part) for part in parts]

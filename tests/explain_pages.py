@@ -102,12 +102,15 @@ class Page(html.parser.HTMLParser):
             self.title += data
 
 
-def shown_marked(line, columns):
-    """A line of a page with marks on the characters at these columns: no mark, and nothing beside one, has a part of a character that is shown."""
+def shown_marked(line, spots):
+    """A line of a page with marks from these columns on, of these lengths: no mark, and nothing beside one, has a part of a character that is
+    shown."""
     shown, start = "", 0
-    for at in sorted(column - 1 for column in columns):
+    for at, length in sorted(((column - 1, length) for column, length in spots), key=lambda spot: spot[0]):
         if at >= start:
-            end = at + max(len(letters(line[at:])[0]) if line[at:] else 1, 1)
+            end = min(at + length, len(line))
+            end += len(re.match(rb"[\x80-\xbf]{0,3}", line[end:])[0])
+            end = max(at + max(len(letters(line[at:])[0]) if line[at:] else 1, 1), end)
             shown += shown_unicode(line[start:at]) + (shown_unicode(line[at:end]) or " ")
             start = end
     return shown + shown_unicode(line[start:])
@@ -117,8 +120,8 @@ def lines_due(script, report):
     """Each line with its number, and the script's end. What is found at a line's end marks a blank there. A last line that is
     empty, behind a newline, is none."""
     lines = (script[:-1] if script.endswith(b"\n") else script).split(b"\n")
-    places = [finding["position"] for finding in report["findings"] if finding["position"]]
-    return [[str(number), shown_marked(line, [place["column"] for place in places if place["line"] == number])]
+    places = [(finding["position"], finding["end"]["offset"] - finding["position"]["offset"]) for finding in report["findings"] if finding["position"]]
+    return [[str(number), shown_marked(line, [(place["column"], length) for place, length in places if place["line"] == number])]
             for number, line in enumerate(lines, 1)] + [["end", ""]]
 
 
@@ -237,7 +240,9 @@ def hold_findings(tools, what, text, report):
         place = "%s at %d:%d: " % (finding["level"], finding["position"]["line"], finding["position"]["column"])
         code = " [%s]" % finding["code"]
         tools.holds("%s: place of F%d" % (what, at), box.startswith(place + finding["message"].replace("`", "") + code))
-        tools.holds("%s: page of F%d" % (what, at), box.endswith("see: docs/" + (page_due(finding["code"]) if is_error else finding["page"])))
+        tools.holds("%s: page of F%d" % (what, at), box.endswith("see: docs/" + (page_due(finding["code"], finding["hint"] or "") if is_error else finding["page"])))
+        line = text.partition('id="F%d">' % at)[2].partition("</div>")[0].partition("<p><code>")[2].partition("</code></p>")[0]
+        tools.same("%s: line of F%d" % (what, at), line.count("<mark>"), int(is_error))
         tools.holds("%s: hint of F%d" % (what, at), not finding["hint"] or "hint: %ssee" % finding["hint"].replace("`", "") in box)
         tools.holds("%s: steps of F%d" % (what, at), all(step["message"].replace("`", "") in box for step in finding["steps"][:1] + finding["steps"][-1:]))
         tools.same("%s: mentions of F%d" % (what, at), (top.count('<a href="#F%d"' % at), listing.count('<a href="#F%d"' % at)), (0, 1) if is_error else (1, 0))
@@ -282,11 +287,13 @@ INK = r'color="(?:#374151|#374151:white:#374151)", style=[a-z]+|color="(?:#c81e1
 LINES = {"consume": "style=solid", "shorten": "style=dashed", "keep": "style=dotted", "grow": ':white:#'}
 
 
-def hold_legend(tools, what, line, has_loop):
-    """The legend has each kind, `[t]` and `[$]`, and a loop where there is one."""
+def hold_legend(tools, what, line, drawn, inside, has_loop):
+    """The legend has each kind, `[t]` and `[$]` that is drawn, what a box of several commands means, and a loop where there is one."""
     label = re.fullmatch(r'  legend \[shape=note, fontsize=10, label="(.*)\\l"\];', line)
     words = [words.split(": ")[0] for words in label[1].split(r"\l")] if label else line
-    tools.same("%s: legend" % what, words, ["consume", "shorten", "keep", "grow", "[t]", "[$]"] + ["red"] * has_loop)
+    due = [kind for kind in ("consume", "shorten", "keep", "grow") if any(key[2] == kind for key in drawn)]
+    due += ["in a box"] * bool(inside) + ["[t]"] * any(flag for flag, _, _ in drawn.values()) + ["[$]"] * any(last for _, last, _ in drawn.values())
+    tools.same("%s: legend" % what, words, due + ["red"] * has_loop)
 
 
 def unescaped(label):
@@ -315,7 +322,7 @@ def hold_refusal(tools, what, script, label, finding):
     tools.holds("%s: width" % what, all(len(part) <= 60 or " " not in part[60:] for part in words))
 
 
-COMMAND = re.compile(r'  n([0-9]+) \[label="((?:[^"\\]|\\.)*)"(, shape=oval)?\];')
+COMMAND = re.compile(r'  n([0-9]+) \[label="((?:[^"\\]|\\.)*)"(, shape=oval)?(, color="#c81e1e", penwidth=3)?\];')
 STEP = re.compile(r'  n([0-9]+) -> n([0-9]+) \[label="(consume|shorten|keep|grow)( \[t\])?( \[\$\])?", (?:' + INK + r')\];')
 
 
@@ -328,8 +335,18 @@ def steps_due(edges, loop):
     return {key: (all(flag for flag, _, _ in seen), all(last for _, last, _ in seen), any(bold for _, _, bold in seen)) for key, seen in steps.items()}
 
 
+def runs_due(steps, count):
+    """The steps inside of boxes: from a command to the next one, and not to the end, where no other step leaves the one or reaches the other, and
+    which keep the length in all states."""
+    def is_inside(key):
+        at, to, kind = key
+        alone = [one for one in steps if one[0] == at] == [key] and [one for one in steps if one[1] == to] == [key]
+        return alone and to == at + 1 and to < count and kind == "keep" and steps[key][:2] == (False, False)
+    return {key: steps[key] for key in steps if is_inside(key)}
+
+
 def hold_commands(tools, name, script, report, dot):
-    """A graph by commands: a box for each one that a run may reach, with a part of its line, and the steps between them."""
+    """A graph by commands: a box for each straight run of those that a run may reach, with each command, and the steps between the boxes."""
     status, text, errors = tools.explain("--format", "dot", name)
     what = "dot %r" % script[:60]
     tools.same(what, (status, errors), (report["status"], b""))
@@ -343,23 +360,33 @@ def hold_commands(tools, name, script, report, dot):
     reached, edges = graph_of(tools, name)
     boxes = [match for match in map(COMMAND.fullmatch, lines) if match]
     seen = [match for match in map(STEP.fullmatch, lines) if match]
-    tools.same("%s: commands" % what, [int(box[1]) for box in boxes], sorted({node[0] for node in reached}))
+    due = steps_due(edges, loop_of(tools, name))
+    inside = runs_due(due, len(report["commands"]))
+    heads = {}
+    for at in sorted({node[0] for node in reached}):
+        heads[at] = heads[at - 1] if (at - 1, at, "keep") in inside else at
+    tools.same("%s: commands" % what, [int(box[1]) for box in boxes], sorted(set(heads.values())))
     drawn = {(int(one[1]), int(one[2]), one[3]): (bool(one[4]), bool(one[5]), bool(one[6])) for one in seen}
-    tools.same("%s: steps" % what, (len(drawn), drawn), (len(seen), steps_due(edges, loop_of(tools, name))))
-    hold_legend(tools, what, lines[4], bool(loop_of(tools, name)))
+    between = {(heads[at], heads[to], kind): value for (at, to, kind), value in due.items() if (at, to, kind) not in inside}
+    tools.same("%s: steps" % what, (len(drawn), drawn), (len(seen), between))
+    hold_legend(tools, what, lines[4], drawn, inside, bool(loop_of(tools, name)))
     tools.holds("%s: lines of kinds" % what, all(LINES[one[3]] in one[0] for one in seen))
     tools.same("%s: start" % what, lines[5:7], ["  start [shape=point];", "  start -> n0;"])
     tools.same("%s: all lines" % what, len(lines), 4 + 3 + len(boxes) + len(seen) + 2)
     for box in boxes:
-        at, (head, _, source) = int(box[1]), box[2].partition("\\n")
-        is_end = at == len(report["commands"])
-        tools.same("%s: place of n%d" % (what, at), (head, bool(box[3])), (place_words(report, at), is_end))
-        if is_end:
-            tools.same("%s: words of n%d" % (what, at), source, "next cycle, or the run ends")
+        at = int(box[1])
+        red = any(bold for (first, _, _), (_, _, bold) in inside.items() if heads[first] == at)
+        tools.same("%s: look of n%d" % (what, at), (bool(box[3]), bool(box[4])), (at == len(report["commands"]), red))
+        if box[3]:
+            tools.same("%s: words of n%d" % (what, at), box[2], r"end\nnext cycle, or the run ends")
             continue
-        line = shown_line(script.split(b"\n")[report["commands"][at]["line"] - 1])
-        shown = unescaped(source).removeprefix("...").removesuffix("...")
-        tools.holds("%s: line of n%d" % (what, at), shown and shown in line)
+        rows = re.findall(r"((?:[^\\]|\\[^l])*)\\l", box[2])
+        due_places = [place_words(report, command) for command, head in heads.items() if head == at]
+        tools.same("%s: places of n%d" % (what, at), [unescaped(row).split("  ")[0] for row in rows], due_places)
+        for row, place in zip(rows, due_places):
+            line = shown_line(script.split(b"\n")[int(place.split(":")[0]) - 1])
+            shown = unescaped(row).partition("  ")[2].removesuffix("...")
+            tools.holds("%s: line of %s" % (what, place), shown and shown in line)
 
 
 def check(tools):

@@ -2,6 +2,8 @@
 
 The places are those that docs/FAULTS.md has for each fault, counted by hand, as lines and columns.
 """
+import json
+
 from explain_tools import line_of, page_due, shown_line
 
 NO_VERB = "expected a sed command"
@@ -17,14 +19,16 @@ SPLIT = "split the script into several that run one after another"
 RETURN = "the line ends in a carriage return: save the file with Unix line endings"
 MARK = "the file begins with a byte order mark: save it without one"
 ANY_ADDRESS = "an address is a line number, `$`, or an expression between delimiters"
-ANY_FLAG = ("the flags are `g`, `p`, a number, and `w` with a file name, each once; where the text has the delimiter use another one, "
-            "as in `s,a/b,c,`")
+ANY_FLAG = ("does the text have the delimiter? Then use another one, as in `s,a/b,c,`; the flags are `g`, `p`, a number, and `w` with a file "
+            "name, each once")
 SKIPPED = "for `0~3d` write `n`, `n` and `d`; for `1~2d` write `$d`, `N` and `s/.*\\n//`; for `2~3d` put an `n` before these"
 STEPS = "for `0~3p` write `n`, `n` and `p`; for `2~5p` write `n`, `p`, `n`, `n` and `n`"
 GNU = "this extension of GNU sed has no equivalent in POSIX: do it outside the script"
 BYTE = "write the byte itself"
 WORD = ("match what is next to the word, with a command for each case: `/^WORD$/`, `/^WORD[^[:alnum:]_]/`, `/[^[:alnum:]_]WORD$/` and "
         "`/[^[:alnum:]_]WORD[^[:alnum:]_]/`")
+GROUPS = ("no escape of POSIX means an end of a word: match the byte next to it as a group of its own, after which the groups of WORD have "
+          "other numbers, and `&` has that byte too")
 ENDS = "for the ends of the pattern space write `^` and `$`"
 OTHER_BYTE = "write the character without the backslash, or in a bracket list, as in `[%]`"
 BRACKET = ("a delimiter in a bracket list ends the expression: use another one, as in `s,[/],x,` or `\\,[/],p`; in `[\\/]` some seds keep the "
@@ -109,7 +113,11 @@ REFUSED = [
     (b":\n", 1, 2, "bad-label", "a label is missing, or has a byte that a label can't have", LABEL),
     (b":a\nb a,c\n", 2, 4, "bad-label", "a label is missing, or has a byte that a label can't have", LABEL),
     (b":a;:a\n", 1, 5, "duplicate-label", "this label is already defined", None),
-    (b"p\nb z\n", 2, 3, "unknown-label", "this label isn't defined", None),
+    (b"p\nb z\n", 2, 3, "unknown-label", "this label isn't defined, and the script has none", None),
+    (b":a\n: a.b_c-9;b z\n", 2, 13, "unknown-label", "this label isn't defined: there are `a`, `a.b_c-9`", None),
+    (b"b z\ns;:x;y;\ny;:a;:b;\n/:q/i\\\n:no\ns/a/b/;:end", 1, 3, "unknown-label", "this label isn't defined: there are `end`", None),
+    (b"".join(b":%d\n" % at for at in range(1, 11)) + b"t z", 11, 3, "unknown-label",
+     "this label isn't defined: there are `1`, `2`, `3`, `4`, `5`, `6`, `7`, `8`, ...", None),
     (b"p;}\n", 1, 3, "unopened-block", "this `}` closes no block", None),
     (b"{p\n1{p\np}\n", 1, 1, "unclosed-block", "this block isn't closed",
      "write its `}` on a line of its own; after a file name or a text it would be part of that"),
@@ -137,6 +145,8 @@ REFUSED = [
     (b"/\\d/p\n", 1, 2, "bad-escape", NO_ESCAPE, "if a digit is meant write `[[:digit:]]`"),
     (b"/a\\b/p\n", 1, 3, "bad-escape", NO_ESCAPE, WORD),
     (b"/\\<a/p\n", 1, 2, "bad-escape", NO_ESCAPE, WORD),
+    (b"s/\\<\\(a\\)b/\\1/g\n", 1, 3, "bad-escape", NO_ESCAPE, GROUPS),
+    (b"s/\\Ba/x/g\n", 1, 3, "bad-escape", NO_ESCAPE, GROUPS),
     (b"/\\`a/p\n", 1, 2, "bad-escape", NO_ESCAPE, ENDS),
     (b"/a\\'/p\n", 1, 3, "bad-escape", NO_ESCAPE, ENDS),
     (b"/\\x41/p\n", 1, 2, "bad-escape", NO_ESCAPE, BYTE),
@@ -176,17 +186,17 @@ def excerpt(line, column):
     return "..." + left + after, len(left) + 3
 
 
-def text_due(name, script, row):
-    """The whole report in text."""
+def text_due(name, script, row, carets):
+    """The whole report in text, with so many carets."""
     line, column, code, message, hint = row
     shown, before = excerpt(line_of(script, line), column)
     gutter = max(4, len(str(line)) + 2)
     return "".join([
         "%s:%d:%d: error: %s [%s]\n" % (name, line, column, message, code),
         "%*d | %s\n" % (gutter, line, shown),
-        "%*s | %*s^\n" % (gutter, "", before, ""),
+        "%*s | %*s%s\n" % (gutter, "", before, "", "^" * carets),
         "%*s = hint: %s\n" % (gutter, "", hint) if hint else "",
-        "%*s = see: docs/%s\n" % (gutter, "", page_due(code)),
+        "%*s = see: docs/%s\n" % (gutter, "", page_due(code, hint or "")),
     ])
 
 
@@ -202,5 +212,9 @@ def check(tools):
     for script, *row in REFUSED:
         what = repr(script[:40])
         tools.write("s.sed", script)
-        tools.same("text %s" % what, tools.explain("s.sed"), (2, text_due("s.sed", script, row).encode(), b""))
+        # The ends themselves are compared in tests/explain_findings.py.
+        finding = json.loads(tools.explain("--format", "json", "s.sed")[1])["findings"][0]
+        meant = script[finding["position"]["offset"]:finding["end"]["offset"]]
+        carets = max(1, min(len(shown_line(meant)), LINE_WIDTH))
+        tools.same("text %s" % what, tools.explain("s.sed"), (2, text_due("s.sed", script, row, carets).encode(), b""))
         tools.same("gcc %s" % what, tools.explain("--format", "gcc", "s.sed"), (2, gcc_due("s.sed", row).encode(), b""))

@@ -13,7 +13,7 @@ REPORTS = [
     (NEXT_LINE, 0, b""),
     (b"p;q9", 2, b"f:1:4: error: unexpected text after a command [extra-text]\n"
      b"f:1:4: note: hint: an exit status of `q` and a width of `l` are extensions of GNU sed: leave them out\n"),
-    (b"b z", 2, b"f:1:3: error: this label isn't defined [unknown-label]\n"),
+    (b"b z", 2, b"f:1:3: error: this label isn't defined, and the script has none [unknown-label]\n"),
     (b"w /x", 0, b"f:1:1: warning: this writes \"/x\": it is an absolute path [absolute-name]\n"),
 ]
 WORDS = ["--format", "gcc", "--stdin-filename", "f"]

@@ -5,13 +5,15 @@ from explain_tools import line_of, place, shown_line, shown_name, with_pages
 from refusals import both, certificate
 
 IDLE = "this loop reads no line and never shortens the pattern space: it may run forever"
+ENDLESS = "this loop reads no line and never shortens the pattern space: it never ends once it is entered"
 GROWING = "this loop reads no line and may lengthen the pattern space each time: it may run forever"
 ROUND = ("make each round read a line, with `n`, `N` or `d`, or shorten the pattern space; or write the commands out a fixed number "
          "of times")
-ONCE = ("repeat the command as often as it may be needed, and then write `t c` and `:c`, since the loop leaves the flag of `t` unset; "
-        "one `s` with the flag `g` does the same only where it leaves no match")
-OFTEN = ("repeat the command as often as it may be needed, without the loop; one `s` with the flag `g` does the same only where it leaves "
-         "no match")
+ONCE = ("write one `s` with the flag `g`, and then `t c` and `:c`, since the loop leaves the flag of `t` unset: it does the same, since "
+        "what it writes can't be a part of a match")
+OFTEN = ("repeat the command as often as it may be needed, and then write `t c` and `:c`, since the loop leaves the flag of `t` unset")
+ADDED = ("`D` starts again without reading a line, and each round adds a text: add it only where a line was read, or write `d` for `D`, if "
+         "nothing after the newline is needed")
 TAKE = ("branch only where a line was read: put the branch into a block with the `N` or `n`, as in `/x/{`, `N`, `b a`, `}` on lines "
         "of their own")
 NO_STEPS = "every run ends, but no limit on its steps is known, since this may lengthen the pattern space"
@@ -29,16 +31,16 @@ REJECTED = "s.sed: rejected: the certificate doesn't fit the script\n"
 # the script; the status, the report in text, and the one for editors with notes
 ALONE = [
     (b":a\np\nb a\n", 1, f"""\
-s.sed:1:1: error: {IDLE} [loop-idle]
+s.sed:1:1: error: {ENDLESS} [loop-idle]
    1 | :a
-     | ^
+     | ^^
        1:1  :a   goes on
        2:1  p    goes on; reads no line
        3:1  b a  branches
        1:1  :a   and so on
      = hint: {ROUND}
 {LOOP}""", f"""\
-s.sed:1:1: error: {IDLE} [loop-idle]
+s.sed:1:1: error: {ENDLESS} [loop-idle]
 s.sed:1:1: note: `:a` goes on
 s.sed:2:1: note: `p` goes on; reads no line
 s.sed:3:1: note: `b a` branches
@@ -48,7 +50,7 @@ s.sed:1:1: note: hint: {ROUND}
     (b":a\ns/x/y/\n\tt a\n", 1, f"""\
 s.sed:1:1: error: {IDLE} [loop-idle]
    1 | :a
-     | ^
+     | ^^
        1:1  :a      goes on
        2:1  s/x/y/  replaces a match with a text that isn't longer
        3:2  t a     branches, since something was replaced
@@ -66,7 +68,7 @@ s.sed:1:1: note: hint: {ONCE}
     (b"p\n:a\n1{\nn\n}\nb a\n", 1, f"""\
 s.sed:2:1: error: {IDLE} [loop-idle]
    2 | :a
-     | ^
+     | ^^
        2:1  :a   goes on
        3:2  1{{   the block is skipped
        6:1  b a  branches
@@ -82,9 +84,9 @@ s.sed:2:1: note: hint: {ROUND}
 """),
     # `$!N` is skipped on the last line alone, and nothing else of the loop reads
     (b":a\n$!N\ns/a/b/\nba\n", 1, f"""\
-s.sed:1:1: error: {IDLE} [loop-idle]
+s.sed:1:1: error: {ENDLESS} [loop-idle]
    1 | :a
-     | ^
+     | ^^
        1:1  :a      goes on (on the last line)
        2:3  $!N     is skipped, so no line is read (on the last line)
        3:1  s/a/b/  replaces nothing (on the last line)
@@ -92,7 +94,7 @@ s.sed:1:1: error: {IDLE} [loop-idle]
        1:1  :a      and so on
      = hint: {TAKE}
 {LOOP}""", f"""\
-s.sed:1:1: error: {IDLE} [loop-idle]
+s.sed:1:1: error: {ENDLESS} [loop-idle]
 s.sed:1:1: note: `:a` goes on (on the last line)
 s.sed:2:3: note: `$!N` is skipped, so no line is read (on the last line)
 s.sed:3:1: note: `s/a/b/` replaces nothing (on the last line)
@@ -100,43 +102,43 @@ s.sed:4:1: note: `ba` branches (on the last line)
 s.sed:1:1: note: `:a` and so on
 s.sed:1:1: note: hint: {TAKE}
 """),
-    # several commands on a line: those behind the first are shown from their verbs on
+    # several commands on a line: each is shown alone
     (b":a\np;s/x/xx/;ta\n", 1, f"""\
 s.sed:2:3: error: {GROWING} [loop-growing]
    2 | p;s/x/xx/;ta
-     |   ^
-        2:3  ...s/x/xx/;ta  may replace a match with a longer text: it has 2 bytes, and a match may have only 1
-       2:11  ...ta          branches, since something was replaced
-        1:1  :a             goes on
-        2:1  p;s/x/xx/;ta   goes on; reads no line
-        2:3  ...s/x/xx/;ta  and so on
-     = hint: {ONCE}
+     |   ^^^^^^^
+        2:3  s/x/xx/  may replace a match with a longer text: it has 2 bytes, and a match may have only 1
+       2:11  ta       branches, since something was replaced
+        1:1  :a       goes on
+        2:1  p        goes on; reads no line
+        2:3  s/x/xx/  and so on
+     = hint: {OFTEN}
 {LOOP}""", f"""\
 s.sed:2:3: error: {GROWING} [loop-growing]
-s.sed:2:3: note: `...s/x/xx/;ta` may replace a match with a longer text: it has 2 bytes, and a match may have only 1
-s.sed:2:11: note: `...ta` branches, since something was replaced
+s.sed:2:3: note: `s/x/xx/` may replace a match with a longer text: it has 2 bytes, and a match may have only 1
+s.sed:2:11: note: `ta` branches, since something was replaced
 s.sed:1:1: note: `:a` goes on
-s.sed:2:1: note: `p;s/x/xx/;ta` goes on; reads no line
-s.sed:2:3: note: `...s/x/xx/;ta` and so on
-s.sed:2:3: note: hint: {ONCE}
+s.sed:2:1: note: `p` goes on; reads no line
+s.sed:2:3: note: `s/x/xx/` and so on
+s.sed:2:3: note: hint: {OFTEN}
 """),
     # the groups of a replacement are kept, and `\\(a\\)b` has one byte outside of them
     (b":a\ns/\\(a\\)b/\\1cc/\nta\n", 1, f"""\
 s.sed:2:1: error: {GROWING} [loop-growing]
    2 | s/\\(a\\)b/\\1cc/
-     | ^
+     | ^^^^^^^^^^^^^^
        2:1  s/\\(a\\)b/\\1cc/  may replace a match with a longer text: it has 2 bytes plus its groups, and a match may have only 1 outside of them
        3:1  ta              branches, since something was replaced
        1:1  :a              goes on
        2:1  s/\\(a\\)b/\\1cc/  and so on
-     = hint: {ONCE}
+     = hint: {OFTEN}
 {LOOP}""", f"""\
 s.sed:2:1: error: {GROWING} [loop-growing]
 s.sed:2:1: note: `s/\\(a\\)b/\\1cc/` may replace a match with a longer text: it has 2 bytes plus its groups, and a match may have only 1 outside of them
 s.sed:3:1: note: `ta` branches, since something was replaced
 s.sed:1:1: note: `:a` goes on
 s.sed:2:1: note: `s/\\(a\\)b/\\1cc/` and so on
-s.sed:2:1: note: hint: {ONCE}
+s.sed:2:1: note: hint: {OFTEN}
 """),
     (b"G\nD\n", 1, f"""\
 s.sed:1:1: error: {GROWING} [loop-growing]
@@ -145,13 +147,13 @@ s.sed:1:1: error: {GROWING} [loop-growing]
        1:1  G  may lengthen the pattern space with the contents of the hold space
        2:1  D  deletes up to the first newline, and starts again without reading a line
        1:1  G  and so on
-     = hint: {OFTEN}
+     = hint: {ADDED}
 {LOOP}""", f"""\
 s.sed:1:1: error: {GROWING} [loop-growing]
 s.sed:1:1: note: `G` may lengthen the pattern space with the contents of the hold space
 s.sed:2:1: note: `D` deletes up to the first newline, and starts again without reading a line
 s.sed:1:1: note: `G` and so on
-s.sed:1:1: note: hint: {OFTEN}
+s.sed:1:1: note: hint: {ADDED}
 """),
     # greatest first rank 1, so that the limit by lines is 2 and 1: 2 * 1,000 + 1
     (b"", 0, f"""\
@@ -185,7 +187,7 @@ s.sed:2:1: note: `G` may lengthen the pattern space with the contents of the hol
     (b"$s/a/[&]/\n", 0, f"""\
 s.sed:1:2: note: {UNKNOWN} [no-space-bound]
    1 | $s/a/[&]/
-     |  ^
+     |  ^^^^^^^^
        1:2  $s/a/[&]/  may replace a match with a longer text: it has the whole match, `&`, and more (on the last line)
 s.sed: accepted: every run ends
 {FOUR}{NO_FILES}""", f"""\
@@ -195,7 +197,7 @@ s.sed:1:2: note: `$s/a/[&]/` may replace a match with a longer text: it has the 
     (b"s/\\(a\\)b/\\1\\1/\n", 0, f"""\
 s.sed:1:1: note: {UNKNOWN} [no-space-bound]
    1 | s/\\(a\\)b/\\1\\1/
-     | ^
+     | ^^^^^^^^^^^^^^
        1:1  s/\\(a\\)b/\\1\\1/  may replace a match with a longer text: it has a group twice, or one that is repeated or inside another
 s.sed: accepted: every run ends
 {FOUR}{NO_FILES}""", f"""\
@@ -205,7 +207,7 @@ s.sed:1:1: note: `s/\\(a\\)b/\\1\\1/` may replace a match with a longer text: it
     (b"/a/s//xy/\n", 0, f"""\
 s.sed:1:4: note: {UNKNOWN} [no-space-bound]
    1 | /a/s//xy/
-     |    ^
+     |    ^^^^^^
        1:4  /a/s//xy/  may replace a match with a longer text: it has 2 bytes, and the expression may be any of the script's
 s.sed: accepted: every run ends
 {FOUR}{NO_FILES}""", f"""\
@@ -271,7 +273,7 @@ s.sed: accepted: every run ends
     (LOOP_SCRIPT, certificate(3, both({"0 0": "3 3", "1 0": "2 2", "2 0": "1 1"})), 1, f"""\
 s.sed:3:1: error: {LOWERED} [not-lowered]
    3 | b a
-     | ^
+     | ^^^
        3:1  b a  branches; its ranks are 1 and 1
        1:1  :a   is reached; its ranks are 3 and 3
      = hint: if the script was changed, run `sedck rank` again; if that finds a loop, no ranks will do
@@ -342,11 +344,11 @@ s.sed: note: hint: {LISTED}
 """),
     # a refused script comes before a refused certificate
     (b"p\n b\tz", "sedck 3\n", 2, """\
-s.sed:2:4: error: this label isn't defined [unknown-label]
+s.sed:2:4: error: this label isn't defined, and the script has none [unknown-label]
    2 |  b    z
      |       ^
 """, """\
-s.sed:2:4: error: this label isn't defined [unknown-label]
+s.sed:2:4: error: this label isn't defined, and the script has none [unknown-label]
 """),
 ]
 
@@ -441,7 +443,9 @@ def warned_due(script, offset, does, name, warnings):
     text = gcc = ""
     for code, reason in warnings:
         head = 's.sed:%d:%d: warning: this %s "%s": %s [%s]\n' % (line, column, does, name, reason, code)
-        text += head + "%4d | %s\n     | %*s^\n" % (line, shown_line(data), len(shown_line(data[:column - 1])), "")
+        # A command goes on to the end of its line, but for blanks there.
+        carets = "^" * len(shown_line(data[column - 1:].rstrip(b" ")))
+        text += head + "%4d | %s\n     | %*s%s\n" % (line, shown_line(data), len(shown_line(data[:column - 1])), "", carets)
         gcc += head
     return text, gcc
 
@@ -518,19 +522,19 @@ def check_certificates(tools):
 
 def check_long_lines(tools):
     """Of a line that is wider than 160 characters, so many are shown: up to 80 before the byte, and more where fewer follow."""
-    for script, column, shown, before in [
+    for script, column, shown, before, *width in [
         (b"k" + b"x" * 159, 1, "k" + "x" * 159, 0),
         (b"k" + b"x" * 160, 1, "k" + "x" * 159 + "...", 0),
         (b"p;" * 79 + b"pk", 160, "p;" * 79 + "pk", 159),
         (b"p;" * 80 + b"k", 161, "...;" + "p;" * 79 + "k", 162),
         (b"p;" * 100 + b"k" + b";p" * 100, 201, "..." + "p;" * 40 + "k" + ";p" * 39 + ";...", 83),
-        (b"p;" * 100 + b"\xe9" + b"\t" * 100, 201, "..." + "p;" * 40 + "\\xe9" + "    " * 19 + "...", 83),
+        (b"p;" * 100 + b"\xe9" + b"\t" * 100, 201, "..." + "p;" * 40 + "\\xe9" + "    " * 19 + "...", 83, 4),
     ]:
         tools.write("s.sed", script + b"\np\n")
         status, report, errors = tools.explain("s.sed")
         lines = report.decode().split("\n")
         tools.same("place %r" % script, (status, lines[0].split(" ")[0], errors), (2, "s.sed:1:%d:" % column, b""))
-        tools.same("line %r" % script, lines[1:3], ["   1 | " + shown, "     | " + " " * before + "^"])
+        tools.same("line %r" % script, lines[1:3], ["   1 | " + shown, "     | " + " " * before + "^" * (width or [1])[0]])
 
 
 def check(tools):

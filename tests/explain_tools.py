@@ -124,9 +124,37 @@ PAGES = {
 }
 
 
+# The sections of some hints, by their first words; the sections themselves are followed in tests/followed.py.
+OF_HINTS = {
+    "MENDING.md#joining-lines": ["make each round read"],
+    "MENDING.md#waiting-for-a-line": ["branch only where"],
+    "MENDING.md#substituting-until-nothing-changes": ["write one `s` with the flag `g`"],
+    "MENDING.md#carrying-a-digit": ["repeat the command as often as it may be needed, and then"],
+    "FAULTS.md#3-unknown-command": ["for `0~3p`"],
+    "FAULTS.md#3-unknown-command-steps-that-begin-later": ["for `0~3d`"],
+    "FAULTS.md#3-unknown-command-t": ["for `T end`"],
+    "FAULTS.md#3-unknown-command-z": ["for `z`"],
+    "FAULTS.md#3-unknown-command-q": ["for `/x/Q`"],
+    "FAULTS.md#4-bad-address-addrn": ["for `6,+2`"],
+    "FAULTS.md#8-bad-replacement-u-l": ["to change whole lines"],
+    "FAULTS.md#9-bad-flag-e-and-m": ["`^` and `$` match only"],
+    "FAULTS.md#11-missing-text-one-that-begins-with-a-backslash": ["seds differ on a text"],
+    "FAULTS.md#20-extra-text-a-carriage-return-or-a-backslash-at-the-end-of-a-line": ["the line ends in a carriage return", "BusyBox joins"],
+    "FAULTS.md#2-bad-escape-a-bar": ["a range needs"],
+    "FAULTS.md#2-bad-escape-a-bar-and-another-command": ["for `/a\\|b/p`"],
+    "FAULTS.md#2-bad-escape-s-s-w-w": ["for `\\%s` write" % letter for letter in "sSwW"],
+    "FAULTS.md#2-bad-escape-b--": ["match what is next to the word", "no escape of POSIX"],
+    "FAULTS.md#2-bad-escape--and--elsewhere": ["for `x\\?` write `x\\{0\\,1"],
+    "FAULTS.md#11-bad-reference-beside-a-repeated-group": ["repeat bytes and lists"],
+}
+
+
 @functools.cache
-def page_due(code):
-    """The page that explains a code, with its heading."""
+def page_due(code, hint=""):
+    """The page that explains a code, with its heading, or what its hint says."""
+    for page, starts in OF_HINTS.items():
+        if hint and any(hint.startswith(start) for start in starts):
+            return page
     for page, codes in PAGES.items():
         if code in codes:
             return page
@@ -135,13 +163,15 @@ def page_due(code):
 
 
 def with_pages(report):
-    """A report in text with the page of each code of an error or a warning, behind its first finding."""
+    """A report in text with the page of each error or warning, behind the first finding that has it."""
     blocks, seen = re.split(r"(?m)^(?=\S)", report), set()
     for at, block in enumerate(blocks):
         head = re.match(r".*?: (error|warning): .* \[([a-z-]+)\]\n", block)
-        if head and head[2] not in seen:
-            seen.add(head[2])
+        hint = re.search(r"(?m)^ *= hint: (.*)$", block)
+        page = page_due(head[2], hint[1] if hint else "") if head else None
+        if head and page not in seen:
+            seen.add(page)
             gutter = re.search(r"(?m)^( *)(\d+) \| ", block)
             width = len(gutter[1] + gutter[2]) if gutter else 4
-            blocks[at] += "%*s = see: docs/%s\n" % (width, "", page_due(head[2]))
+            blocks[at] += "%*s = see: docs/%s\n" % (width, "", page)
     return "".join(blocks)

@@ -8,7 +8,7 @@ from explain_texts import NEXT_LINE, NEXT_LINE_TEXT
 from explain_tools import VERSION
 
 ACCEPTED = "%s: accepted: every run ends\n  steps: at most 4 a line, plus 1; for 1,000 lines of 80 bytes at most 4,001\n  memory: each space at most as long as the input\n  reads: no file\n  writes: no file\n"
-UNKNOWN = "%s:1:3: error: this label isn't defined [unknown-label]\n   1 | b z\n     |   ^\n     = see: docs/FAULTS.md#unknown-label\n"
+UNKNOWN = "%s:1:3: error: this label isn't defined, and the script has none [unknown-label]\n   1 | b z\n     |   ^\n     = see: docs/FAULTS.md#unknown-label\n"
 ESCAPES = {"red": "\x1b[1;31m", "yellow": "\x1b[1;33m", "cyan": "\x1b[1;36m", "green": "\x1b[1;32m", "plain": "\x1b[0m"}
 FORMATS = ("text", "gcc", "json", "sarif", "html", "dot")
 
@@ -193,9 +193,9 @@ def check_colours(tools):
     tools.write("c.sed", b"s/a\\+/b/\n")
     tools.write("w.sed", b"w /x\n$!N\nG\n")
     error = "c.sed:1:4: {red}error{plain}: POSIX defines no such escape in a basic regular expression, and seds differ on it [bad-escape]\n"
-    error += "   1 | s/a\\+/b/\n     |    {red}^{plain}\n     = {cyan}hint{plain}: for `x\\+` write `x\\{1,\\}` or `xx*`\n"
+    error += "   1 | s/a\\+/b/\n     |    {red}^^{plain}\n     = {cyan}hint{plain}: for `x\\+` write `x\\{1,\\}` or `xx*`\n"
     error += "     = {cyan}see{plain}: docs/FAULTS.md#bad-escape\n"
-    other = 'w.sed:1:1: {yellow}warning{plain}: this writes "/x": it is an absolute path [absolute-name]\n   1 | w /x\n     | {yellow}^{plain}\n'
+    other = 'w.sed:1:1: {yellow}warning{plain}: this writes "/x": it is an absolute path [absolute-name]\n   1 | w /x\n     | {yellow}^^^^{plain}\n'
     other += "     = {cyan}see{plain}: docs/TRUST.md#names\n"
     other += "w.sed:3:1: {cyan}note{plain}: every run ends, but no limit on its memory is known, since this may lengthen the pattern space [no-space-bound]\n"
     other += "   3 | G\n     | {cyan}^{plain}\n       3:1  G  may lengthen the pattern space with the contents of the hold space\n"
