@@ -108,6 +108,6 @@ pub(crate) fn count_node(graph: Graph, index: usize, sets: &mut Sets, counts: &m
 {
     if counts[index] == UNCOUNTED {
         find_reached(graph, counts, Node::nth(index), sets);
-        counts[index] = sets.reached.len() as u16;
+        counts[index] = sets.reached.counted() as u16;
     }
 }

@@ -136,4 +136,12 @@ impl NodeSet {
     {
         self.count
     }
+
+    /// The same, counted anew.
+    pub(crate) fn counted(&self) -> usize
+        ensures value { result ≡ bit_count self.now }
+        ensures is_set { IsNodeSet self.now }
+    {
+        count_bits(&self.words) as usize
+    }
 }
