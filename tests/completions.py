@@ -99,7 +99,7 @@ def check_fish(words, values):
 
 def main():
     words, values = words_of_programs(*map(os.path.abspath, sys.argv[1:3]))
-    if not all(words.values()) or set(values) != {"--format", "--level", "--deny", "--as"}:
+    if not all(words.values()) or set(values) != {"--format", "--level", "--deny", "--as", "--assume-set"}:
         print("completions: the programs say no words that can be read: %s %s" % (words, values))
         return 1
     if shutil.which("bash"):
