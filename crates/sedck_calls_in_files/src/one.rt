@@ -152,11 +152,7 @@ fn place_of_one(text: &[u8], calls: &[FoundCall], at: At) -> Option<usize> {
 }
 
 fn is_at(position: Position, at: At) -> bool {
-    let is_column = match at.column {
-        Some(column) => position.column == column,
-        None => true,
-    };
-    position.line == at.line && is_column
+    position.line == at.line && at.column.is_none_or(|column| position.column == column)
 }
 
 /// The same for this call.

@@ -87,13 +87,9 @@ fn assigned_from(units: &[Unit]) -> Option<Assigned> {
 
 /// Whether the units have `]=` or `]+=`.
 fn has_subscript(units: &[Unit]) -> bool {
-    match units.iter().position(|unit| unit.byte() == Some(b']')) {
-        Some(bracket) => {
-            let next = byte_at(units, bracket.saturating_add(1));
-            matches!(next, Some(b'=' | b'+'))
-        }
-        None => false,
-    }
+    let bracket = units.iter().position(|unit| unit.byte() == Some(b']'));
+    let next = bracket.and_then(|bracket| byte_at(units, bracket.saturating_add(1)));
+    matches!(next, Some(b'=' | b'+'))
 }
 
 /// The words without `command` and `builtin` before them, and without their options.
@@ -228,10 +224,8 @@ impl Names<'_> {
 
     /// Whether the value behind the sign that assigns it begins with the name of a sed, or with a variable that has one.
     pub fn begins_with_sed(&self, units: &[Unit]) -> Result<bool> {
-        let from = match units.iter().position(|unit| unit.byte() == Some(b'=')) {
-            Some(sign) => sign.saturating_add(1),
-            None => 0,
-        };
+        let sign = units.iter().position(|unit| unit.byte() == Some(b'='));
+        let from = sign.map_or(0, |sign| sign.saturating_add(1));
         let value = units.get(from..).unwrap_or(&[]);
         let end = value
             .iter()
@@ -385,10 +379,8 @@ fn assigns_sed(bytes: &[u8]) -> bool {
         _ => return false,
     };
     let part = value.get(..value.len().min(LONGEST)).unwrap_or(&[]);
-    match part.iter().position(|byte| *byte == b'}') {
-        Some(end) => is_sed_path(part.get(..end).unwrap_or(&[])),
-        None => false,
-    }
+    let end = part.iter().position(|byte| *byte == b'}');
+    end.is_some_and(|end| is_sed_path(part.get(..end).unwrap_or(&[])))
 }
 
 /// Whether an assignment of LC_ALL is one of C or of POSIX, where a character is a byte; none of another variable.

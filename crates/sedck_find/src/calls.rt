@@ -408,10 +408,10 @@ fn is_redefined(names: &Names<'_>, name: &ShellWord, part: Part) -> Result<bool>
         return Ok(true);
     }
     let units = name.units.get(part.glued..).unwrap_or(&[]);
-    Ok(match bytes_of(names.alloc, units)? {
-        Some(name) => names.is_hashed(&name) || (part.is_direct && names.is_function(&name)),
-        None => false,
-    })
+    let name = bytes_of(names.alloc, units)?;
+    Ok(name.is_some_and(|name| {
+        names.is_hashed(&name) || (part.is_direct && names.is_function(&name))
+    }))
 }
 
 /// Whether the words are prose within brackets of M4: the name is right behind one, and the next word is letters alone.

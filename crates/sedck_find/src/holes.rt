@@ -54,18 +54,11 @@ pub(crate) fn roles_of(
             roles.read_part(word, from)?;
         }
     }
-    let Roles {
-        reading: _,
-        text,
-        holes,
-        is_unknown,
-        follows_hole: _,
-        follows_hyphen: _,
-        last: _,
-    } = roles;
-    if is_unknown {
+    if roles.is_unknown {
         return Ok(None);
     }
+    let text = std::mem::replace(&mut roles.text, empty(alloc));
+    let holes = std::mem::replace(&mut roles.holes, Vec::new(alloc));
     Ok(Some((text, holes)))
 }
 

@@ -1,35 +1,28 @@
 //! Macros of M4 in sources of Autoconf.
 
+use crate::units::is_one_among;
 use sedck_hosts::Kind;
-use sedck_origin::{Origin, Result, is_among, is_name_byte};
+use sedck_origin::{Origin, Result, is_name_byte};
 use std::alloc::Global;
 
 /// Macros whose first argument is the name of a macro that they define.
-static DEFINING: &'static [&'static [&'static str]] = &[
-    &["AC_DEFUN", "AC_DEFUN_ONCE", "AU_DEFUN", "AU_ALIAS"],
-    &["m4_define", "m4_define_default", "m4_defun"],
-    &["m4_defun_once", "m4_pushdef", "define", "pushdef"],
-    &["m4_for", "m4_foreach", "m4_foreach_w"],
+static DEFINING: &'static [&'static str] = &[
+    "AC_DEFUN AC_DEFUN_ONCE AU_DEFUN AU_ALIAS m4_define m4_define_default m4_defun",
+    "m4_defun_once m4_pushdef define pushdef m4_for m4_foreach m4_foreach_w",
 ];
 
 /// Macros of M4 itself, where a parenthesis follows.
-static CALLED: &'static [&'static [&'static str]] = &[
-    &["builtin", "changecom", "changequote", "changeword"],
-    &["debugfile", "debugmode", "decr", "define", "defn"],
-    &["divert", "dumpdef", "errprint", "esyscmd", "eval"],
-    &["format", "ifdef", "ifelse", "include", "incr", "index"],
-    &["indir", "len", "m4exit", "m4wrap", "maketemp", "mkstemp"],
-    &["patsubst", "popdef", "pushdef", "regexp", "shift"],
-    &["sinclude", "substr", "syscmd", "traceoff", "traceon"],
-    &["translit", "undefine", "undivert"],
+static CALLED: &'static [&'static str] = &[
+    "builtin changecom changequote changeword debugfile debugmode decr define defn divert",
+    "dumpdef errprint esyscmd eval format ifdef ifelse include incr index indir len",
+    "m4exit m4wrap maketemp mkstemp patsubst popdef pushdef regexp shift sinclude substr",
+    "syscmd traceoff traceon translit undefine undivert",
 ];
 
 /// The same, whatever follows.
-static BARE: &'static [&'static [&'static str]] = &[
-    &["changecom", "changequote", "debugfile", "debugmode"],
-    &["divert", "divnum", "dnl", "dumpdef", "m4exit", "sysval"],
-    &["traceoff", "traceon", "undivert"],
-    &["__file__", "__line__", "__oline__", "__program__"],
+static BARE: &'static [&'static str] = &[
+    "changecom changequote debugfile debugmode divert divnum dnl dumpdef m4exit sysval",
+    "traceoff traceon undivert __file__ __line__ __oline__ __program__",
 ];
 
 /// The names of the macros that a file of this kind defines, in order: none but in a source of Autoconf.
@@ -85,11 +78,6 @@ fn name_at(text: &[u8]) -> &[u8] {
         .position(|byte| !is_name_byte(*byte))
         .unwrap_or(text.len());
     text.get(..end).unwrap_or(&[])
-}
-
-/// Whether the name is in one of the lists.
-fn is_one_among(name: &[u8], lists: &[&[&str]]) -> bool {
-    lists.iter().any(|names| is_among(name, names))
 }
 
 /// Whether a bracket is in the text, which is a quote of M4.

@@ -4,38 +4,19 @@ use crate::assigning::is_assignment;
 use crate::names::Names;
 use crate::parts::{Part, Runner};
 use crate::programs::{LONGEST, Program, is_sed_word};
-use crate::units::{bytes_of, ends_with, has_hole, last_part, variable_length};
+use crate::units::{bytes_of, ends_with, has_hole, is_one_among, last_part, variable_length};
 use sedck_origin::{
     Result, Unit, begins_with, byte_at, hole_name, is_among, is_name_byte, is_one_of, is_text,
 };
 use sedck_shell::ShellWord;
 
 /// Commands whose words are no commands.
-static PLAIN: &'static [&'static [&'static str]] = &[
-    &[
-        "echo", "printf", "test", "[", "[[", ":", "case", "return", "exit",
-    ],
-    &[
-        "which", "type", "hash", "command", "grep", "egrep", "fgrep", "expr",
-    ],
-    &[
-        "cat", "rm", "cp", "mv", "ln", "chmod", "ls", "mkdir", "touch", "cd",
-    ],
-    &[
-        "diff", "cmp", "install", "tar", "make", "gmake", "dirname", "basename",
-    ],
-    &[
-        "export", "readonly", "local", "declare", "typeset", "unset", "read",
-    ],
-    &[
-        "unalias", "awk", "gawk", "mawk", "perl", "python", "python3", "ruby",
-    ],
-    &[
-        "apt", "apt-get", "aptitude", "dpkg", "yum", "dnf", "microdnf", "rpm",
-    ],
-    &[
-        "zypper", "apk", "pacman", "brew", "opkg", "emerge", "pkg", "port",
-    ],
+static PLAIN: &'static [&'static str] = &[
+    "echo printf test [ [[ : case return exit which type hash command grep egrep fgrep",
+    "expr cat rm cp mv ln chmod ls mkdir touch cd diff cmp install tar make gmake dirname",
+    "basename export readonly local declare typeset unset read unalias awk gawk mawk perl",
+    "python python3 ruby apt apt-get aptitude dpkg yum dnf microdnf rpm zypper apk pacman",
+    "brew opkg emerge pkg port",
 ];
 
 /// Those whose words are none behind `in`.
@@ -45,22 +26,16 @@ static LOOPS: &'static [&'static str] = &["for", "select"];
 static BRACES: &'static [&'static str] = &["{", "}", "]]"];
 
 /// Commands that run a text, which isn't read.
-static RUNNING: &'static [&'static [&'static str]] = &[
-    &[
-        "env", "ssh", "rsh", "watch", "parallel", "docker", "podman", "kubectl",
-    ],
-    &[
-        "script", "nsenter", "git", "tmux", "screen", "xterm", "entr", "adb",
-    ],
-    &["alias", "systemd-run", "lxc-attach", "vagrant", "crontab"],
+static RUNNING: &'static [&'static str] = &[
+    "env ssh rsh watch parallel docker podman kubectl script nsenter git tmux screen",
+    "xterm entr adb alias systemd-run lxc-attach vagrant crontab",
 ];
 
 /// Variables whose values other programs run.
-static EDITORS: &'static [&'static [&'static str]] = &[
-    &["EDITOR", "VISUAL", "FCEDIT", "PAGER", "BROWSER", "LESSOPEN"],
-    &["GIT_EDITOR", "GIT_SEQUENCE_EDITOR", "GIT_PAGER", "MANPAGER"],
-    &["SUDO_EDITOR", "SYSTEMD_EDITOR", "KUBE_EDITOR", "SVN_EDITOR"],
-    &["HGEDITOR", "PROMPT_COMMAND", "GIT_EXTERNAL_DIFF"],
+static EDITORS: &'static [&'static str] = &[
+    "EDITOR VISUAL FCEDIT PAGER BROWSER LESSOPEN GIT_EDITOR GIT_SEQUENCE_EDITOR GIT_PAGER",
+    "MANPAGER SUDO_EDITOR SYSTEMD_EDITOR KUBE_EDITOR SVN_EDITOR HGEDITOR PROMPT_COMMAND",
+    "GIT_EXTERNAL_DIFF",
 ];
 
 /// The offset of what may call sed in this part of a command, where it is none of a sed. In prose, and in a value of make's, a word behind
@@ -181,13 +156,8 @@ fn has_value(names: &Names<'_>, units: &[Unit]) -> bool {
     units.iter().take(LONGEST).any(|unit| match *unit {
         Unit::Hole(hole) => {
             let name = hole_name(names.written_hole(hole)).unwrap_or(&[]);
-            match names.facts.get(name) {
-                Some(fact) => match &fact.value {
-                    Some(value) => has_name(value.get(..LONGEST).unwrap_or(value)),
-                    None => false,
-                },
-                None => false,
-            }
+            let value = names.facts.get(name).and_then(|fact| fact.value.as_deref());
+            value.is_some_and(|value| has_name(value.get(..LONGEST).unwrap_or(value)))
         }
         _ => false,
     })
@@ -215,10 +185,9 @@ fn writes_sed(written: &[u8]) -> bool {
             .position(|byte| *byte != b' ')
             .unwrap_or(behind.len());
         let is_name = !behind.first().is_some_and(|byte| is_name_byte(*byte));
-        let is_last = match behind.get(blanks) {
-            Some(next) => b")`|;&<>2".contains(next),
-            None => true,
-        };
+        let is_last = behind
+            .get(blanks)
+            .is_none_or(|next| b")`|;&<>2".contains(next));
         if is_name && (!is_command || is_last) {
             return true;
         }
@@ -234,10 +203,8 @@ fn has_text(units: &[Unit], is_run: bool) -> bool {
         if !begins_call(units, index) {
             continue;
         }
-        let is_script = match byte_at(rest, 4) {
-            Some(next) => !next.is_ascii_alphabetic() || is_letter(rest),
-            None => true,
-        };
+        let next = byte_at(rest, 4);
+        let is_script = next.is_none_or(|next| !next.is_ascii_alphabetic() || is_letter(rest));
         let before = byte_at(units, index.saturating_sub(1));
         let is_first = index == 0 || before.is_some_and(|before| b"=/;|&(!\n".contains(&before));
         if is_run || (is_first && is_script) {
@@ -288,9 +255,4 @@ fn looks_called(word: &ShellWord) -> bool {
         .iter()
         .any(|unit| matches!(*unit, Unit::Byte(b'/', _)));
     word.is_quoted || has_slash || byte_at(&word.units, 0) == Some(b'-')
-}
-
-/// Whether the name is in one of the lists.
-fn is_one_among(name: &[u8], lists: &[&[&str]]) -> bool {
-    lists.iter().any(|names| is_among(name, names))
 }

@@ -203,10 +203,7 @@ fn is_followed(fact: &Fact, used: Spot, open: Option<usize>) -> bool {
     let is_before = set.scope.text() == used.scope.text() && set.at < used.at;
     let is_reached = set.site.is_certain && (set.site.body == 0 || set.site.body == used.site.body);
     let is_once = used.site.is_certain && used.site.body == 0;
-    let is_kept = match open {
-        Some(offset) => is_once && used.at < offset,
-        None => true,
-    };
+    let is_kept = open.is_none_or(|offset| is_once && used.at < offset);
     is_before && is_reached && is_kept
 }
 

@@ -1,7 +1,7 @@
 //! What the name of a command calls.
 
 use crate::names::{Names, Spot, replaced_name};
-use crate::units::{bytes_of, last_part};
+use crate::units::{bytes_of, is_one_among, last_part};
 use crate::values::{BLANKS, Value};
 use sedck_origin::{Hole, Result, Unit, byte_at, hole_name, is_among, named};
 use sedck_shell::ShellWord;
@@ -81,12 +81,10 @@ const PREFIX: Wrapper = Wrapper {
 };
 
 /// Long options that take the next word.
-static LONG: &'static [&'static [&'static str]] = &[
-    &["--arg-file", "--delimiter", "--max-args", "--max-chars"],
-    &["--max-procs", "--process-slot-var"],
-    &["--user", "--group", "--unset", "--chdir"],
-    &["--signal", "--kill-after", "--adjustment"],
-    &["--input", "--output", "--error", "--class"],
+static LONG: &'static [&'static str] = &[
+    "--arg-file --delimiter --max-args --max-chars --max-procs --process-slot-var --user",
+    "--group --unset --chdir --signal --kill-after --adjustment --input --output --error",
+    "--class",
 ];
 
 /// Names of other programs, and what they are.
@@ -138,7 +136,7 @@ pub(crate) enum Before {
 pub(crate) fn before_command(wrapper: Wrapper, word: &[u8]) -> Before {
     match word {
         [b'-', b'-'] => Before::End,
-        [b'-', b'-', ..] if LONG.iter().any(|names| is_among(word, names)) => Before::Awaiting,
+        [b'-', b'-', ..] if is_one_among(word, LONG) => Before::Awaiting,
         // What is split there may be another command.
         [b'-', b'-', b's', ..] if wrapper.is_env => Before::Stop,
         [b'-', b'-', ..] => Before::Option,
@@ -181,13 +179,10 @@ pub(crate) fn glued_name(units: &[Unit]) -> &[Unit] {
 /// Whether the word is the name of a sed, perhaps behind what isn't known, or a variable that has one.
 pub(crate) fn is_sed_word(names: &Names<'_>, word: &ShellWord) -> Result<bool> {
     if let [Unit::Hole(hole)] = *word.units.as_slice() {
-        return Ok(match hole_name(names.written_hole(hole)) {
-            Some(name) => {
-                let has_default = has_sed_default(names.written_hole(hole), name);
-                is_sed_variable(name) || names.may_be_sed(name) || has_default
-            }
-            None => false,
-        });
+        let written = names.written_hole(hole);
+        return Ok(hole_name(written).is_some_and(|name| {
+            is_sed_variable(name) || names.may_be_sed(name) || has_sed_default(written, name)
+        }));
     }
     // What is before the name may be nothing, or a part of its path.
     let part = last_part(&word.units);
@@ -242,11 +237,9 @@ fn named_program(name: &[u8]) -> Program {
 
 /// Whether the last part of the path is the name of a sed.
 pub(crate) fn is_sed_path(path: &[u8]) -> bool {
-    let name = match path.iter().rposition(|byte| *byte == b'/') {
-        Some(slash) => path.get(slash.saturating_add(1)..).unwrap_or(&[]),
-        None => path,
-    };
-    is_among(name, SEDS)
+    let slash = path.iter().rposition(|byte| *byte == b'/');
+    let from = slash.map_or(0, |slash| slash.saturating_add(1));
+    is_among(path.get(from..).unwrap_or(&[]), SEDS)
 }
 
 /// Whether a variable of this name has the path of a sed.

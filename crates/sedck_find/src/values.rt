@@ -51,10 +51,7 @@ impl Value<'_> {
     /// Its byte of this number, with its origin.
     pub fn get(self, index: usize) -> Option<(u8, Origin)> {
         match self {
-            Value::Given(bytes) => match bytes.get(index) {
-                Some(byte) => Some((*byte, Origin::Given)),
-                None => None,
-            },
+            Value::Given(bytes) => bytes.get(index).map(|byte| (*byte, Origin::Given)),
             Value::Written(units) => match units.get(index) {
                 Some(Unit::Byte(byte, offset)) => Some((*byte, Origin::Value(*offset))),
                 _ => None,
@@ -64,18 +61,16 @@ impl Value<'_> {
 
     /// Whether it has one of these bytes.
     pub fn has_any(self, bytes: &[u8]) -> bool {
-        (0..self.len()).any(|index| match self.get(index) {
-            Some((byte, _)) => bytes.contains(&byte),
-            None => false,
-        })
+        (0..self.len()).any(|index| self
+            .get(index)
+            .is_some_and(|(byte, _)| bytes.contains(&byte)))
     }
 
     /// Whether it has a byte that is none of these.
     pub fn has_other(self, bytes: &[u8]) -> bool {
-        (0..self.len()).any(|index| match self.get(index) {
-            Some((byte, _)) => !bytes.contains(&byte),
-            None => true,
-        })
+        !(0..self.len()).all(|index| self
+            .get(index)
+            .is_some_and(|(byte, _)| bytes.contains(&byte)))
     }
 
     /// Whether a shell leaves the value as it is where it comes into a word in this way.

@@ -62,10 +62,10 @@ impl Host {
     }
 }
 
-/// The shell text of a file of this kind; that of a shell script is the whole file.
+/// The shell text in a file of this kind; nothing of a shell script, which is one as a whole.
 pub fn host_of(alloc: Global, kind: Kind, file: &[u8]) -> Result<Host> {
     let mut host = match kind {
-        Kind::Shell => host_of_shell(alloc, file)?,
+        Kind::Shell => Host::new(alloc),
         Kind::Make => host_of_make(alloc, file)?,
         Kind::Docker => host_of_docker(alloc, file)?,
         Kind::Yaml => host_of_yaml(alloc, file)?,
@@ -74,15 +74,6 @@ pub fn host_of(alloc: Global, kind: Kind, file: &[u8]) -> Result<Host> {
     };
     host.unread.sort()?;
     host.unread.dedup();
-    Ok(host)
-}
-
-/// The shell text of a shell script.
-fn host_of_shell(alloc: Global, file: &[u8]) -> Result<Host> {
-    let mut host = Host::new(alloc);
-    let mut units = Vec::new(alloc);
-    Part::whole(file).push(&mut units)?;
-    host.add(units)?;
     Ok(host)
 }
 

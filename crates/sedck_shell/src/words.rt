@@ -367,10 +367,9 @@ impl Reader<'_> {
 /// Whether the word behind `>&` is a descriptor, or the hyphen that closes one.
 fn is_descriptor_copy(word: &ShellWord) -> bool {
     let mut units = word.units.iter();
-    units.all(|unit| match unit.byte() {
-        Some(byte) => byte.is_ascii_digit() || byte == b'-',
-        None => true,
-    })
+    units.all(|unit| unit
+        .byte()
+        .is_none_or(|byte| byte.is_ascii_digit() || byte == b'-'))
 }
 
 /// The offset of the first of these words, from this number on, where one of all is a sed; or else of one there that may be.
@@ -393,10 +392,8 @@ static SEDS: &'static [&'static str] = &["sed", "gsed", "ssed"];
 
 /// Whether the units are the name of a sed, or a path that ends with one.
 fn ends_with_sed(units: &[Unit]) -> bool {
-    let from = match units.iter().rposition(|unit| unit.byte() == Some(b'/')) {
-        Some(slash) => slash.saturating_add(1),
-        None => 0,
-    };
+    let slash = units.iter().rposition(|unit| unit.byte() == Some(b'/'));
+    let from = slash.map_or(0, |slash| slash.saturating_add(1));
     is_one_of(units.get(from..).unwrap_or(&[]), SEDS)
 }
 
