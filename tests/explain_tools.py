@@ -146,7 +146,9 @@ OF_HINTS = {
     "FAULTS.md#2-bad-escape-s-s-w-w": ["for `\\%s` write" % letter for letter in "sSwW"],
     "FAULTS.md#2-bad-escape-b--": ["match what is next to the word", "no escape of POSIX"],
     "FAULTS.md#2-bad-escape--and--elsewhere": ["for `x\\?` write `x\\{0\\,1"],
+    "FAULTS.md#9-nothing-to-repeat-an-anchor": ["an anchor holds in one place"],
     "FAULTS.md#11-bad-reference-beside-a-repeated-group": ["repeat bytes and lists"],
+    "FAULTS.md#22-escaped-delimiter-with-a-bracket-list": ["GNU sed reads `\\x`"],
 }
 
 
