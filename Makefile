@@ -77,6 +77,7 @@ explain-tests: build probe
 	@echo "Testing the reports of sedck-explain ..."
 	python3 tests/explain.py build/sedck-explain build/sedck
 	python3 tests/hints.py build/sedck-explain build/sedck
+	python3 tests/followed.py build/sedck-explain
 	python3 tests/fixes.py build/sedck-explain
 	python3 tests/parts.py crates/sedck_probe/out/sedck_probe
 	python3 tests/locales.py build/sedck-explain

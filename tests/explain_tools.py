@@ -129,6 +129,7 @@ PAGES = {
 OF_HINTS = {
     "MENDING.md#joining-lines": ["make each round read"],
     "MENDING.md#waiting-for-a-line": ["branch only where"],
+    "MENDING.md#padding-a-line": ["if the loop makes a line as long"],
     "MENDING.md#substituting-until-nothing-changes": ["write one `s` with the flag `g`"],
     "MENDING.md#carrying-a-digit": ["repeat the command as often as it may be needed, and then"],
     "FAULTS.md#3-unknown-command": ["for `0~3p`"],
