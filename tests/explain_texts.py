@@ -12,6 +12,9 @@ ROUND = ("make each round read a line, with `n`, `N` or `d`, or shorten the patt
 ONCE = ("write one `s` with the flag `g`, and then `t c` and `:c`, since the loop leaves the flag of `t` unset: it does the same, since "
         "what it writes can't be a part of a match")
 OFTEN = ("repeat the command as often as it may be needed, and then write `t c` and `:c`, since the loop leaves the flag of `t` unset")
+PADDED = ("if the loop makes a line as long as it should be, add all that may be needed with one `s` and cut the rest off with a second one, as "
+          "docs/MENDING.md pads a line; else repeat the command as often as it may be needed; then write `t c` and `:c`, since the loop leaves the "
+          "flag of `t` unset")
 ADDED = ("`D` starts again without reading a line, and each round adds a text: add it only where a line was read, or write `d` for `D`, if "
          "nothing after the newline is needed")
 TAKE = ("branch only where a line was read: put the branch into a block with the `N` or `n`, as in `/x/{`, `N`, `b a`, `}` on lines "
@@ -121,6 +124,26 @@ s.sed:1:1: note: `:a` goes on
 s.sed:2:1: note: `p` goes on; reads no line
 s.sed:2:3: note: `s/x/xx/` and so on
 s.sed:2:3: note: hint: {OFTEN}
+"""),
+    # a command of a block, and one with its address
+    (b":a\n/x/{y/a/b/;};s/^.\\{1,8\\}$/ &/;ta\n", 1, f"""\
+s.sed:2:14: error: {GROWING} [loop-growing]
+   2 | /x/{{y/a/b/;}};s/^.\\{{1,8\\}}$/ &/;ta
+     |              ^^^^^^^^^^^^^^^^
+       2:14  s/^.\\{{1,8\\}}$/ &/  may replace a match with a longer text: it has the whole match, `&`, and more
+       2:31  ta                branches, since something was replaced
+        1:1  :a                goes on
+        2:4  /x/{{              the block is skipped
+       2:14  s/^.\\{{1,8\\}}$/ &/  and so on
+     = hint: {PADDED}
+{LOOP}""", f"""\
+s.sed:2:14: error: {GROWING} [loop-growing]
+s.sed:2:14: note: `s/^.\\{{1,8\\}}$/ &/` may replace a match with a longer text: it has the whole match, `&`, and more
+s.sed:2:31: note: `ta` branches, since something was replaced
+s.sed:1:1: note: `:a` goes on
+s.sed:2:4: note: `/x/{{` the block is skipped
+s.sed:2:14: note: `s/^.\\{{1,8\\}}$/ &/` and so on
+s.sed:2:14: note: hint: {PADDED}
 """),
     # the groups of a replacement are kept, and `\\(a\\)b` has one byte outside of them
     (b":a\ns/\\(a\\)b/\\1cc/\nta\n", 1, f"""\

@@ -128,6 +128,7 @@ PAGES = {
 OF_HINTS = {
     "MENDING.md#joining-lines": ["make each round read"],
     "MENDING.md#waiting-for-a-line": ["branch only where"],
+    "MENDING.md#padding-a-line": ["if the loop makes a line as long"],
     "MENDING.md#substituting-until-nothing-changes": ["write one `s` with the flag `g`"],
     "MENDING.md#carrying-a-digit": ["repeat the command as often as it may be needed, and then"],
     "FAULTS.md#3-unknown-command": ["for `0~3p`"],
@@ -145,7 +146,9 @@ OF_HINTS = {
     "FAULTS.md#2-bad-escape-s-s-w-w": ["for `\\%s` write" % letter for letter in "sSwW"],
     "FAULTS.md#2-bad-escape-b--": ["match what is next to the word", "no escape of POSIX"],
     "FAULTS.md#2-bad-escape--and--elsewhere": ["for `x\\?` write `x\\{0\\,1"],
+    "FAULTS.md#9-nothing-to-repeat-an-anchor": ["an anchor holds in one place"],
     "FAULTS.md#11-bad-reference-beside-a-repeated-group": ["repeat bytes and lists"],
+    "FAULTS.md#22-escaped-delimiter-with-a-bracket-list": ["GNU sed reads `\\x`"],
 }
 
 

@@ -209,8 +209,18 @@ def wrong_words(script, said):
         yield "%r is said to be endless, and ends on all inputs" % script
 
 
-# Sections whose first script is led to another one, which is the first of its fault or says the same in general.
-ELSEWHERE = {}
+# Sections whose first script is led to another one, since its hint says more than one thing or what holds in general.
+ELSEWHERE = {
+    "MENDING.md#reading-on-where-a-line-is-incomplete": "MENDING.md#waiting-for-a-line",
+    "MENDING.md#deleting-blank-lines-at-the-end": "MENDING.md#joining-lines",
+    "MENDING.md#commas-in-numbers": "MENDING.md#carrying-a-digit",
+    "MENDING.md#replacing-tabs": "MENDING.md#carrying-a-digit",
+    "MENDING.md#replacing-up-to-a-delimiter": "MENDING.md#carrying-a-digit",
+    "MENDING.md#loops-without-a-repair": "MENDING.md#reversing-a-line",
+    "FAULTS.md#3-unknown-command": "FAULTS.md#3-unknown-command-steps-that-begin-later",
+    "FAULTS.md#13-bad-label": "FAULTS.md#20-extra-text",
+    "FAULTS.md#11-bad-reference-to-nothing": "FAULTS.md#11-bad-reference-beside-a-repeated-group",
+}
 
 
 def wrong_sections(explain):

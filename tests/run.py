@@ -25,6 +25,7 @@ rows rows.py {sedck} {probe}
 rows matchers.py {sedck} {explain}
 explain-tests explain.py {explain} {sedck}
 explain-tests hints.py {explain} {sedck}
+explain-tests followed.py {explain}
 explain-tests fixes.py {explain}
 explain-tests parts.py {probe}
 explain-tests locales.py {explain}

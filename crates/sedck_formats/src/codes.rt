@@ -95,7 +95,9 @@ FAULTS.md#2-bad-escape-in-a-list GNU sed turns
 FAULTS.md#2-bad-escape-in-a-list if a digit is meant write `[[:digit:]]`; GNU
 FAULTS.md#4-bad-bracket-symbols write the byte itself: `[.]`
 FAULTS.md#4-bad-bracket-a-bracket-at-the-end BusyBox ends this list
+FAULTS.md#9-nothing-to-repeat-an-anchor an anchor holds in one place
 FAULTS.md#11-bad-reference-beside-a-repeated-group repeat bytes and lists
+FAULTS.md#22-escaped-delimiter-with-a-bracket-list GNU sed reads `\\x` as the start
 ";
 
 /// A row for each code: its name, its page, and what is found.
