@@ -50,12 +50,12 @@ class Tools:
         self.same(what, bool(truth), True)
 
 
-def shown_line(data):
+def shown_line(data: bytes) -> str:
     """A line in printable ASCII: a tab as four spaces, and other bytes as `\\x` and two digits."""
     return "".join("    " if byte == 9 else chr(byte) if 32 <= byte < 127 else "\\x%02x" % byte for byte in data)
 
 
-def letters(data):
+def letters(data: bytes) -> list[bytes]:
     """The bytes of each character of UTF-8, and of each byte that is part of none, in order."""
     parts = []
     while data:
@@ -77,30 +77,30 @@ def is_letter(data):
 UNSEEN = re.compile("[\u034f\u115f\u1160\u17b4\u17b5\u180b-\u180f\u2060-\u206f\u3164\ufdd0-\ufdef\ufe00-\ufe0f\uffa0\ufff0-\uffff\U000e0000-\U000e0fff]")
 
 
-def is_seen(letter):
+def is_seen(letter: str) -> bool:
     """Whether a page shows the character: a blank, or none that has no shape of its own, or turns or separates what is around it."""
     hidden = unicodedata.category(letter) in ("Cc", "Cf", "Cs", "Co", "Zs", "Zl", "Zp") or ord(letter) & 0xfffe == 0xfffe
     return letter == " " or not (hidden or UNSEEN.fullmatch(letter))
 
 
-def shown_unicode(data):
+def shown_unicode(data: bytes) -> str:
     """A line as pages have it: characters of UTF-8 that can be seen, a tab as four spaces, and other bytes as `\\x` and two digits."""
     return "".join(part.decode() if is_letter(part) and is_seen(part.decode()) else shown_line(part) for part in letters(data))
 
 
-def shown_name(data):
+def shown_name(data: bytes) -> str:
     """A name in printable ASCII: a backslash before a backslash and a double quote; a backquote and other bytes as `\\x` and two
     digits."""
     special = {34: '\\"', 92: "\\\\", 96: "\\x60"}
     return "".join(special.get(byte) or (chr(byte) if 32 <= byte < 127 else "\\x%02x" % byte) for byte in data)
 
 
-def place(data, offset):
+def place(data: bytes, offset: int) -> tuple[int, int]:
     """The line and the column of a byte, both from 1."""
     return data.count(b"\n", 0, offset) + 1, offset - (data.rfind(b"\n", 0, offset) + 1) + 1
 
 
-def line_of(data, line):
+def line_of(data: bytes, line: int) -> bytes:
     """The bytes of a line, without its newline."""
     return data.split(b"\n")[line - 1]
 
@@ -125,7 +125,7 @@ PAGES = {
 
 
 @functools.cache
-def page_due(code):
+def page_due(code: str) -> str:
     """The page that explains a code, with its heading."""
     for page, codes in PAGES.items():
         if code in codes:
@@ -134,7 +134,7 @@ def page_due(code):
     return "FAULTS.md#" + next(head for head in heads if head == code)
 
 
-def with_pages(report):
+def with_pages(report: str) -> str:
     """A report in text with the page of each code of an error or a warning, behind its first finding."""
     blocks, seen = re.split(r"(?m)^(?=\S)", report), set()
     for at, block in enumerate(blocks):

@@ -49,6 +49,7 @@ pages recipes.py {sedck} {explain}
 style links.py
 style sentences.py
 style definitions.py
+style style.py
 """
 
 
