@@ -2,14 +2,16 @@
 """Checks how the Python is written: python3 tests/style.py, in any folder.
 
 A function has at most 40 lines, a file begins with what it is for, and an import names one module. A function that another file imports by
-its name has annotations. What `ruff check .` looks at is in ruff.toml. The status is 0 only where no file of tests, tools, bench, library
-and wrapper has a fault.
+its name has annotations. Each program of tests/ is in the table of tests/run.py. What `ruff check .` looks at is in ruff.toml. The status
+is 0 only where no file of tests, tools, bench, library and wrapper has a fault.
 """
 import ast
 import re
 import sys
 from collections.abc import Iterator
 from pathlib import Path
+
+from run import TESTS
 
 TOP = Path(__file__).resolve().parent.parent
 MOST_LINES = 40
@@ -46,11 +48,20 @@ def faults(path: Path, public: set[tuple[str, str]]) -> Iterator[str]:
             yield "line %d: the function %s has %d lines" % (node.lineno, node.name, (node.end_lineno or 0) - node.lineno + 1)
 
 
+def unlisted() -> Iterator[str]:
+    """The programs of tests/ that tests/run.py doesn't have."""
+    listed = {row.split()[1] for row in TESTS.splitlines()} | {"run.py"}
+    for path in sorted((TOP / "tests").iterdir()):
+        is_program = path.suffix == ".sh" or path.suffix == ".py" and '__name__ == "__main__"' in path.read_text()
+        if is_program and path.name not in listed:
+            yield "tests/run.py doesn't have %s" % path.name
+
+
 def main() -> int:
     """Reports what is wrong in each file."""
     paths = list(files())
     public = imported(paths)
-    found = ["%s: %s" % (path.relative_to(TOP), fault) for path in paths for fault in faults(path, public)]
+    found = ["%s: %s" % (path.relative_to(TOP), fault) for path in paths for fault in faults(path, public)] + list(unlisted())
     print("\n".join(found) or "style: %d programs have no function above %d lines" % (len(paths), MOST_LINES))
     return 1 if found or not paths else 0
 
