@@ -120,7 +120,7 @@ def prefixes(program, words, folder):
     return [line.split(": ")[0] for line in ran.stdout.splitlines() if " [" in line and ": note: hint" not in line]
 
 
-def drawn(draw):
+def drawn(draw: random.Random) -> list:
     """Words of a call."""
     words = []
     for _ in range(draw.randrange(1, 6)):

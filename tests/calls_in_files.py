@@ -5,7 +5,14 @@ A table of files with the calls that are in them, by hand; folders and what can'
 this machine, whose words the shell itself is asked for; long and hostile texts, and many files, with a limit of time. Needs a shell
 (`sh`). The status is 0 only where all is as it should be.
 """
-import json, os, re, shutil, subprocess, sys, tempfile, time
+import json
+import os
+import re
+import shutil
+import subprocess
+import sys
+import tempfile
+import time
 from pathlib import Path
 
 PROGRAM = os.path.abspath(sys.argv[1])
@@ -26,7 +33,6 @@ def bytes_of(shown):
     """The bytes of a word as it is shown."""
     plain = re.sub(r'\\(x[0-9a-f]{2}|\\|")', lambda found: found[1] if len(found[1]) == 1 else chr(int(found[1][1:], 16)), shown)
     return plain.encode("latin-1")
-
 
 
 def explained(text, name, *options, limit=120):

@@ -92,7 +92,7 @@ def check_fish(words, values):
         for name in ("sedck-explain", "sedck-fmt", "sedck-sed"):
             expect({word for word in asked(name + " --") if word.startswith("--")}, words[name], "fish: " + name)
         for option, due in values.items():
-            expect(asked("sedck-explain %s " % option) , due, "fish: the values of " + option)
+            expect(asked("sedck-explain %s " % option), due, "fish: the values of " + option)
     else:
         print("completions: the files for fish are not tried, since this machine lacks fish")
 

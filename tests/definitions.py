@@ -8,7 +8,10 @@ Small files that are made here are read, and must give the names, the lines and 
 written beside them. And the lines of each file of specs/ are counted here in another way, without
 looking at definitions at all. docs/PROVED.md must name the functions that require something.
 """
-import importlib.util, re, sys, tempfile
+import importlib.util
+import re
+import sys
+import tempfile
 from pathlib import Path
 
 TOP = Path(__file__).resolve().parent.parent

@@ -10,10 +10,11 @@ import os
 import random
 import re
 import sys
+from collections.abc import Iterator
 from pathlib import Path
 
 from explain_texts import PRINT, REFUSED_CERTIFICATES, WITH_CERTIFICATE
-from explain_tools import VERSION, place, shown_name
+from explain_tools import VERSION, Tools, place, shown_name
 from links import anchors
 
 TOP = os.path.dirname(os.path.dirname(os.path.abspath(__file__)))
@@ -28,7 +29,7 @@ FINDING = ["level", "code", "message", "hint", "position", "steps", "page", "end
 ANSWERS = {0: ["accepted"], 1: ["rejected", "loop"], 2: ["script-refused", "certificate-refused"]}
 
 
-def example_scripts():
+def example_scripts() -> Iterator[bytes]:
     """The scripts of the examples."""
     folder = os.path.join(TOP, "examples")
     for name in sorted(os.listdir(folder)):
@@ -37,13 +38,13 @@ def example_scripts():
                 yield file.read()
 
 
-def drawn_scripts(count):
+def drawn_scripts(count: int) -> list[bytes]:
     """As many drawn scripts, the same ones each time."""
     draw = Draw(1)
     return [draw.script() for _ in range(count)]
 
 
-def reports(tools, words):
+def reports(tools: Tools, words: list[str]) -> list[dict]:
     """The objects of a report in JSON, one a line, in ASCII; the exit status is the greatest one."""
     status, report, errors = tools.explain("--format", "json", *words)
     tools.holds("ASCII alone", all(byte == 10 or 32 <= byte < 127 for byte in report))

@@ -56,7 +56,7 @@ REFUSED = [
     (b"p\n" * 524288 + b"p", 524289, 1, "too-long", "the script is longer than 1,048,576 bytes", SPLIT),
     (b"p\n\tp\0p\n", 2, 3, "nul-byte", "a script can't contain a NUL byte", None),
     (b"1~2p\n", 1, 2, "unknown-command", NO_VERB, STEPS),
-    (b"p\nT end\n", 2, 1, "unknown-command", NO_VERB, 
+    (b"p\nT end\n", 2, 1, "unknown-command", NO_VERB,
      "for `T end` write `t go`, `b end` and `:go` on lines of their own; for `/x/T end` put the first two into a block, `/x/{` and `}`"),
     (b"$!z\n", 1, 3, "unknown-command", NO_VERB, "for `z` write `s/.*//`, which sets the flag that `t` tests"),
     (b"/x/Q", 1, 4, "unknown-command", NO_VERB, "for `/x/Q` write `/x/,$d`"),

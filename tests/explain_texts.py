@@ -1,7 +1,7 @@
 """Whole reports in text and for editors: loops, certificates, accepted scripts, names, and bytes that a terminal wouldn't show."""
 import re
 
-from explain_tools import line_of, place, shown_line, shown_name, with_pages
+from explain_tools import line_of, place, shown_line, with_pages
 from refusals import both, certificate
 
 IDLE = "this loop reads no line and never shortens the pattern space: it may run forever"

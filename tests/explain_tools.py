@@ -50,12 +50,12 @@ class Tools:
         self.same(what, bool(truth), True)
 
 
-def shown_line(data):
+def shown_line(data: bytes) -> str:
     """A line in printable ASCII: a tab as four spaces, and other bytes as `\\x` and two digits."""
     return "".join("    " if byte == 9 else chr(byte) if 32 <= byte < 127 else "\\x%02x" % byte for byte in data)
 
 
-def letters(data):
+def letters(data: bytes) -> list[bytes]:
     """The bytes of each character of UTF-8, and of each byte that is part of none, in order."""
     parts = []
     while data:
@@ -77,30 +77,30 @@ def is_letter(data):
 UNSEEN = re.compile("[\u034f\u115f\u1160\u17b4\u17b5\u180b-\u180f\u2060-\u206f\u3164\ufdd0-\ufdef\ufe00-\ufe0f\uffa0\ufff0-\uffff\U000e0000-\U000e0fff]")
 
 
-def is_seen(letter):
+def is_seen(letter: str) -> bool:
     """Whether a page shows the character: a blank, or none that has no shape of its own, or turns or separates what is around it."""
     hidden = unicodedata.category(letter) in ("Cc", "Cf", "Cs", "Co", "Zs", "Zl", "Zp") or ord(letter) & 0xfffe == 0xfffe
     return letter == " " or not (hidden or UNSEEN.fullmatch(letter))
 
 
-def shown_unicode(data):
+def shown_unicode(data: bytes) -> str:
     """A line as pages have it: characters of UTF-8 that can be seen, a tab as four spaces, and other bytes as `\\x` and two digits."""
     return "".join(part.decode() if is_letter(part) and is_seen(part.decode()) else shown_line(part) for part in letters(data))
 
 
-def shown_name(data):
+def shown_name(data: bytes) -> str:
     """A name in printable ASCII: a backslash before a backslash and a double quote; a backquote and other bytes as `\\x` and two
     digits."""
     special = {34: '\\"', 92: "\\\\", 96: "\\x60"}
     return "".join(special.get(byte) or (chr(byte) if 32 <= byte < 127 else "\\x%02x" % byte) for byte in data)
 
 
-def place(data, offset):
+def place(data: bytes, offset: int) -> tuple[int, int]:
     """The line and the column of a byte, both from 1."""
     return data.count(b"\n", 0, offset) + 1, offset - (data.rfind(b"\n", 0, offset) + 1) + 1
 
 
-def line_of(data, line):
+def line_of(data: bytes, line: int) -> bytes:
     """The bytes of a line, without its newline."""
     return data.split(b"\n")[line - 1]
 
@@ -131,29 +131,29 @@ OF_HINTS = {
     "MENDING.md#padding-a-line": ["if the loop makes a line as long"],
     "MENDING.md#substituting-until-nothing-changes": ["write one `s` with the flag `g`"],
     "MENDING.md#carrying-a-digit": ["repeat the command as often as it may be needed, and then"],
-    "FAULTS.md#3-unknown-command": ["for `0~3p`"],
-    "FAULTS.md#3-unknown-command-steps-that-begin-later": ["for `0~3d`"],
-    "FAULTS.md#3-unknown-command-t": ["for `T end`"],
-    "FAULTS.md#3-unknown-command-z": ["for `z`"],
-    "FAULTS.md#3-unknown-command-q": ["for `/x/Q`"],
-    "FAULTS.md#4-bad-address-addrn": ["for `6,+2`"],
-    "FAULTS.md#8-bad-replacement-u-l": ["to change whole lines"],
-    "FAULTS.md#9-bad-flag-e-and-m": ["`^` and `$` match only"],
-    "FAULTS.md#11-missing-text-one-that-begins-with-a-backslash": ["seds differ on a text"],
-    "FAULTS.md#20-extra-text-a-carriage-return-or-a-backslash-at-the-end-of-a-line": ["the line ends in a carriage return", "BusyBox joins"],
-    "FAULTS.md#2-bad-escape-a-bar": ["a range needs"],
-    "FAULTS.md#2-bad-escape-a-bar-and-another-command": ["for `/a\\|b/p`"],
-    "FAULTS.md#2-bad-escape-s-s-w-w": ["for `\\%s` write" % letter for letter in "sSwW"],
-    "FAULTS.md#2-bad-escape-b--": ["match what is next to the word", "no escape of POSIX"],
-    "FAULTS.md#2-bad-escape--and--elsewhere": ["for `x\\?` write `x\\{0\\,1"],
-    "FAULTS.md#9-nothing-to-repeat-an-anchor": ["an anchor holds in one place"],
-    "FAULTS.md#11-bad-reference-beside-a-repeated-group": ["repeat bytes and lists"],
-    "FAULTS.md#22-escaped-delimiter-with-a-bracket-list": ["GNU sed reads `\\x`"],
+    "FAULTS.md#bad-address-steps-of-lines": ["for `0~3p`"],
+    "FAULTS.md#unknown-command": ["for `0~3d`"],
+    "FAULTS.md#unknown-command-the-command-t": ["for `T end`"],
+    "FAULTS.md#unknown-command-the-command-z": ["for `z`"],
+    "FAULTS.md#unknown-command-the-command-q": ["for `/x/Q`"],
+    "FAULTS.md#bad-address-lines-after-an-address": ["for `6,+2`"],
+    "FAULTS.md#bad-replacement-letters-in-upper-and-lower-case": ["to change whole lines"],
+    "FAULTS.md#bad-flag-the-flags-e-and-m": ["`^` and `$` match only"],
+    "FAULTS.md#missing-text-one-that-begins-with-a-backslash": ["seds differ on a text"],
+    "FAULTS.md#extra-text-a-byte-at-the-end-of-a-line": ["the line ends in a carriage return", "BusyBox joins"],
+    "FAULTS.md#bad-escape-a-bar": ["a range needs"],
+    "FAULTS.md#bad-escape-a-bar-and-another-command": ["for `/a\\|b/p`"],
+    "FAULTS.md#bad-escape-classes-of-letters-and-blanks": ["for `\\%s` write" % letter for letter in "sSwW"],
+    "FAULTS.md#bad-escape-edges-of-words": ["match what is next to the word", "no escape of POSIX"],
+    "FAULTS.md#bad-escape-plus-and-question-mark-elsewhere": ["for `x\\?` write `x\\{0\\,1"],
+    "FAULTS.md#nothing-to-repeat-an-anchor": ["an anchor holds in one place"],
+    "FAULTS.md#bad-reference-beside-a-repeated-group": ["repeat bytes and lists"],
+    "FAULTS.md#escaped-delimiter-with-a-bracket-list": ["GNU sed reads `\\x`"],
 }
 
 
 @functools.cache
-def page_due(code, hint=""):
+def page_due(code: str, hint: str = "") -> str:
     """The page that explains a code, with its heading, or what its hint says."""
     for page, starts in OF_HINTS.items():
         if hint and any(hint.startswith(start) for start in starts):
@@ -165,8 +165,8 @@ def page_due(code, hint=""):
     return "FAULTS.md#" + next(head for head in heads if head == code)
 
 
-def with_pages(report):
-    """A report in text with the page of each error or warning, behind the first finding that has it."""
+def with_pages(report: str) -> str:
+    """A report in text with the page of each error or warning, after the first finding that has it."""
     blocks, seen = re.split(r"(?m)^(?=\S)", report), set()
     for at, block in enumerate(blocks):
         head = re.match(r".*?: (error|warning): .* \[([a-z-]+)\]\n", block)

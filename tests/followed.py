@@ -217,9 +217,9 @@ ELSEWHERE = {
     "MENDING.md#replacing-tabs": "MENDING.md#carrying-a-digit",
     "MENDING.md#replacing-up-to-a-delimiter": "MENDING.md#carrying-a-digit",
     "MENDING.md#loops-without-a-repair": "MENDING.md#reversing-a-line",
-    "FAULTS.md#3-unknown-command": "FAULTS.md#3-unknown-command-steps-that-begin-later",
-    "FAULTS.md#13-bad-label": "FAULTS.md#20-extra-text",
-    "FAULTS.md#11-bad-reference-to-nothing": "FAULTS.md#11-bad-reference-beside-a-repeated-group",
+    "FAULTS.md#bad-address-steps-of-lines": "FAULTS.md#unknown-command",
+    "FAULTS.md#bad-label": "FAULTS.md#extra-text",
+    "FAULTS.md#bad-reference-to-nothing": "FAULTS.md#bad-reference-beside-a-repeated-group",
 }
 
 

@@ -22,7 +22,7 @@ from pages import is_gnu, sections
 PAGES = ("docs/MENDING.md", "docs/FAULTS.md")
 
 
-def run_sed(folder, script, given):
+def run_sed(folder: str, script: str, given: str) -> str | None:
     """What sed prints; None where it refuses the script or doesn't end."""
     with open(os.path.join(folder, "sed.sed"), "w", encoding="latin-1") as file:
         file.write(script)

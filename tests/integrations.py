@@ -138,7 +138,11 @@ def check_action(explain, folder):
             expect((room / "path").exists() == (due == 0), "unpacking with %s writes the path" % number)
         where = (folder / "room0" / "path").read_text().strip()
         expect(os.access(where + "/sedck-explain", os.X_OK), "the archive's programs aren't in %s" % where)
-    path = "%s:%s" % (programs / "bin", os.environ["PATH"])
+    check_judging(steps, folder, tree, "%s:%s" % (programs / "bin", os.environ["PATH"]))
+
+
+def check_judging(steps, folder, tree, path):
+    """The log of a tree, and the status of its scripts and calls, with programs that are on the path."""
     (tree / "good.sed").write_text(GOOD)
     (tree / ".git" / "hidden.sed").write_text(LOOP)
     (tree / "run.sh").write_text("sed 's/a/b/' in\nsed \"$x\" in\n")

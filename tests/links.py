@@ -25,7 +25,7 @@ def without_code(text):
     return re.sub(r"^```.*?^```$", "", text, flags=re.M | re.S)
 
 
-def anchors(page):
+def anchors(page: Path) -> set[str]:
     """The names of a page's headings, as hosts of repositories make them."""
     heads = re.findall(r"^#+ (.*)$", without_code(page.read_text()), flags=re.M)
     return {re.sub(r"[^\w\- ]", "", head.lower()).replace(" ", "-") for head in heads}

@@ -28,12 +28,12 @@ GROWING = ":a;s/x/xx/;ta"
 READING = "r x"
 
 
-def both(ranks):
+def both(ranks: dict[str, str]) -> dict[str, str]:
     """The ranks of the nodes of version 1, each given to both nodes of version 2."""
     return {f"{node} {last}": ranks[node] for node in ranks for last in (0, 1)}
 
 
-def certificate(commands, ranks, reads=(), writes=(), version=2):
+def certificate(commands: int, ranks: dict, reads: tuple = (), writes: tuple = (), version: int = 2) -> str:
     """The text of the certificate with these ranks, by node; the other nodes have none."""
     ends = ["0", "1"] if version == 1 else ["0 0", "0 1", "1 0", "1 1"]
     nodes = [f"{at} {end}" for at in range(commands + 1) for end in ends]
@@ -241,6 +241,11 @@ def calls():
         yield ["check", NEXT_LINE, text], "certificate " + fault, OF_ENGINE
     yield ["verify", NEXT_LINE, NEXT_LINE_OLD], "accepted\n", OF_TEXTS
     yield ["check", WRITING, WRITING_OLD], f"accepted\nbound 4 20 4\n{WRITTEN_NAMES}yes\n", OF_ENGINE
+    yield from answered_calls()
+
+
+def answered_calls():
+    """The same of scripts that have ranks, a graph, a rejected certificate, or a loop."""
     for script, text, bound, commands, names in RANKED:
         yield ["script", script], f"{commands}{names}", OF_SCRIPT
         yield ["verify", script, text], "accepted\n", OF_TEXTS

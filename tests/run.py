@@ -50,6 +50,7 @@ pages recipes.py {sedck} {explain}
 style links.py
 style sentences.py
 style definitions.py
+style style.py
 """
 
 

@@ -149,6 +149,10 @@ def check_answers(place):
             expect(bool(found[2]) == bool(due[2]), "%s, %s: says %s" % (mode, words, found[2]))
     lines = place.lines()
     expect(len(lines) == 15 and all(line["answer"] == "accepted" and line["accepted"] for line in lines), "log: %s" % lines)
+
+
+def check_refused_calls(place):
+    """What isn't accepted is refused or shown, by its name."""
     for words, code in (([":a;ba"], "loop-idle"), (["s/[/x/"], "unclosed-bracket"), (["-E", "s/(a)/b/"], "other-language"), (["-n"], "bad-call")):
         status, out, said = place.call(*words, mode="refuse", given=b"a\n")
         expect(status == 120 and out == b"" and b"[%s]\n" % code.encode() in said, "refuse, %s: %d, %s" % (words, status, said))
@@ -167,6 +171,10 @@ def check_answers(place):
     (place.here / "in").write_text("a\n")
     status, _, said = place.call("w g", "in", "g", mode="refuse", SED="/bin/true")
     expect(status == 120 and b"[same-file]\n" in said, "refuse: a file that the script makes is an operand: %d, %s" % (status, said))
+
+
+def check_calls_above_ascii(place):
+    """Bytes above 127 are accepted in bytes, and in UTF-8 unless they get the warning `locale`."""
     # In bytes each round takes one away, and in UTF-8 none.
     loop = ":a;s/xé*/x/;ta"
     due = real(loop, given="xéé\n".encode(), here=place.here, LC_ALL="C")
@@ -183,7 +191,10 @@ def check_answers(place):
         expect(found[:2] == due and (b"[locale]\n" in found[2]) == is_due, "refuse: %r in %s: %s" % (script, locale, found))
     found = [[finding["code"] for finding in line["report"]["findings"]] for line in place.lines()]
     expect([codes.count("locale") for codes in found] == [1, 1, 1, 0, 0, 0, 0, 0], "locale: the log has %s" % found)
-    # The plain spelling has each list as it was written: in another locale it has other characters.
+
+
+def check_lists(place):
+    """The plain spelling has each list as it was written: in another locale it has other characters."""
     for script, given in (("s/[^a-zA-Z]//g;# keep only [^[:alpha:]]", "aÜb1\n"), ("s/[abcd]/_/g", "aéáe\n"), ("s/[A-Z]/x/;s/[[:upper:]]/y/", "ÉA\n"), ("s/[89:;]/_/g", "8:9\n"), ("s/[é£]/1/g;s/[©ã]/2/g", "é©ã£\n")):
         for locale in ("C.UTF-8", "C"):
             found = place.call(script, mode="refuse", given=given.encode(), LC_ALL=locale)
@@ -192,6 +203,10 @@ def check_answers(place):
         found = place.call("-f", "list.sed", mode="refuse", given=given.encode(), LC_ALL="C.UTF-8")
         expect(found[:2] == real(script, given=given.encode(), here=place.here, LC_ALL="C.UTF-8")[:2], "refuse: %r of a file prints %r" % (script, found[:2]))
     place.lines()
+
+
+def check_own_scripts(place):
+    """A script that may write its own file is refused, and stays as it is."""
     own = place.here / "own.sed"
     for text, words in (("p\nw own.sed\n", ["in"]), ("p\n", ["-i", "in", "own.sed"])):
         own.write_text(text)
@@ -208,6 +223,10 @@ def check_answers(place):
             status, out, said = place.call(*words, mode=mode, SED="/bin/true")
             line, = place.lines()
             expect((status, out) == (120 if mode == "refuse" else 0, b"") and not line["accepted"], "%s, %s: %d, %s" % (mode, words, status, said))
+
+
+def check_several_files(place):
+    """With -s, -z and -i sed does as without the program."""
     for words in (["-s", "$d"], ["-z", "N;P;D"], ["-i", "$d"]):
         for name in ("one", "two"):
             (place.here / name).write_text("a\nb\n")
@@ -219,19 +238,23 @@ def check_answers(place):
         expect(found == due and [(place.here / name).read_text() for name in ("one", "two")] == texts, "refuse, %s: %s" % (words, found))
 
 
+def shown(words):
+    """What the sed that keeps its text prints of its words."""
+    return b"".join(b"<%s>" % word.encode() for word in words)
+
+
+def spelled(place, words):
+    """What the program makes of the call in the format sed."""
+    explain = str(place.top / "bin/sedck-explain")
+    return subprocess.run([explain, "--format", "sed", "--sed", "--", *words], cwd=place.here, stdin=subprocess.DEVNULL, capture_output=True)
+
+
 def check_spelled(place):
     """What sed gets in the mode `refuse`: the words of the call, with the plain spelling of the script in place of the script."""
     place.install(place.top / "real/sed", KEEPING_SED)
-    keeping, explain = place.top / "real/sed", str(place.top / "bin/sedck-explain")
+    keeping = place.top / "real/sed"
     for name, text in {**FILES, "x.sed": "N;P;D", "in": "a\nb\n"}.items():
         (place.here / name).write_text(text)
-
-    def shown(words):
-        return b"".join(b"<%s>" % word.encode() for word in words)
-
-    def spelled(words):
-        return subprocess.run([explain, "--format", "sed", "--sed", "--", *words], cwd=place.here, stdin=subprocess.DEVNULL, capture_output=True)
-
     for words, due, text in SPELLED:
         found = place.call(*words, mode="refuse", SED=keeping, GNU=0)
         expect(found == (0, shown(due), b"") and place.note("text") == (b"" if text is None else text.encode()), "spelled, %s: %s" % (words, found))
@@ -243,14 +266,16 @@ def check_spelled(place):
         expect(found == (0, shown(words), b"") and place.note("text") == b"", "spelled, log, %s: %s" % (words, found))
         if text is not None:
             (place.here / "text").write_text(text)
-            again = spelled([word.replace(TEXT, "text") for word in due])
+            again = spelled(place, [word.replace(TEXT, "text") for word in due])
             expect((again.returncode, again.stdout) == (0, text.encode()), "spelled, %s: other words: %s" % (words, again))
 
-    # Python's `getopt` reads the words that sed gets, and so does the program.
-    draw, count = random.Random(7), 0
+
+def check_drawn_words(place):
+    """Python's `getopt` reads the words that sed gets, and so does the program."""
+    keeping, draw, count = place.top / "real/sed", random.Random(7), 0
     for _ in range(400):
         words = drawn(draw)
-        text = spelled(words)
+        text = spelled(place, words)
         if text.returncode != 0:
             continue
         options, operands = getopt.gnu_getopt(words, SHORT, LONG)
@@ -271,25 +296,30 @@ def check_spelled(place):
         expect((status, said) == (0, b"") and getopt.gnu_getopt(found, SHORT, LONG) == (due, operands), "spelled, drawn, %s: %d, %s, %s" % (words, status, found, said))
         expect(place.note("text") == text.stdout, "spelled, drawn, %s: the text is another one" % words)
         (place.here / "text").write_bytes(text.stdout)
-        again = spelled([word.replace(TEXT, "text") for word in found])
+        again = spelled(place, [word.replace(TEXT, "text") for word in found])
         expect((again.returncode, again.stdout) == (0, text.stdout), "spelled, drawn, %s: other words: %s" % (words, again))
     expect(count > 40, "spelled: %d calls are drawn" % count)
 
-    # Any text arrives as it is printed, and the words can't hold some of these.
+
+def check_texts(place):
+    """Any text arrives as it is printed, and the words can't hold some of these."""
+    keeping = place.top / "real/sed"
     long = "".join("s/%d/%s/\n" % (number, "x" * 90) for number in range(2000))
     for name, text in (("long.sed", long), ("lines.sed", "a\\\n" + "\\\n" * 3 + "\n\n"), ("open.sed", "a\\\nx\\"), ("high.sed", bytes(range(128, 256)).decode("latin-1")), ("marks.sed", "a\\\n\1\2\x7f%s$(x)`x`*\r")):
         if name == "high.sed":
             (place.here / name).write_bytes(b"a\\\n" + text.encode("latin-1") + b"\nN;s/\xff\\n\x81/\x88/")
         else:
             (place.here / name).write_text(text)
-        due = spelled(["-f", name]).stdout
+        due = spelled(place, ["-f", name]).stdout
         expect(len(due) > 4 and place.call("-f", name, mode="refuse", SED=keeping, GNU=0)[0] == 0 and place.note("text") == due, "spelled: %s doesn't arrive" % name)
         if len(due) < 2000:
             word = (place.here / name).read_bytes()
             expect(place.call("-n", b"-e" + word, mode="refuse", SED=keeping, GNU=0)[0] == 0 and place.note("text") == due, "spelled: the text of %s doesn't arrive" % name)
     expect(not os.listdir(place.top / "temporary"), "spelled: a copy is left")
 
-    # What the real sed prints and writes is the same.
+
+def check_outputs(place):
+    """What the real sed prints and writes is the same."""
     files = {"one": b"a1\nb\n\nab\n", "two": b"x\ny\na", "zero": b"a\nb\0c\na\0"}
     for words in (["s/a/b/;p", "one"], ["-n", "$p", "one", "two"], ["-ns", "$p", "one", "two"], ["-ne", "/b/{=;p}", "one"], ["-e", "a\\", "-e", "  x", "one"], ["a hello", "one"], ["1i\\\n  y\\\nz", "two"],
                   [":x;n;$!bx", "one"], ["$!{N;P;D}", "one"], ["-z", "s/a$/X/;s/^b/Y/", "zero"], ["-e", "s/\\n/,/", "-z", "zero"], ["s/[\\n]/x/;s/\\(a\\)*/<\\1>/2g", "--posix", "one"],
@@ -333,7 +363,12 @@ def check_numbers(place):
         place.call("p", "in", REPORT=report(**{lists: named(name)}), SED="/bin/true")
         line, = place.lines()
         expect(line["accepted"] != is_due and len(line["problems"]) == is_due, "numbers, log, %s, %s: %s" % (lists, name, line["problems"]))
-    # The numbers of streams that are closed are free, too; and what is open before stays.
+    check_numbers_of_streams(place, keeping)
+    check_missing_texts(place, keeping)
+
+
+def check_numbers_of_streams(place, keeping):
+    """The numbers of streams that are closed are free, too; and what is open before stays."""
     for before, name, is_due in (("<&-", "/dev/fd/0", True), ("2>&-", "/dev/fd/2", True), ("<&-", "other", False), ("3< in", "/dev/fd/4", True), ("3> out", "/dev/fd/3", False), ("9< in", "/dev/fd/8", True)):
         # Bash gives such a number to the file that it reads.
         if place.shell == "bash" and name == "/dev/fd/2":
@@ -346,7 +381,10 @@ def check_numbers(place):
         place.lines()
         found = place.call("-c", "sed -n p in " + taken, program="sh", PLAIN="p", **keeping)
         expect(found[:2] == ((120, b"") if is_due else (0, b"<-n><-f></dev/fd/9><in>")) and (b"[not-copied]\n" in found[2]) == is_due, "numbers, %s: %s" % (taken, found))
-    # Where the text can't be had, nothing runs.
+
+
+def check_missing_texts(place, keeping):
+    """Where the text can't be had, nothing runs."""
     for given, code in (({"SPELLED": 4}, b"not-printed"), ({"SPELLED": 1}, b"not-printed"), ({"SPELLED": 3}, b"not-printed"), ({"TMPDIR": "/nowhere"}, b"not-copied")):
         place.lines()
         status, out, said = place.call("p", "in", **{"PLAIN": "p", **keeping, **given})
@@ -396,6 +434,11 @@ def check_files(place):
     found = place.call(*words, "-f", "7.sed", "-f", "8.sed", mode="refuse", given=b"\n")
     expect(found[:2] == (120, b"") and b"[not-copied]" in found[2], "files: of nine %s" % (found,))
     expect(place.call("-f", "7.sed", "-f", "none.sed", given=b"\n")[0] == real("-f", "none.sed")[0], "files: a missing one")
+    check_operands(place)
+
+
+def check_operands(place):
+    """Where POSIXLY_CORRECT may make an operand of an option nothing runs, and what isn't copied doesn't run."""
     for words, due in ((["-e", "p", "in", "-e", "d"], 120), (["p", "in", "--", "d"], 120), (["-e", "p", "--", "in", "-e"], 0), (["-e", "p", "in", "-"], 0)):
         found = place.call("POSIXLY_CORRECT=1", "sed", *words, mode="refuse", program="env", SED="/bin/true")
         expect(found[0] == due and (b"[option-after-operand]" in found[2]) == bool(due), "files, %s: %s" % (words, found))
@@ -645,6 +688,11 @@ def check_locale(place):
             expect(found == (120 if is_due and mode == "refuse" else 0, is_due and mode != "log"), "locale, %s, %s: %d, %s" % (mode, words, status, said))
             line, = place.lines()
             expect(line["accepted"] != is_due and ["the locale" in problem for problem in line["problems"]] == [True] * is_due, "locale, %s, %s: the log has %s" % (mode, words, line["problems"]))
+    check_locale_of_caller(place, call, other)
+
+
+def check_locale_of_caller(place, call, other):
+    """Each byte above 127 is seen, a script is noted once, and sed runs in the locale of its caller."""
     for byte in range(128, 256):
         expect(call(b"s/%c//" % byte, locale=other)[0] == 120, "locale: the byte %d isn't seen" % byte)
     place.lines()
@@ -700,7 +748,6 @@ def check_sandbox(place):
         due = b"<-n><-f></dev/fd/9>" if "mode" not in given else b"<-n><p>"
         expect(found == (0, b"<--sandbox>" * is_added + due, b""), "sandbox, %s, %s: %s" % (says, given, found))
 
-
     (place.here / "gnu").mkdir()
     if real("--sandbox", "p", here=place.here)[0] == 0:
         found = place.call("w gnu/x", mode="refuse", given=b"a\n")
@@ -716,14 +763,21 @@ def check_own(place):
     expect(place.call("--dir", program=str(place.top / "bin/sedck-sed"))[0] == 4, "sedck-sed without its folder")
 
 
+# Checks of one place, one after another.
+ANSWERS = (check_answers, check_refused_calls, check_calls_above_ascii, check_lists, check_own_scripts, check_several_files)
+SPELLINGS = (check_spelled, check_drawn_words, check_texts, check_outputs)
+
+
 def main():
     shells = [shell for shell in SHELLS if shutil.which(shell.split()[0])]
     for shell in shells:
         before = len(failures)
         with tempfile.TemporaryDirectory(prefix="sedck-wrapper-") as folder:
-            check_answers(Place(os.path.join(folder, "a"), shell, os.path.abspath(sys.argv[1])))
-            check_spelled(Place(os.path.join(folder, "c"), shell, os.path.abspath(sys.argv[1])))
-            check_ends(Place(os.path.join(folder, "e"), shell, os.path.abspath(sys.argv[1])))
+            program = os.path.abspath(sys.argv[1])
+            for name, checks in (("a", ANSWERS), ("c", SPELLINGS), ("e", (check_ends,))):
+                place = Place(os.path.join(folder, name), shell, program)
+                for check in checks:
+                    check(place)
             check_numbers(Place(os.path.join(folder, "d"), shell))
             place = Place(os.path.join(folder, "b"), shell)
             for check in (check_words, check_files, check_streams, check_failing, check_recursion, check_log, check_places, check_absent, check_pipes,

@@ -8,7 +8,8 @@
 
 A line of a file of definitions that belongs to nothing stops it. tests/definitions.py tests it.
 """
-import re, sys
+import re
+import sys
 from pathlib import Path
 
 TOP = Path(__file__).resolve().parent.parent
@@ -231,6 +232,38 @@ def exported(crate):
     return words, modules
 
 
+def words_in(text, scope):
+    """The words of definitions that a text has, where they are imported so."""
+    return {found for found in (resolve(token, scope, {}) for token in tokens(text)) if found}
+
+
+def end_of_type(text, match):
+    """Where the type whose head is the match ends."""
+    end = text.index("\n", match.end())
+    return balanced(text, text.index("{", match.end())) if "{" in text[match.end():end] else end
+
+
+def type_head(text):
+    """The trait and the type of an `impl` with this head; the trait may be none."""
+    head = re.sub(r"<[^<>]*(?:<[^<>]*>[^<>]*)*>", "", text)
+    trait, _, impl = head.rpartition(" for ")
+    return trait.strip() or None, impl.strip().split(" ")[0]
+
+
+def clauses_of(text, match):
+    """The clauses of the function whose head begins at the match, each with its label."""
+    header_end = re.compile(r"^" + re.escape(match.group(1)) + r"\{", re.M)
+    line_end = re.compile(r"[{;]\s*$", re.M).search(text, match.end())
+    clauses, at = [], match.end()
+    while True:
+        stop = header_end.search(text, at)
+        clause = re.compile(r"\s*(?:^\s*//.*\n)*\s*(requires|ensures)\s*([\w-]*)\s*\{", re.M).search(text, at)
+        if not clause or clause.start() > (stop.start() if stop else len(text)) or (line_end and not clauses and clause.start() > line_end.end()):
+            return clauses
+        at = balanced(text, clause.end() - 1)
+        clauses.append((clause.group(2) or clause.group(1), text[clause.end() - 1:at]))
+
+
 def contracts(crate):
     """The contracts of what a crate exports, and the Rust types that it declares."""
     words, modules = exported(crate)
@@ -248,55 +281,28 @@ def contracts(crate):
                 impl = trait = None
             if match.group(5) is not None:
                 impl_end = balanced(text, match.end() - 1)
-                head = re.sub(r"<[^<>]*(?:<[^<>]*>[^<>]*)*>", "", match.group(5))
-                trait, _, impl = head.rpartition(" for ")
-                impl = impl.strip().split(" ")[0]
-                trait = trait.strip() or None
+                trait, impl = type_head(match.group(5))
                 continue
             if match.group(6):
-                end = text.index("\n", match.end())
-                if "{" in text[match.end():end]:
-                    end = balanced(text, text.index("{", match.end()))
+                end = end_of_type(text, match)
                 if match.group(7) in words or public:
-                    contract = Contract(crate, path, match.group(7))
+                    found.append(Contract(crate, path, match.group(7)))
                     for ghost in re.findall(r"pub ghost \w+: \{(.*)\}", text[match.start():end]):
-                        contract.add("field", {r for r in (resolve(t, scope, {}) for t in tokens(ghost)) if r})
-                    found.append(contract)
+                        found[-1].add("field", words_in(ghost, scope))
                 types[(f"Rattle.{crate}.specs.declared.{module}.{match.group(7)}", match.group(7))] = (path, text[match.start():end].strip(), scope)
                 continue
             if match.group(8):
                 closed = impl and re.search(r"pub struct " + impl + r"\b[^{;]*\{(?!(?:(?!^\}).)*^    pub )", text, re.M | re.S)
                 inside = match.group(8) in ("view", "invariant") and closed
                 if impl and (impl in words or public) and match.group(8) != "coded" and not inside:
-                    body = text[match.end() - 1:balanced(text, match.end() - 1)]
-                    contract = Contract(crate, path, f"{impl} as {trait}")
-                    contract.add("view", {r for r in (resolve(t, scope, {}) for t in tokens(body)) if r})
-                    found.append(contract)
+                    found.append(Contract(crate, path, f"{impl} as {trait}"))
+                    found[-1].add("view", words_in(text[match.end() - 1:balanced(text, match.end() - 1)], scope))
                 continue
             name = match.group(3) or (trait and match.group(4))
-            if not name:
-                continue
-            if not (impl in words if impl else name in words) and not public:
-                continue
-            header_end = re.compile(r"^" + re.escape(match.group(1)) + r"\{", re.M)
-            stop = header_end.search(text, match.end())
-            line_end = re.compile(r"[{;]\s*$", re.M).search(text, match.end())
-            end = min([m.start() for m in (stop,) if m] + [len(text)])
-            clauses = []
-            at = match.end()
-            while True:
-                clause = re.compile(r"\s*(?:^\s*//.*\n)*\s*(requires|ensures)\s*([\w-]*)\s*\{", re.M).search(text, at)
-                if not clause or clause.start() > end or (line_end and not clauses and clause.start() > line_end.end()):
-                    break
-                close = balanced(text, clause.end() - 1)
-                clauses.append((clause.group(2) or clause.group(1), text[clause.end() - 1:close]))
-                at = close
-                stop = header_end.search(text, at)
-                end = stop.start() if stop else len(text)
-            contract = Contract(crate, path, f"{impl}::{name}" if impl else name)
-            for label, body in clauses:
-                contract.add(label, {r for r in (resolve(t, scope, {}) for t in tokens(body)) if r})
-            found.append(contract)
+            if name and (public or (impl or name) in words):
+                found.append(Contract(crate, path, f"{impl}::{name}" if impl else name))
+                for label, body in clauses_of(text, match):
+                    found[-1].add(label, words_in(body, scope))
     return found, types
 
 
@@ -518,7 +524,7 @@ class Text:
     """tools/definitions.txt: the page with a mark for each list, and below a line `%%` the words of each file with their meaning."""
     def __init__(self, text):
         self.page, _, rows = text.partition("\n%%\n")
-        self.entries, self.shown = {}, set()
+        self.entries, self.shown, file = {}, set(), ""
         for line in rows.splitlines():
             words, colon, meaning = line.partition(": ")
             if colon:

@@ -8,7 +8,8 @@ Lines of code are those of src without blank lines, comments and tests; the cont
 proofs that aren't blank. A function's lines are those of its body. The aims are for the crates that read and prove; CONTRIBUTING
 says why a crate may have more than a hundred functions.
 """
-import re, sys
+import re
+import sys
 from pathlib import Path
 
 TOP = Path(__file__).resolve().parent.parent

@@ -37,13 +37,13 @@ MEMORY_EACH = 4_000_000_000
 stopped, children = threading.Event(), set()
 
 
-def libraries():
+def libraries() -> dict[str, list[str]]:
     """The crates of crates.txt, each with those of its libraries that are crates of this repository."""
     rows = dict(re.findall(r"^(\w+)[^:#\n]*:(.*)$", (TOP / "crates.txt").read_text(), re.M))
     return {name: [word for word in words.split() if word in rows] for name, words in rows.items()}
 
 
-def ordered(needs, names, done=()):
+def ordered(needs: dict[str, list[str]], names: list[str], done: tuple = ()) -> list[str]:
     """These crates and all that they need, each behind what it needs."""
     order = list(done)
     for name in names:

@@ -51,7 +51,7 @@ def first_line(command):
     return done.stdout.split("\n")[0]
 
 
-def seds_found(named):
+def seds_found(named: list[str]) -> list:
     """The seds of this machine. Of GNU sed there are two: as it is, and with `--posix`."""
     commands = dict(item.split("=", 1) for item in named)
     for name, words in (("sed", "sed"), ("gsed", "gsed"), ("busybox", "busybox sed"), ("toybox", "toybox sed"), ("ssed", "ssed")):
@@ -297,6 +297,11 @@ def main():
             others = [] if asked.only_plain else pool.apply(pages, (PAGE,))
     finally:
         shutil.rmtree(top, ignore_errors=True)
+    return status_of(asked, report, seds, missed, others, is_tried)
+
+
+def status_of(asked, report, seds, missed, others, is_tried):
+    """Prints what was found and what was missed, and answers the status."""
     for line in report.lines():
         print(line)
     print("\n".join(missed) or "known scripts that aren't byte safe " + ("are found" if is_tried else "weren't tried: no GNU sed with UTF-8"))

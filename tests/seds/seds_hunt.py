@@ -22,7 +22,7 @@ UNSAFE = ((b":a\ns/x\xc3\xa9*/x/\nt a\n", b"x\n"),
           (b":a\ns/\\(x*\\).\xc3/\\1\xc3/\nt a\n", b"x\xc3\xa9\n"))
 
 
-def is_byte_safe(script, judged):
+def is_byte_safe(script: bytes, judged: object) -> bool:
     """No byte above 127 is repeated by itself or in a list of `y`, of which `sedck-explain` warns, and all of them are in characters."""
     try:
         script.decode("utf-8")
@@ -31,7 +31,7 @@ def is_byte_safe(script, judged):
     return "locale" not in judged.codes and not re.search(rb"sedck: *ignore", script)
 
 
-def is_inside(names):
+def is_inside(names: list[bytes]) -> bool:
     """No name leads out of the folder of the run, or is one that a file system can't have."""
     return all(b"/" not in name and not name.startswith(b".") and len(name) < 200 for name in names)
 
@@ -73,17 +73,18 @@ def probe(d, expression):
     return b"".join(substitution(d, expression, literal(d, count)) + b"\n" for count in range(LONGEST + 1))
 
 
-def marked(command):
+def marked(command: bytes) -> bytes:
     """The substitution between commands that make a byte 1 of the input a newline, and mark each line: Y where something was
     substituted, else N."""
     return b"y/\x01/\\n/\n" + command + b"\nt y\ns/^/N/\nb e\n:y\ns/^/Y/\n:e\ny/\\n/\x01/\n"
 
 
-def looped(command):
+def looped(command: bytes) -> bytes:
+    """The command in a loop that goes on as long as it substitutes something."""
     return b":a\n" + command + b"\nt a\n"
 
 
-def broken_lines(kind, given, output):
+def broken_lines(kind: str, given: bytes, output: bytes) -> list:
     """Lines with which a substitution of this kind does what it shouldn't: shorten, or at least not lengthen."""
     lines, answers = given.split(b"\n")[:-1], output.split(b"\n")[:-1]
     if len(lines) != len(answers):
@@ -237,7 +238,7 @@ class Hunt:
         self.report.finding(sed, what, script, given, detail)
 
 
-def known_kinds(done, listed):
+def known_kinds(done: object, listed: set) -> set:
     """The kinds of what a run shows of which no certificate is asked."""
     made = done.made - listed
     kinds = {COMMAND} if b"E" in made else {FILE} if made else set()

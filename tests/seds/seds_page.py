@@ -8,6 +8,7 @@ import os
 import re
 import subprocess
 import tempfile
+from collections.abc import Iterator
 
 from seds_hunt import COMMAND, END, FILE, LINE, READ, broken_lines, known_kinds, marked
 
@@ -115,11 +116,12 @@ class Page:
             self.scratch.environment = posix
 
 
-def compared(page, scratch, seds, locale):
+def compared(page: str, scratch: object, seds: list, locale: object) -> list:
+    """What is other here in each table, and whether that is a fault."""
     return list(Page(page, scratch, seds, locale).compared())
 
 
-def answers_of_sedck(page, sedck):
+def answers_of_sedck(page: str, sedck: str) -> Iterator[str]:
     """The rows whose status of `sedck rank` is another one."""
     for name, head in HEADS.items():
         heads, rows = table(page, head)

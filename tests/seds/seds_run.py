@@ -37,7 +37,7 @@ def name_bytes(shown):
     return b"".join(bytes([int(part[2:], 16)]) if len(part) > 2 else part[-1:].encode() for part in parts)
 
 
-def become_nobody():
+def become_nobody() -> None:
     """The superuser gives up its rights, since a script that is read in another way may name any file."""
     if os.geteuid() == 0:
         os.setgroups([])
@@ -51,7 +51,7 @@ def in_memory():
     return place if os.access(place, os.W_OK | os.X_OK) and not os.statvfs(place).f_flag & os.ST_NOEXEC else None
 
 
-def make_top(programs):
+def make_top(programs: list[str]) -> str:
     """A scratch folder that anyone may write to, with copies of the programs, and with `touch` for a search path."""
     top = tempfile.mkdtemp(prefix="sedck-seds-", dir=in_memory())
     os.chmod(top, 0o1777)

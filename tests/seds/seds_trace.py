@@ -71,7 +71,7 @@ def is_true(kind, before, after, lines):
             "grow": lines == 0}[kind]
 
 
-def unexplained(graph, trace, total):
+def unexplained(graph: object, trace: object, total: int) -> object:
     """The first step that no edge explains, or None. A place is followed by those that some true edge leads to."""
     places, visited, end = trace.places(), trace.steps(), graph.commands
     leaving = {}
@@ -100,14 +100,14 @@ def unexplained(graph, trace, total):
     return None
 
 
-def steps_at_most(text):
+def steps_at_most(text: bytes) -> int:
     """No fewer steps than a run had that `--debug` shows so: the commands but `}`, the ends of cycles, and the beginning. What is printed
     before one of these may end in a byte 0, or may not end."""
     braces = len(re.findall(rb"COMMAND: *\}$", text, re.MULTILINE))
     return text.count(b"COMMAND: ") - braces + text.count(b"END-OF-CYCLE:") + 1
 
 
-def limit_of(bound, files, end=b"\n"):
+def limit_of(bound: tuple, files: list[bytes], end: bytes = b"\n") -> int:
     """The steps of a limit for these files, whose lines end with this byte, or the bytes of one on the spaces."""
     ends = sum(text.count(end) for text in files)
     lines = ends + sum(1 for text in files if text and not text.endswith(end))

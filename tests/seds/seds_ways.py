@@ -53,7 +53,7 @@ def compiled(top):
             yield Locale(called, encoding, environment)
 
 
-def locales_found(top):
+def locales_found(top: str) -> list:
     """The locales but that of POSIX; the first one is of UTF-8, if there is one."""
     names = []
     if shutil.which("locale"):

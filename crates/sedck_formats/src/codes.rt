@@ -50,54 +50,54 @@ MENDING.md#substituting-until-nothing-changes write one `s` with the flag `g`
 MENDING.md#a-loop-with-fuel repeat the command as often as it may be needed, and then write `t c` and `:c`, since the loop leaves the flag of `t` unset; or
 MENDING.md#carrying-a-digit repeat the command as often as it may be needed, and then
 MENDING.md#commas-in-numbers for commas in numbers
-FAULTS.md#3-unknown-command-steps-that-begin-later for `0~3d`
-FAULTS.md#3-unknown-command for `0~3p`
-FAULTS.md#3-unknown-command-t for `T end`
-FAULTS.md#3-unknown-command-z for `z`
-FAULTS.md#3-unknown-command-q for `/x/Q`
-FAULTS.md#3-unknown-command-q for `/x/!Q`
-FAULTS.md#4-bad-address-addrn for `6,+2`
-FAULTS.md#4-bad-address-addrn for `/x/,+
-FAULTS.md#8-bad-replacement-u-l to change whole lines
-FAULTS.md#9-bad-flag-e-and-m `^` and `$` match only
-FAULTS.md#10-bad-transliteration-an-open-list BusyBox reads `[`
-FAULTS.md#11-missing-text-one-that-begins-with-a-backslash seds differ on a text
-FAULTS.md#13-bad-label-a-comment some seds read `#`
-FAULTS.md#13-bad-label-a-brace-in-an-inner-block BusyBox reads the `}`
-FAULTS.md#13-bad-label-a-brace-in-an-inner-block in a nested block
-FAULTS.md#20-extra-text-an-argument an exit status
-FAULTS.md#20-extra-text-a-carriage-return-or-a-backslash-at-the-end-of-a-line BusyBox joins
-FAULTS.md#20-extra-text-a-carriage-return-or-a-backslash-at-the-end-of-a-line BusyBox ends a line
-FAULTS.md#20-extra-text-a-carriage-return-or-a-backslash-at-the-end-of-a-line the line ends in a carriage return
-FAULTS.md#2-bad-escape-s-s-w-w for `\\s`
-FAULTS.md#2-bad-escape-s-s-w-w for `\\S`
-FAULTS.md#2-bad-escape-s-s-w-w for `\\w`
-FAULTS.md#2-bad-escape-s-s-w-w for `\\W`
-FAULTS.md#2-bad-escape-b-- for `s/\\<WORD
-FAULTS.md#2-bad-escape-b-- for `s/WORD\\>
-FAULTS.md#2-bad-escape-b-- for `s/\\bWORD
-FAULTS.md#2-bad-escape-b-- match what is next to the word
-FAULTS.md#2-bad-escape-b-- no escape of POSIX means an end of a word
-FAULTS.md#2-bad-escape-a-bar for `/a\\|b/d`
-FAULTS.md#2-bad-escape-a-bar a range needs one expression
-FAULTS.md#2-bad-escape-a-bar-and- for `/a\\|b/!d`
-FAULTS.md#2-bad-escape-a-bar-and-another-command for `/a\\|b/p`
-FAULTS.md#2-bad-escape-a-bar-in-s-with-g for `s/a\\|b/x/g`
-FAULTS.md#2-bad-escape-a-bar-in-s for `s/a\\|b/x/`
-FAULTS.md#2-bad-escape-a-bar-in-a-group write `\\([ab]\\)`
-FAULTS.md#2-bad-escape-a-bar-behind--or-before--in-a-group for `s/\\(^
-FAULTS.md#2-bad-escape-a-bar-behind--or-before--in-a-group for `s/a\\(,
-FAULTS.md#2-bad-escape--and--elsewhere at the start of an expression
-FAULTS.md#2-bad-escape--and--elsewhere if the two characters
-FAULTS.md#2-bad-escape--and--elsewhere for `x\\+` write `xx*`,
-FAULTS.md#2-bad-escape--and--elsewhere for `x\\?` write `x\\{0\\,1\\}`
-FAULTS.md#2-bad-escape-in-a-list GNU sed turns
-FAULTS.md#2-bad-escape-in-a-list if a digit is meant write `[[:digit:]]`; GNU
-FAULTS.md#4-bad-bracket-symbols write the byte itself: `[.]`
-FAULTS.md#4-bad-bracket-a-bracket-at-the-end BusyBox ends this list
-FAULTS.md#9-nothing-to-repeat-an-anchor an anchor holds in one place
-FAULTS.md#11-bad-reference-beside-a-repeated-group repeat bytes and lists
-FAULTS.md#22-escaped-delimiter-with-a-bracket-list GNU sed reads `\\x` as the start
+FAULTS.md#unknown-command for `0~3d`
+FAULTS.md#bad-address-steps-of-lines for `0~3p`
+FAULTS.md#unknown-command-the-command-t for `T end`
+FAULTS.md#unknown-command-the-command-z for `z`
+FAULTS.md#unknown-command-the-command-q for `/x/Q`
+FAULTS.md#unknown-command-the-command-q for `/x/!Q`
+FAULTS.md#bad-address-lines-after-an-address for `6,+2`
+FAULTS.md#bad-address-lines-after-an-address for `/x/,+
+FAULTS.md#bad-replacement-letters-in-upper-and-lower-case to change whole lines
+FAULTS.md#bad-flag-the-flags-e-and-m `^` and `$` match only
+FAULTS.md#bad-transliteration-an-open-list BusyBox reads `[`
+FAULTS.md#missing-text-one-that-begins-with-a-backslash seds differ on a text
+FAULTS.md#bad-label some seds read `#`
+FAULTS.md#bad-label-a-brace-in-an-inner-block BusyBox reads the `}`
+FAULTS.md#bad-label-a-brace-in-an-inner-block in a nested block
+FAULTS.md#extra-text-an-argument an exit status
+FAULTS.md#extra-text-a-byte-at-the-end-of-a-line BusyBox joins
+FAULTS.md#extra-text-a-byte-at-the-end-of-a-line BusyBox ends a line
+FAULTS.md#extra-text-a-byte-at-the-end-of-a-line the line ends in a carriage return
+FAULTS.md#bad-escape-classes-of-letters-and-blanks for `\\s`
+FAULTS.md#bad-escape-classes-of-letters-and-blanks for `\\S`
+FAULTS.md#bad-escape-classes-of-letters-and-blanks for `\\w`
+FAULTS.md#bad-escape-classes-of-letters-and-blanks for `\\W`
+FAULTS.md#bad-escape-edges-of-words for `s/\\<WORD
+FAULTS.md#bad-escape-edges-of-words for `s/WORD\\>
+FAULTS.md#bad-escape-edges-of-words for `s/\\bWORD
+FAULTS.md#bad-escape-edges-of-words match what is next to the word
+FAULTS.md#bad-escape-edges-of-words no escape of POSIX means an end of a word
+FAULTS.md#bad-escape-a-bar for `/a\\|b/d`
+FAULTS.md#bad-escape-a-bar a range needs one expression
+FAULTS.md#bad-escape-a-bar-and-an-exclamation-mark for `/a\\|b/!d`
+FAULTS.md#bad-escape-a-bar-and-another-command for `/a\\|b/p`
+FAULTS.md#bad-escape-a-bar-in-s-with-g for `s/a\\|b/x/g`
+FAULTS.md#bad-escape-a-bar-in-s for `s/a\\|b/x/`
+FAULTS.md#bad-escape-a-bar-in-a-group write `\\([ab]\\)`
+FAULTS.md#bad-escape-a-bar-and-an-anchor-in-a-group for `s/\\(^
+FAULTS.md#bad-escape-a-bar-and-an-anchor-in-a-group for `s/a\\(,
+FAULTS.md#bad-escape-plus-and-question-mark-elsewhere at the start of an expression
+FAULTS.md#bad-escape-plus-and-question-mark-elsewhere if the two characters
+FAULTS.md#bad-escape-plus-and-question-mark-elsewhere for `x\\+` write `xx*`,
+FAULTS.md#bad-escape-plus-and-question-mark-elsewhere for `x\\?` write `x\\{0\\,1\\}`
+FAULTS.md#bad-escape-a-list GNU sed turns
+FAULTS.md#bad-escape-a-list if a digit is meant write `[[:digit:]]`; GNU
+FAULTS.md#bad-bracket-symbols write the byte itself: `[.]`
+FAULTS.md#bad-bracket-a-bracket-at-the-end BusyBox ends this list
+FAULTS.md#nothing-to-repeat-an-anchor an anchor holds in one place
+FAULTS.md#bad-reference-beside-a-repeated-group repeat bytes and lists
+FAULTS.md#escaped-delimiter-with-a-bracket-list GNU sed reads `\\x` as the start
 ";
 
 /// A row for each code: its name, its page, and what is found.
