@@ -377,16 +377,20 @@ def hold_commands(tools, name, script, report, dot):
         at = int(box[1])
         red = any(bold for (first, _, _), (_, _, bold) in inside.items() if heads[first] == at)
         tools.same("%s: look of n%d" % (what, at), (bool(box[3]), bool(box[4])), (at == len(report["commands"]), red))
-        if box[3]:
-            tools.same("%s: words of n%d" % (what, at), box[2], r"end\nnext cycle, or the run ends")
-            continue
-        rows = re.findall(r"((?:[^\\]|\\[^l])*)\\l", box[2])
-        due_places = [place_words(report, command) for command, head in heads.items() if head == at]
-        tools.same("%s: places of n%d" % (what, at), [unescaped(row).split("  ")[0] for row in rows], due_places)
-        for row, place in zip(rows, due_places):
-            line = shown_line(script.split(b"\n")[int(place.split(":")[0]) - 1])
-            shown = unescaped(row).partition("  ")[2].removesuffix("...")
-            tools.holds("%s: line of %s" % (what, place), shown and shown in line)
+        hold_rows(tools, "%s: n%d" % (what, at), script, box, [place_words(report, command) for command, head in heads.items() if head == at])
+
+
+def hold_rows(tools, what, script, box, places):
+    """The rows of a box: a place and a part of its line for each command, or the words for the end."""
+    if box[3]:
+        tools.same("words of %s" % what, box[2], r"end\nnext cycle, or the run ends")
+        return
+    rows = re.findall(r"((?:[^\\]|\\[^l])*)\\l", box[2])
+    tools.same("places of %s" % what, [unescaped(row).split("  ")[0] for row in rows], places)
+    for row, place in zip(rows, places):
+        line = shown_line(script.split(b"\n")[int(place.split(":")[0]) - 1])
+        shown = unescaped(row).partition("  ")[2].removesuffix("...")
+        tools.holds("line of %s, %s" % (what, place), shown and shown in line)
 
 
 def check(tools):

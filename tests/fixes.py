@@ -100,7 +100,7 @@ def explained(explain, folder, script):
     return json.loads(done.stdout)
 
 
-def fixed(report, script):
+def fixed(report: dict, script: bytes) -> tuple[bytes, dict] | None:
     """The script after its first fix, the place of the finding, and the rest; nothing where there is none."""
     for finding in report["findings"]:
         if finding["fix"]:
