@@ -32,9 +32,9 @@ def anchors(page: Path) -> set[str]:
 
 
 def links(page):
-    """The links of a page that name no other host: the file, and the heading or an empty text."""
+    """The links and pictures of a page that name no other host: the file, and the heading or an empty text."""
     text = re.sub(r"``?[^`\n]*``?(?![^\[\]]*\]\()", "", without_code(page.read_text()))
-    for target in re.findall(r"\]\(([^)\s]+)\)", text):
+    for target in re.findall(r"\]\(([^)\s]+)\)", text) + re.findall(r'\bsrc(?:set)?="([^"\s]+)"', text):
         if "://" not in target:
             name, _, head = target.partition("#")
             yield target, (page.parent / name).resolve() if name else page, head

@@ -1,8 +1,8 @@
 #!/usr/bin/env python3
 """Runs tests by name: python3 tests/run.py [--unproved] [-k WORD] [NAME ..]
 
-A NAME is that of a test or of a group, which stands for all its tests; most groups are targets of the Makefile. -k runs those with the WORD in their names. Without
-either the tests are listed, and none is run. The programs are those of build/. With --unproved they are those of build/unproved, which
+A NAME is that of a test or of a group, which stands for all its tests; most groups are targets of the Makefile. -k runs those with the WORD
+in their names. Without either the tests are listed, and none is run. The programs are those of build/. With --unproved they are those of build/unproved, which
 `rt try` compiles without a proof where a source has changed; tests that need more are skipped, which is said. Each test has a line at the
 end. The status is 0 only where each one has ended with 0.
 """
@@ -115,7 +115,8 @@ def main() -> int:
         begun = time.monotonic()
         status = test.run(programs)
         failed |= status != 0
-        lines.append("%-18s %-18s %s (%.1f s)" % (test.target, test.name, "passed" if status == 0 else "FAILED with status %d" % status, time.monotonic() - begun))
+        said = "passed" if status == 0 else "FAILED with status %d" % status
+        lines.append("%-18s %-18s %s (%.1f s)" % (test.target, test.name, said, time.monotonic() - begun))
     lines += ["%-18s %-18s skipped: it needs what is proved" % (test.target, test.name) for test in chosen if test not in ready]
     print("\n".join(lines or ["run: no test has this word in its name"]))
     return 1 if failed else 0
