@@ -69,7 +69,7 @@ pub(crate) fn drawing_of(alloc: Global, mut jumps: Vec<Arrow>) -> Result<Drawing
 fn add_jump(alloc: Global, drawing: &mut Drawing, jump: Arrow) -> Result<(), AllocError> {
     for lane in &mut drawing.lanes {
         if let Some(place) = lane.room_for(jump) {
-            lane.jumps.insert(place, jump)?;
+            lane.jumps.insert(place.min(lane.jumps.len()), jump)?;
             return Ok(());
         }
     }
