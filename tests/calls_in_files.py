@@ -142,6 +142,7 @@ ROWS = [
     ("a.sh", ["--mend"], "sed 's/[[:alpha:]/]//' f\nsed 's/[a\\\\/]//' f\nsed 's/[/]\\/x//' f\nsed 's/[]/]//' f\nsed 's/[^]/]//' f\nsed 's,|:@%#;~!=/[,],,' f\nsed 's/[/]' f\nsed 's_[_]__' f\n", 2,
      [("%d:1" % line, REFUSED, None) for line in range(1, 9)]),
     ("a.sh", ["--mend"], "sed ':a;s/[/]*/x/;ta' f\n", 1, [("1:1", LOOP, None)]),
+    ("a.sh", ["--mend"], "sed 's,[,]\\{1,2\\},x,' f\n", 2, [("1:1", REFUSED, None)]),
     ("a.sh", ["--mend", "--assume", "s=s/[/]/x/"], 's=s/[/]/x/\nsed "$s" f\n', 2, [("2:1", REFUSED, None)]),
     ("a.sh", ["--mend", "--deny", "writes"], "sed 's/[/]/x/w evil' f\n", 1, [("1:1", "denied", None)]),
     ("a.sh", [], "$dir/sed p f\n\"$dir\"/sed p f\n${x:-sed} p f\n", 5, [("1:1", IF, ["p", "f"]), ("2:1", A, ["p", "f"]), ("3:1", IF, ["p", "f"])]),

@@ -79,6 +79,7 @@ UNGROUPED = [
 
 # The bytes don't say what is meant, or the text of the fix can't be written there.
 WITHOUT = [
+    b"s,[,]\\{1,2\\},x,\n",
     b"s/\xe9*//\n", b"s/\xc3*\xa9//\n", b"s/\xed\xa0\x80*//\n", b"s/\xc0\xaf*//\n", b"s/a\xa9\\{2\\}//\n", b"s\xa9\xc3\xb6*\xa9\xa9\n",
     b"s/^\\+a/x/\n", b"s/\\(\\?a\\)/x/\n", b"s/a*\\+/x/\n", b"s/a\\{2\\}\\?/x/\n", b"s:a\\s::\n", b"s1a\\+1b1\n", b"s{a\\+{b{\n", b"s/[\\d]/x/\n", b"s/a**b/x/\n",
     b"s/a/b/ I\n", b"s/a/b/g g\n", b"s/a/b/2 3\n", b"y/a/b/ g\n", b"s&a&\\0&\n", b"s,a\\{,2\\},x,\n", b"s/a\\|b/x/\n", b"s/\\bx/y/\n", b"p p\n",

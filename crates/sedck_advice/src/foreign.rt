@@ -12,6 +12,17 @@ pub struct Foreign {
 const INSIDE: &str =
     "check each sed script inside it by itself: docs/RECIPES.md shows how to pass it to standard input";
 
+/// A text with a byte order mark of 16 bits.
+const WIDE: Foreign = Foreign {
+    message: "this text is in UTF-16, and not in ASCII or UTF-8",
+    hint: "write it in UTF-8, as `iconv -f UTF-16 -t UTF-8` does",
+};
+
+const CERTIFICATE: Foreign = Foreign {
+    message: "this is a certificate, and no sed script",
+    hint: "give the script's name by itself, and that of the certificate after `--cert`",
+};
+
 /// Words with which a line of a shell script begins, and no usual line of sed.
 static SHELL_WORDS: &'static [&'static [u8]] = &[
     b"if ", b"for ", b"while ", b"case ", b"set -", b"export ", b"echo ", b"exec ", b"cd ",
@@ -22,6 +33,12 @@ static SHELL_WORDS: &'static [&'static [u8]] = &[
 pub fn other_kind(text: &[u8]) -> Option<Foreign> {
     if text.starts_with(b"#!") {
         return other_program(text);
+    }
+    if text.starts_with(b"\xff\xfe") || text.starts_with(b"\xfe\xff") {
+        return Some(WIDE);
+    }
+    if text.starts_with(b"sedck ") {
+        return Some(CERTIFICATE);
     }
     let mut lines = text.split(is_newline).filter(|line| !is_left_out(line));
     let first = lines.next()?;

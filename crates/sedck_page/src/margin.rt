@@ -101,7 +101,12 @@ fn spots_of(
             spots.push(Spot {
                 line: position.line,
                 column: position.column,
-                length: length_of(finding),
+                // A note may be on all that follows on its line.
+                length: if finding.level == Level::Note {
+                    1
+                } else {
+                    length_of(finding)
+                },
                 finding: index,
             })?;
         }

@@ -108,8 +108,9 @@ impl Search<'_> {
             self.is_odd = false;
         } else {
             // A newline isn't read alike in each part.
-            let is_escaped = before.is_escaped && byte == before.delimiter;
-            self.is_unclear = self.is_unclear || is_escaped || byte == b'\n';
+            let is_inside = before.is_escaped || before.place == Place::Interval;
+            let is_own = is_inside && byte == before.delimiter;
+            self.is_unclear = self.is_unclear || is_own || byte == b'\n';
         }
         None
     }
