@@ -197,7 +197,7 @@ def check_texts(tools):
     status, report, _ = tools.explain("--format", "html", "--deny", "reads,writes", "d.sed")
     tools.same("html of a denial", (status, b"Denied, though every run of the script ends." in report), (1, True))
     for words in (["--deny", "all", "d.sed"], ["--deny", "reads,", "d.sed"], ["--deny", "", "d.sed"], ["--deny", "Reads", "d.sed"], ["--deny"],
-                  ["--deny", "reads", "--deny", "writes", "d.sed"]):
+                  ["--deny", "reads", "--deny", "every", "d.sed"]):
         status, report, errors_said = tools.explain(*words)
         tools.same("refused %r" % words, (status, report, errors_said.startswith(b"sedck-explain: ")), (3, b"", True))
 

@@ -68,7 +68,8 @@ RANGES = [
     (b"# sedck: one-line-text\np\n", [("unknown-code", b"one-line-text")]),
     (b"#sedck:ignore\np\n", [("unknown-code", b"ignore")]),
     (b"p # sedck: ignore one-line-text\n", [("unknown-code", b"ignore")]),
-    (b"# sedck:\n# sedckx: allow a\n# see sedck: allow b\np\n", []),
+    (b"# sedck:\np\n", [("unknown-code", b"")]),
+    (b"# sedckx: allow a\n# see sedck: allow b\np\n", []),
     (b"p\n $!a hello \np\n", [("one-line-text", b"a hello")]),
     (b"s/a/b/\n#now\n", [("silencing-comment", b"#n")]),
 ]

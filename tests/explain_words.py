@@ -105,7 +105,7 @@ def check_sums(tools):
         for form in ("gcc", "json"):
             tools.holds("no sum of %r in %s" % (words[:5], form), b" scripts: " not in tools.explain("--format", form, *words)[1])
     for words in (["s.sed"], ["t.sed"], ["gone.sed"]):
-        tools.holds("no sum of %r" % words, b" script" not in tools.explain(*words)[1])
+        tools.holds("no sum of %r" % words, b" scripts: " not in tools.explain(*words)[1])
 
 
 def check_formats(tools):
