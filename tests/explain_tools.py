@@ -8,7 +8,8 @@ from pathlib import Path
 
 TOP = os.path.dirname(os.path.dirname(os.path.abspath(__file__)))
 with open(os.path.join(TOP, "CHANGELOG.md")) as changes:
-    VERSION = re.search(r"^## (\d+\.\d+\.\d+) \(", changes.read(), flags=re.M)[1]
+    # An unproved program says so after its version; tests/run.py says that it is one.
+    VERSION = re.search(r"^## (\d+\.\d+\.\d+) \(", changes.read(), flags=re.M)[1] + os.environ.get("SEDCK_VERSION_MARK", "")
 
 
 class Tools:

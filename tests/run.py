@@ -73,7 +73,8 @@ class Test:
         """The status of the test."""
         words = [word.format(**programs) for word in self.words]
         shell = ["sh"] if self.file.endswith(".sh") else [sys.executable]
-        return subprocess.run([*shell, "tests/" + self.file, *filter(None, words)], cwd=TOP, check=False).returncode
+        marks = {"SEDCK_VERSION_MARK": " (unproved)"} if programs is UNPROVED else {}
+        return subprocess.run([*shell, "tests/" + self.file, *filter(None, words)], cwd=TOP, env={**os.environ, **marks}, check=False).returncode
 
 
 def asked() -> argparse.Namespace:
