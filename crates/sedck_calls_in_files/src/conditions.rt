@@ -2,7 +2,7 @@
 
 use crate::holes::{followed_words, hole_words};
 use crate::request::{FileScan, Look};
-use sedck_explanation::{Code, Finding};
+use sedck_explanation::{Code, Explanation, Finding};
 use sedck_find::{FoundCall, FoundScript, KnownValue, Role};
 use sedck_formats::{ConditionKind, Counts};
 use std::alloc::{AllocError, Global};
@@ -93,18 +93,22 @@ impl Conditions {
         Ok(true)
     }
 
-    /// Leaves the conditions out that were reported before, where each is reported once, and says of the others how many calls depend on
-    /// them.
-    pub fn report_once(&mut self, findings: &mut Vec<Finding>) -> Result<(), AllocError> {
+    /// The explanation without the conditions that were reported before, where each is reported once. Of the others it says how many calls
+    /// depend on them.
+    pub fn reported_once<'a>(
+        &mut self,
+        explanation: Explanation<'a>,
+    ) -> Result<Explanation<'a>, AllocError> {
         if !self.is_for_people {
-            return Ok(());
+            return Ok(explanation);
         }
-        for finding in std::mem::replace(findings, Vec::new(self.alloc)) {
+        let mut explanation = explanation;
+        for finding in std::mem::replace(&mut explanation.findings, Vec::new(self.alloc)) {
             if let Some(finding) = self.reported(finding)? {
-                findings.push(finding)?;
+                explanation.findings.push(finding)?;
             }
         }
-        Ok(())
+        Ok(explanation)
     }
 
     /// The finding as it is reported, if it is.

@@ -80,11 +80,11 @@ pub fn explain_calls<W: Sink>(
     let mut position = position_at(text, 0);
     for call in calls {
         position = call_position(text, position, call.start);
-        let mut explanation = explain_found(asked.alloc, text, position, call, asked.scan.denied)?;
+        let explanation = explain_found(asked.alloc, text, position, call, asked.scan.denied)?;
         counts.add(CallAnswer::of(&explanation));
         status = status.worse(explanation.status);
-        conditions.report_once(&mut explanation.findings)?;
-        write_report(out, call_report(asked, position, call, &explanation))?;
+        let reported = conditions.reported_once(explanation)?;
+        write_report(out, call_report(asked, position, call, &reported))?;
     }
     counts.end_file(before, !known.is_accepted());
     Ok(status)
