@@ -179,15 +179,21 @@ fn assumed_of<'a>(alloc: Global, matches: &ArgMatches<'a>) -> Result<Vec<Assumed
     let mut assumed = Vec::new(alloc);
     if let Some(words) = matches.get_strs("assume") {
         for word in words {
-            assumed.push(assumed_by(word))?;
+            assumed.push(assumed_by(*word))?;
         }
     }
     if matches.get_str("assume-set").is_some() {
-        for word in AUTOCONF {
-            assumed.push(assumed_by(word))?;
-        }
+        add_set(&mut assumed)?;
     }
     Ok(assumed)
+}
+
+/// Adds what the set has; `autoconf` is the only one.
+fn add_set(assumed: &mut Vec<Assumed>) -> Result<(), AllocError> {
+    for word in AUTOCONF {
+        assumed.push(assumed_by(*word))?;
+    }
+    Ok(())
 }
 
 /// What is assumed by the word.
