@@ -130,7 +130,7 @@ def by_repetition(script, hint):
 
 def templates(hint):
     """Each command of which the hint says what to write for it, and that."""
-    for found in re.finditer(r"for `([^`]*)` write (.*?)(?=; |: |$)", hint):
+    for found in re.finditer(r"for `([^`]*)` write (.*?)(?=; |: |, and so for |$)", hint):
         new = []
         for times, text in re.findall(r"(twice )?`([^`]*)`", found[2]):
             new += [text] * (2 if times else 1)
