@@ -31,8 +31,10 @@ def said(words):
 def words_of_programs(sedck, explain):
     """The words of each program, and the values of each option of sedck-explain that lists some."""
     usage, text = said([sedck]), said([explain, "--help"])
-    rows = re.findall(r"^ +(?:-\w, )?(--[\w-]+)(?: <[^>]*>)? +(.*)$", text, re.M)
-    values = {option: set(re.findall(r"\w+", found[1])) for option, line in rows for found in [re.search(r"\[possible values: ([^\]]*)\]", line)] if found}
+    # Each option has a line of its own, and what is said of it follows, further in. Values are in brackets, without a colon.
+    rows = re.findall(r"^ {2,6}(?:-\w, )?(--[\w-]+)(?: <[^>]*>)?\n((?: {10}.*\n)+)", text, re.M)
+    listed = {option: re.search(r"\[([^\]:]*)\]", " ".join(said_of.split())) for option, said_of in rows}
+    values = {option: set(re.findall(r"\w+", found[1])) for option, found in listed.items() if found}
     words = {"sedck": set(re.findall(r"\b([a-z]+)(?= (?:SCRIPT|CERT))", usage)), "sedck-explain": {option for option, _ in rows},
              "sedck-fmt": set(re.findall(r"--[a-z]+", said([TOP / "wrapper" / "sedck-fmt", "--help"]).splitlines()[0])),
              "sedck-sed": set(re.findall(r"--[a-z]+", said([TOP / "wrapper" / "sedck-sed", "--help"]).splitlines()[0]))}
