@@ -27,8 +27,8 @@ from pages import is_gnu, sections
 
 TOP = Path(__file__).resolve().parent.parent
 ENDLESS = "it never ends once it is entered"
-# How often a command is repeated where it is to be "as often as it may be needed": a drawn line has at most 40 bytes.
-OFTEN = 90
+# How often a command is repeated where it is to be "as often as it may be needed": a drawn line has at most 40 bytes, and 400 pairs that change places.
+OFTEN = 400
 # Rows may have scripts at the limits of length, which are no hints' matter.
 LONGEST = 400
 
@@ -218,7 +218,7 @@ ELSEWHERE = {
     "MENDING.md#replacing-up-to-a-delimiter": "MENDING.md#carrying-a-digit",
     "MENDING.md#loops-without-a-repair": "MENDING.md#reversing-a-line",
     "FAULTS.md#bad-address-steps-of-lines": "FAULTS.md#unknown-command",
-    "FAULTS.md#bad-label": "FAULTS.md#extra-text",
+    "FAULTS.md#extra-text-a-label-of-two-words": "FAULTS.md#extra-text",
     "FAULTS.md#bad-reference-to-nothing": "FAULTS.md#bad-reference-beside-a-repeated-group",
 }
 
