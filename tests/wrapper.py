@@ -305,7 +305,7 @@ def check_texts(place):
     """Any text arrives as it is printed, and the words can't hold some of these."""
     keeping = place.top / "real/sed"
     long = "".join("s/%d/%s/\n" % (number, "x" * 90) for number in range(2000))
-    for name, text in (("long.sed", long), ("lines.sed", "a\\\n" + "\\\n" * 3 + "\n\n"), ("open.sed", "a\\\nx\\"), ("high.sed", bytes(range(128, 256)).decode("latin-1")), ("marks.sed", "a\\\n\1\2\x7f%s$(x)`x`*\r")):
+    for name, text in (("long.sed", long), ("lines.sed", "a\\\n" + "\\\n" * 3 + "\n\n"), ("high.sed", bytes(range(128, 256)).decode("latin-1")), ("marks.sed", "a\\\n\1\2\x7f%s$(x)`x`*\r")):
         if name == "high.sed":
             (place.here / name).write_bytes(b"a\\\n" + text.encode("latin-1") + b"\nN;s/\xff\\n\x81/\x88/")
         else:
