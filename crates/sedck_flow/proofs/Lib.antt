@@ -18,4 +18,7 @@ pub mod EdgeListLemmas
 pub mod SuccessLemmas
 pub mod VerbLemmas
 pub mod EdgesLemmas
+pub mod CharacterMatches
+pub mod CharacterRuns
+pub mod Accents
 pub mod ExampleProofs

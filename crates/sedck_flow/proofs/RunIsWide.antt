@@ -8,7 +8,7 @@ use Rattle.sedck_bre.proofs.MatchIsWide.{widens}
 use Rattle.sedck_script.specs.Program.{Last, Address, One, Two, Substitution, Verb, Change, Delete, DeleteFirstLine, GetAppend, HoldAppend, Next, NextAppend, Substitute, Transliterate, Command, Program}
 use Rattle.sedck_flow.specs.Substitutes.{Occurrence, AreMatches, Substitutes}
 use Rattle.sedck_flow.specs.Run.{Machine, State, Start, At, Done, Event, next_cycle, TakesLine, behind_newline, DropsFirstLine, ChangesText, IsPartner, MayBecome, Transliterates, SubstituteStep, Does, MaySelect, MayNotSelect, StepAt, StepBehind, Step, Steps}
-use Rattle.sedck_flow.specs.WideRun.{begin_file, BeginsNextFile, NextWideCycle, WideTakesLine, behind_end, WideDropsFirstLine, WideChangesText, WideTransliterates, AreWideMatches, WideSubstitutes, WideSubstituteStep, WideDoes, WideMaySelect, WideStepAt, WideStepBehind, WideStep, WideSteps}
+use Rattle.sedck_flow.specs.WideRun.{any_locale, begin_file, BeginsNextFile, NextWideCycle, WideTakesLine, behind_end, WideDropsFirstLine, WideChangesText, WideTransliterates, AreMatchesIn, SubstitutesIn, SubstituteStepIn, DoesIn, WideMaySelect, StepAtIn, WideStepBehind, StepIn, StepsIn}
 use Rattle.sedck_flow.specs.Laws.{alone, wide_steps}
 
 pair : (s t : State) → s ≡ t → alone s ≡ alone t
@@ -48,11 +48,11 @@ transliterates from to [] [] h = h
 transliterates from to (b ∷ bs) (c ∷ cs) h = (becomes from to b c h.0, transliterates from to bs cs h.1)
 transliterates from to _ _ h = absurd h
 
-are_matches : (tree : Tree) (ms : List Occurrence) → AreMatches tree ms → AreWideMatches tree ms
+are_matches : (tree : Tree) (ms : List Occurrence) → AreMatches tree ms → AreMatchesIn any_locale tree ms
 are_matches tree [] h = h
 are_matches tree (m ∷ more) h = (widens tree no_groups m.whole m.groups h.0, are_matches tree more h.1)
 
-substitutes : (p : Program) (s : Substitution) (old new : List ℕ) → Substitutes p s old new → WideSubstitutes p s old new
+substitutes : (p : Program) (s : Substitution) (old new : List ℕ) → Substitutes p s old new → SubstitutesIn any_locale p s old new
 substitutes p s old new h = record {
   tree = h.tree;
   is_expression = h.is_expression;
@@ -66,11 +66,11 @@ substitutes p s old new h = record {
   is_new = h.is_new;
 }
 
-substitute_step : (p : Program) (sub : Substitution) (m : Machine) (e : Event) (s : State) → SubstituteStep p sub m e s → WideSubstituteStep p sub m e s
+substitute_step : (p : Program) (sub : Substitution) (m : Machine) (e : Event) (s : State) → SubstituteStep p sub m e s → SubstituteStepIn any_locale p sub m e s
 substitute_step p sub m e s (inl quiet) = inl quiet
 substitute_step p sub m e s (inr (event, new, made, h)) = inr (event, new, substitutes p sub m.pattern new made, h)
 
-does : (p : Program) (a : Address) (v : Verb) (m : Machine) (e : Event) (s : State) → Does p a v m e s → WideDoes p newline a v m [] e (alone s)
+does : (p : Program) (a : Address) (v : Verb) (m : Machine) (e : Event) (s : State) → Does p a v m e s → DoesIn any_locale p newline a v m [] e (alone s)
 does p a (Change text) m e s (quiet, h) = (quiet, changes a m s h)
 does p a Delete m e s (quiet, h) = (quiet, on_cycle m.unread m.hold s h)
 does p a DeleteFirstLine m e s (quiet, h) = (quiet, rw (same_end m.pattern) (drops m (behind_newline m.pattern) s h))
@@ -97,23 +97,23 @@ passes p true a m h = selects p a m h
 passes p false a m h = h
 
 at_place : (p : Program) (o : Option Command) (m : Machine) (e : Event) (s : State) → MatchOption o (StepBehind p m e s) (λ c. StepAt p c m e s)
-    → MatchOption o (WideStepBehind p m [] e (alone s)) (λ c. WideStepAt p newline c m [] e (alone s))
+    → MatchOption o (WideStepBehind p m [] e (alone s)) (λ c. StepAtIn any_locale p newline c m [] e (alone s))
 at_place p None m e s (place, quiet, h) = (place, quiet, on_cycle m.unread m.hold s h)
 at_place p (Some c) m e s (inl (may, h)) = inl (applies p c.negated c.address m may, does p c.address c.verb m e s h)
 at_place p (Some c) m e s (inr (may, quiet, h)) = inr ((may.0, passes p c.negated c.address m may.1), quiet, pair s _ h)
 
-pub step_is_wide : (p : Program) (s : State) (e : Event) (t : State) → Step p s e t → WideStep p newline (alone s) e (alone t)
+pub step_is_wide : (p : Program) (s : State) (e : Event) (t : State) → Step p s e t → StepIn any_locale p newline (alone s) e (alone t)
 step_is_wide p (Start lines) e t (quiet, h) = (quiet, on_cycle lines [] t h)
 step_is_wide p (At m) e t h = at_place p (slice_get p.commands m.at) m e t h
 step_is_wide p Done e t h = absurd h
 
-pub steps_are_wide : (p : Program) (s : State) (steps : List (Event × State)) → Steps p s steps → WideSteps p newline (alone s) (wide_steps steps)
+pub steps_are_wide : (p : Program) (s : State) (steps : List (Event × State)) → Steps p s steps → StepsIn any_locale p newline (alone s) (wide_steps steps)
 steps_are_wide p s [] h = tt
 steps_are_wide p s (next ∷ more) h = (step_is_wide p s next.0 next.1 h.0, steps_are_wide p next.1 more h.1)
 
 -- the first line is read from the one file
 pub run_is_wide : (p : Program) (lines : List (List ℕ)) (steps : List (Event × State)) → Steps p (Start lines) steps
-    → WideSteps p newline (Start [], lines ∷ []) (wide_steps steps)
+    → StepsIn any_locale p newline (Start [], lines ∷ []) (wide_steps steps)
 run_is_wide p lines [] h = tt
 run_is_wide p lines (next ∷ more) ((quiet, h), rest) = ((quiet, ([], inl refl, one_file lines next.1 h)), steps_are_wide p next.1 more rest)
   where

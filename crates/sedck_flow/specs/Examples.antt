@@ -9,7 +9,7 @@ use Rattle.sedck_flow.specs.declared.graph.Kind.TheVariants.{Consume, Shorten, K
 use Rattle.sedck_flow.specs.Flow.{Flow}
 use Rattle.sedck_flow.specs.Substitutes.{Substitutes}
 use Rattle.sedck_flow.specs.Run.{Machine, At, Done, Silent, Step, Run}
-use Rattle.sedck_flow.specs.WideRun.{Files, WideSubstitutes, WideStep, WideRun}
+use Rattle.sedck_flow.specs.WideRun.{any_locale, Files, SubstitutesIn, StepIn, WideRun}
 use Rattle.sedck_flow.specs.Words.{edge_words}
 
 -- a command with no address
@@ -154,20 +154,20 @@ pub record ExamplesHold : Type 0 where
   -- each match of x* in `ab` is replaced, the empty ones too, and none is directly after another
   pub substitutes : Substitutes (script_of []) (replacing any_xs (Text (codes "-") ∷ []) true) (codes "ab") (codes "-a-b-")
   -- where the file has no line left, `N` begins the next one that has a line, and where none has, it ends the run; `q` ends it in any case
-  pub begins_file : WideStep (script_of (plain_command NextAppend ∷ [])) 10 (At (machine []), three_files) Silent (At (begun (codes "b")), last_file)
+  pub begins_file : StepIn any_locale (script_of (plain_command NextAppend ∷ [])) 10 (At (machine []), three_files) Silent (At (begun (codes "b")), last_file)
   -- where a file begins, the hold space may be emptied
-  pub empties_hold : WideStep (script_of (plain_command NextAppend ∷ [])) 10 (At (record (machine []) { hold = codes "h" }), three_files) Silent (At (begun (codes "b")), last_file)
-  pub no_file : WideStep (script_of (plain_command NextAppend ∷ [])) 10 (At (machine []), [] ∷ []) Silent (Done, [])
-  pub quits : WideStep (script_of (plain_command Quit ∷ [])) 10 (At (machine []), three_files) Silent (Done, three_files)
+  pub empties_hold : StepIn any_locale (script_of (plain_command NextAppend ∷ [])) 10 (At (record (machine []) { hold = codes "h" }), three_files) Silent (At (begun (codes "b")), last_file)
+  pub no_file : StepIn any_locale (script_of (plain_command NextAppend ∷ [])) 10 (At (machine []), [] ∷ []) Silent (Done, [])
+  pub quits : StepIn any_locale (script_of (plain_command Quit ∷ [])) 10 (At (machine []), three_files) Silent (Done, three_files)
   -- `$` is the last line of each file, so `$!N` is skipped there
-  pub last_of_file : WideStep append_unless_last 10 (At (machine []), three_files) Silent (At (record (machine []) { at = 1 }), three_files)
-  pub no_other : ¬ WideStep append_unless_last 10 (At (machine []), three_files) Silent (At (begun (codes "b")), last_file)
+  pub last_of_file : StepIn any_locale append_unless_last 10 (At (machine []), three_files) Silent (At (record (machine []) { at = 1 }), three_files)
+  pub no_other : ¬ StepIn any_locale append_unless_last 10 (At (machine []), three_files) Silent (At (begun (codes "b")), last_file)
   -- where lines end with a byte 0, `G` appends one
-  pub appends_zero : WideStep (script_of (plain_command GetAppend ∷ [])) 0 (At (machine []), []) Silent (At (record (machine []) { at = 1; pattern = 97 ∷ 0 ∷ [] }), [])
+  pub appends_zero : StepIn any_locale (script_of (plain_command GetAppend ∷ [])) 0 (At (machine []), []) Silent (At (record (machine []) { at = 1; pattern = 97 ∷ 0 ∷ [] }), [])
   -- the empty script on these files
   pub all_files : WideRun (script_of []) 10 three_files ((Silent, (At (begun (codes "b")), last_file)) ∷ (Silent, (At (begun (codes "c")), [])) ∷ (Silent, (Done, [])) ∷ [])
   -- `.` may be a character of two bytes
-  pub one_character : WideSubstitutes (script_of []) (replacing (Seq (Then Any Nil)) (Text (codes "e") ∷ []) false) (195 ∷ 169 ∷ []) (codes "e")
+  pub one_character : SubstitutesIn any_locale (script_of []) (replacing (Seq (Then Any Nil)) (Text (codes "e") ∷ []) false) (195 ∷ 169 ∷ []) (codes "e")
   -- whole characters may be there, also in a group that is repeated; no part of one may be repeated, or be there without the others, and
   -- none may be in a list of `y`
   pub byte_safe : IsByteSafe (replace_once accent []) × IsByteSafe (replace_once accent_repeated [])

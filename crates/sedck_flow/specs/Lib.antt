@@ -13,6 +13,8 @@ pub use Rattle.sedck_script.specs.View
 pub mod Run
 pub mod Substitutes
 pub mod WideRun
+pub mod Characters
+pub mod CharacterRun
 pub mod Patterns
 pub mod Nodes
 pub mod Flow

@@ -3,7 +3,7 @@
 -- A wide run differs from a run in what is here, and in no other point.
 use Rattle.std.specs.Prelude.{◌≡◌, ◌⊎◌, ℕ, suc, ◌<◌, ◌==◌, true, false, if◌then◌else◌, IsTrue, MatchBool, List, [], ◌∷◌, ◌++◌, length, Option, Some, None, MatchOption, slice_get, map}
 use Rattle.sedck_bre.specs.Tree.{Tree}
-use Rattle.sedck_bre.specs.Match.{no_groups}
+use Rattle.sedck_bre.specs.Match.{Groups, no_groups}
 use Rattle.sedck_bre.specs.WideMatch.{WideMatch}
 use Rattle.sedck_script.specs.Program.{Context, Address, One, Two, Substitution, Verb, Change, Delete, DeleteFirstLine, GetAppend, HoldAppend, Next, NextAppend, Substitute, Transliterate, Command, Program}
 use Rattle.sedck_flow.specs.Patterns.{StandsFor}
@@ -57,43 +57,52 @@ WideTransliterates from to [] [] = Unit {0}
 WideTransliterates from to (b ∷ bs) (c ∷ cs) = (IsPartner from to b c ⊎ (c ≡ b)) × WideTransliterates from to bs cs
 WideTransliterates from to _ _ = ⊥
 
--- as in `Substitutes`, with wide matches
-abbrev pub AreWideMatches : Tree → List Occurrence → Type 0
-AreWideMatches tree [] = Unit {0}
-AreWideMatches tree (m ∷ more) = WideMatch tree no_groups m.whole m.groups × AreWideMatches tree more
+-- what a run depends on a locale in: which texts an expression matches, and what `y` makes of a text
+pub record Locale : Type 1 where
+  pub Matches : Tree → Groups → List ℕ → Groups → Type 0
+  pub Transliterates : (from to old new : List ℕ) → Type 0
 
-pub record WideSubstitutes (p : Program) (s : Substitution) (old new : List ℕ) : Type 0 where
+-- all that may be so in some locale
+abbrev pub any_locale : Locale
+any_locale = record { Matches = WideMatch; Transliterates = WideTransliterates }
+
+-- as in `Substitutes`, with what an expression matches in the locale
+abbrev pub AreMatchesIn : Locale → Tree → List Occurrence → Type 0
+AreMatchesIn l tree [] = Unit {0}
+AreMatchesIn l tree (m ∷ more) = l.Matches tree no_groups m.whole m.groups × AreMatchesIn l tree more
+
+pub record SubstitutesIn (l : Locale) (p : Program) (s : Substitution) (old new : List ℕ) : Type 0 where
   pub tree : Tree
   pub is_expression : StandsFor p s.pattern tree
   pub front : List ℕ
   pub matches : List Occurrence
   pub some_match : 0 < length matches
   pub one_match : s.global ≡ false → length matches ≡ 1
-  pub are_matches : AreWideMatches tree matches
+  pub are_matches : AreMatchesIn l tree matches
   pub are_apart : AreApart matches
   pub is_old : old ≡ front ++ matched matches
   pub is_new : new ≡ front ++ replaced s.parts matches
 
-abbrev pub WideSubstituteStep : Program → Substitution → Machine → Event → State → Type 0
-WideSubstituteStep p s m e next =
+abbrev pub SubstituteStepIn : Locale → Program → Substitution → Machine → Event → State → Type 0
+SubstituteStepIn l p s m e next =
     ((e ≡ Silent) × (next ≡ onward m))
-    ⊎ ((e ≡ file_event s.file) × (new : List ℕ) × WideSubstitutes p s m.pattern new
+    ⊎ ((e ≡ file_event s.file) × (new : List ℕ) × SubstitutesIn l p s m.pattern new
     × (next ≡ At (record m { at = suc m.at; flag = true; pattern = new })))
 
 -- an applied command, by its verb; d is the byte that ends lines
-abbrev pub WideDoes : Program → ℕ → Address → Verb → Machine → Files → Event → WideState → Type 0
-WideDoes p d a (Change text) m later e s = (e ≡ Silent) × WideChangesText a m later s
-WideDoes p d a Delete m later e s = (e ≡ Silent) × NextWideCycle later m.unread m.hold s
-WideDoes p d a DeleteFirstLine m later e s = (e ≡ Silent) × WideDropsFirstLine m later (behind_end d m.pattern) s
-WideDoes p d a GetAppend m later e s = (e ≡ Silent) × (s ≡ (onward_with m (m.pattern ++ d ∷ m.hold), later))
-WideDoes p d a HoldAppend m later e s = (e ≡ Silent) × (s ≡ (At (record m { at = suc m.at; hold = m.hold ++ d ∷ m.pattern }), later))
-WideDoes p d a Next m later e s = (e ≡ Silent) × WideTakesLine (λ line. line) m later m.unread s
-WideDoes p d a NextAppend m later e s = (e ≡ Silent) × WideTakesLine (λ line. m.pattern ++ d ∷ line) m later m.unread s
-WideDoes p d a (Substitute substitution) m later e s = WideSubstituteStep p substitution m e s.0 × (s.1 ≡ later)
-WideDoes p d a (Transliterate from to) m later e s =
-    (e ≡ Silent) × (new : List ℕ) × WideTransliterates from to m.pattern new × (s ≡ (onward_with m new, later))
+abbrev pub DoesIn : Locale → Program → ℕ → Address → Verb → Machine → Files → Event → WideState → Type 0
+DoesIn l p d a (Change text) m later e s = (e ≡ Silent) × WideChangesText a m later s
+DoesIn l p d a Delete m later e s = (e ≡ Silent) × NextWideCycle later m.unread m.hold s
+DoesIn l p d a DeleteFirstLine m later e s = (e ≡ Silent) × WideDropsFirstLine m later (behind_end d m.pattern) s
+DoesIn l p d a GetAppend m later e s = (e ≡ Silent) × (s ≡ (onward_with m (m.pattern ++ d ∷ m.hold), later))
+DoesIn l p d a HoldAppend m later e s = (e ≡ Silent) × (s ≡ (At (record m { at = suc m.at; hold = m.hold ++ d ∷ m.pattern }), later))
+DoesIn l p d a Next m later e s = (e ≡ Silent) × WideTakesLine (λ line. line) m later m.unread s
+DoesIn l p d a NextAppend m later e s = (e ≡ Silent) × WideTakesLine (λ line. m.pattern ++ d ∷ line) m later m.unread s
+DoesIn l p d a (Substitute substitution) m later e s = SubstituteStepIn l p substitution m e s.0 × (s.1 ≡ later)
+DoesIn l p d a (Transliterate from to) m later e s =
+    (e ≡ Silent) × (new : List ℕ) × l.Transliterates from to m.pattern new × (s ≡ (onward_with m new, later))
 -- any other verb does what it does in a run
-WideDoes p d a v m later e s = Does p a v m e s.0 × (s.1 ≡ later)
+DoesIn l p d a v m later e s = Does p a v m e s.0 × (s.1 ≡ later)
 
 -- a context address may select any line; `$` selects on the last line of the current file
 abbrev pub WideMaySelect : Program → Address → Machine → Type 0
@@ -106,27 +115,31 @@ WideMayApply p c m = MatchBool c.negated (MayNotSelect c.address m) (WideMaySele
 abbrev pub WideMaySkip : Program → Command → Machine → Type 0
 WideMaySkip p c m = IsTrue (is_conditional c) × MatchBool c.negated (WideMaySelect p c.address m) (MayNotSelect c.address m)
 
-abbrev pub WideStepAt : Program → ℕ → Command → Machine → Files → Event → WideState → Type 0
-WideStepAt p d c m later e s =
-    (WideMayApply p c m × WideDoes p d c.address c.verb m later e s)
-    ⊎ (WideMaySkip p c m × (e ≡ Silent) × (s ≡ (skip c.verb m, later)))
-
 abbrev pub WideStepBehind : Program → Machine → Files → Event → WideState → Type 0
 WideStepBehind p m later e s = (m.at ≡ length p.commands) × (e ≡ Silent) × NextWideCycle later m.unread m.hold s
 
-abbrev pub WideStep : Program → ℕ → WideState → Event → WideState → Type 0
-WideStep p d (Start lines, later) e s = (e ≡ Silent) × NextWideCycle later lines [] s
-WideStep p d (At m, later) e s =
-    MatchOption (slice_get p.commands m.at) (WideStepBehind p m later e s) (λ c. WideStepAt p d c m later e s)
-WideStep p d (Done, later) e s = ⊥
+abbrev pub StepAtIn : Locale → Program → ℕ → Command → Machine → Files → Event → WideState → Type 0
+StepAtIn l p d c m later e s =
+    (WideMayApply p c m × DoesIn l p d c.address c.verb m later e s)
+    ⊎ (WideMaySkip p c m × (e ≡ Silent) × (s ≡ (skip c.verb m, later)))
 
-abbrev pub WideSteps : Program → ℕ → WideState → List (Event × WideState) → Type 0
-WideSteps p d s [] = Unit {0}
-WideSteps p d s (next ∷ more) = WideStep p d s next.0 next.1 × WideSteps p d next.1 more
+abbrev pub StepIn : Locale → Program → ℕ → WideState → Event → WideState → Type 0
+StepIn l p d (Start lines, later) e s = (e ≡ Silent) × NextWideCycle later lines [] s
+StepIn l p d (At m, later) e s =
+    MatchOption (slice_get p.commands m.at) (WideStepBehind p m later e s) (λ c. StepAtIn l p d c m later e s)
+StepIn l p d (Done, later) e s = ⊥
+
+abbrev pub StepsIn : Locale → Program → ℕ → WideState → List (Event × WideState) → Type 0
+StepsIn l p d s [] = Unit {0}
+StepsIn l p d s (next ∷ more) = StepIn l p d s next.0 next.1 × StepsIn l p d next.1 more
 
 -- a run on these files, finished or not, by its steps: at first no line is left in the current file
+abbrev pub RunIn : Locale → Program → ℕ → Files → List (Event × WideState) → Type 0
+RunIn l p d files steps = StepsIn l p d (Start [], files) steps
+
+-- one that may be in some locale
 abbrev pub WideRun : Program → ℕ → Files → List (Event × WideState) → Type 0
-WideRun p d files steps = WideSteps p d (Start [], files) steps
+WideRun p d files steps = RunIn any_locale p d files steps
 
 -- what the steps do to files
 abbrev pub wide_events : List (Event × WideState) → List Event

@@ -1,6 +1,6 @@
 //! What is proved of runs and the flow graph alone. The functions do nothing: their contracts are the laws.
 
-ghost use Rattle.sedck_flow.specs.Laws.{NodesAreNumbered, StepsFollowEdges, KindsAgree, LiteralKindsStay, EdgesWereThere, EdgesStayInside, RunsGoOn, FilesAreNamed, RunsAreWide, WideStepsFollowEdges, WideFilesAreNamed, WideRunsGoOn};
+ghost use Rattle.sedck_flow.specs.Laws.{NodesAreNumbered, StepsFollowEdges, KindsAgree, LiteralKindsStay, EdgesWereThere, EdgesStayInside, RunsGoOn, FilesAreNamed, RunsAreWide, WideStepsFollowEdges, WideFilesAreNamed, WideRunsGoOn, CharacterMatchesAreWide, CharacterRunsAreWide, AccentsAreSplit};
 ghost use Rattle.sedck_flow.specs.Examples.{ExamplesHold};
 
 /// The index of a node is its position in the order of nodes, and each number is the index of one node.
@@ -63,6 +63,21 @@ pub fn wide_files_are_named()
 /// A wide run that hasn't ended can take a further step.
 pub fn wide_runs_go_on()
     ensures { WideRunsGoOn }
+{}
+
+/// An expression that splits no character matches, by characters, only what it may match in a wide way.
+pub fn character_matches_are_wide()
+    ensures { CharacterMatchesAreWide }
+{}
+
+/// Each run by characters of a script that is byte safe is a wide run: what holds of all wide runs holds of it.
+pub fn character_runs_are_wide()
+    ensures { CharacterRunsAreWide }
+{}
+
+/// An expression that isn't byte safe may match, by characters, what it doesn't match in a wide way.
+pub fn accents_are_split()
+    ensures { AccentsAreSplit }
 {}
 
 /// The worked examples of edges, steps, runs and substitutions hold.
