@@ -12,11 +12,13 @@ use Rattle.sedck_flow.specs.Flow.{ListsEdges, Flow, FlowFrom}
 use Rattle.sedck_flow.specs.declared.graph.Node.{Node}
 use Rattle.sedck_flow.specs.declared.graph.Edge.{Edge}
 use Rattle.sedck_flow.specs.declared.graph.Kind.TheVariants.{Grow}
+use Rattle.sedck_flow.specs.WideRun.{WideRun}
+use Rattle.sedck_flow.proofs.CharacterRuns.{character_run_wide}
 use Rattle.sedck_cert.specs.Certificate.{Certificate}
 use Rattle.sedck_cert.specs.Ranked.{ranks_at, IsSteady, NeverGrows, IsGrowth, IsFirstGrowth}
 use Rattle.sedck_cert.specs.StepLimit.{greatest}
 use Rattle.sedck_cert.specs.Bounds.{IsBoundOf, BoundsRuns}
-use Rattle.sedck_cert.specs.Everywhere.{BoundsWideRuns}
+use Rattle.sedck_cert.specs.Everywhere.{BoundsAllRuns, BoundsEverywhere}
 use Rattle.sedck_cert.specs.declared.limits.Bound.{Bound}
 use Rattle.sedck_cert.proofs.SteadyRunsCounted.{steady_counted, wide_steady_counted}
 
@@ -63,6 +65,12 @@ pub bounds_runs : (p : Program) → AreWellFormed p → (c : Certificate) (b : B
 bounds_runs p formed c b steady numbers lines steps run =
     rw (numbers.per_byte, numbers.per_line, numbers.fixed) (omega (arith, steady_counted p formed c steady lines steps run))
 
-pub bounds_wide_runs : (p : Program) → AreWellFormed p → (c : Certificate) (b : Bound) → IsSteady p c → IsBoundOf c b → BoundsWideRuns p b
-bounds_wide_runs p formed c b steady numbers safe d files steps run =
+bounds_wide_runs : (p : Program) → AreWellFormed p → (c : Certificate) (b : Bound) → IsSteady p c → IsBoundOf c b → BoundsAllRuns b (WideRun p)
+bounds_wide_runs p formed c b steady numbers d files steps run =
     rw (numbers.per_byte, numbers.per_line, numbers.fixed) (omega (arith, wide_steady_counted p formed c steady d files steps run))
+
+pub bounds_everywhere : (p : Program) → AreWellFormed p → (c : Certificate) (b : Bound) → IsSteady p c → IsBoundOf c b → BoundsEverywhere p b
+bounds_everywhere p formed c b steady numbers = record {
+  by_bytes = bounds_wide_runs p formed c b steady numbers;
+  by_characters = λ safe d files steps run. bounds_wide_runs p formed c b steady numbers d files steps (character_run_wide p safe d files steps run);
+}

@@ -8,10 +8,12 @@ use Rattle.sedck_script.specs.Invariant.{AreWellFormed}
 use Rattle.sedck_script.specs.Program.{Program}
 use Rattle.sedck_flow.specs.Flow.{ListsEdges}
 use Rattle.sedck_flow.specs.declared.graph.Edge.{Edge}
+use Rattle.sedck_flow.specs.WideRun.{WideRun}
+use Rattle.sedck_flow.proofs.CharacterRuns.{character_run_wide}
 use Rattle.sedck_cert.specs.Certificate.{Certificate}
 use Rattle.sedck_cert.specs.Ranked.{LowersFirst, AllLowerFirst, IsFalling}
 use Rattle.sedck_cert.specs.Bounds.{IsBoundByLines, BoundsRuns}
-use Rattle.sedck_cert.specs.Everywhere.{BoundsWideRuns}
+use Rattle.sedck_cert.specs.Everywhere.{BoundsAllRuns, BoundsEverywhere}
 use Rattle.sedck_cert.specs.declared.limits.Bound.{Bound}
 use Rattle.sedck_cert.proofs.FallingRunsCounted.{falling_counted, wide_falling_counted}
 
@@ -45,6 +47,12 @@ pub bounds_runs : (p : Program) → AreWellFormed p → (c : Certificate) (b : B
 bounds_runs p formed c b falling numbers lines steps run =
     rw (numbers.per_byte, numbers.per_line, numbers.fixed) (omega (arith, falling_counted p formed c falling lines steps run))
 
-pub bounds_wide_runs : (p : Program) → AreWellFormed p → (c : Certificate) (b : Bound) → IsFalling p c → IsBoundByLines c b → BoundsWideRuns p b
-bounds_wide_runs p formed c b falling numbers safe d files steps run =
+bounds_wide_runs : (p : Program) → AreWellFormed p → (c : Certificate) (b : Bound) → IsFalling p c → IsBoundByLines c b → BoundsAllRuns b (WideRun p)
+bounds_wide_runs p formed c b falling numbers d files steps run =
     rw (numbers.per_byte, numbers.per_line, numbers.fixed) (omega (arith, wide_falling_counted p formed c falling d files steps run))
+
+pub bounds_everywhere : (p : Program) → AreWellFormed p → (c : Certificate) (b : Bound) → IsFalling p c → IsBoundByLines c b → BoundsEverywhere p b
+bounds_everywhere p formed c b falling numbers = record {
+  by_bytes = bounds_wide_runs p formed c b falling numbers;
+  by_characters = λ safe d files steps run. bounds_wide_runs p formed c b falling numbers d files steps (character_run_wide p safe d files steps run);
+}

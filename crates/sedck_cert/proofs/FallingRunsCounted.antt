@@ -3,7 +3,7 @@ use Rattle.std.proofs.Common.{◌≡◌, ◌≢◌, ℕ, suc, ◌+◌, ◌*◌, 
 use Rattle.sedck_script.specs.Invariant.{AreWellFormed}
 use Rattle.sedck_script.specs.Program.{Program}
 use Rattle.sedck_flow.specs.Run.{Machine, State, Start, At, Done, Event, Run}
-use Rattle.sedck_flow.specs.WideRun.{Files, WideState, WideStep, WideSteps, all_lines}
+use Rattle.sedck_flow.specs.WideRun.{any_locale, Files, WideState, StepIn, StepsIn, all_lines}
 use Rattle.sedck_flow.specs.Private.Fits.{lines_left}
 use Rattle.sedck_flow.specs.Nodes.{start, node_index}
 use Rattle.sedck_flow.specs.Laws.{is_last, node_of, IsTruthful, wide_steps}
@@ -49,11 +49,11 @@ by_kind first Grow m n later behind a b same small unread lower = lowers_fall fi
 
 -- a step leads from ranks to ranks, and what is left falls
 abbrev pub FallsRanks : Program → ℕ → ℕ → (Machine → ℕ × ℕ → Type 0) → Type 0
-FallsRanks p d first Has = (m n : Machine) (later behind : Files) (e : Event) → WideStep p d (At m, later) e (At n, behind) → (a : ℕ × ℕ) → Has m a
+FallsRanks p d first Has = (m n : Machine) (later behind : Files) (e : Event) → StepIn any_locale p d (At m, later) e (At n, behind) → (a : ℕ × ℕ) → Has m a
     → (b : ℕ × ℕ) × Has n b × (left first n behind b < left first m later a)
 
 counted : (p : Program) (d first : ℕ) (Has : Machine → ℕ × ℕ → Type 0) → FallsRanks p d first Has → (steps : List (Event × WideState)) (m : Machine)
-    (later : Files) (a : ℕ × ℕ) → Has m a → WideSteps p d (At m, later) steps → length steps ≤ left first m later a + 1
+    (later : Files) (a : ℕ × ℕ) → Has m a → StepsIn any_locale p d (At m, later) steps → length steps ≤ left first m later a + 1
 counted p d first Has falls [] m later a has h = omega arith
 counted p d first Has falls ((e, (Start lines, behind)) ∷ more) m later a has h = absurd (step_begun p d (At m, later) e (Start lines, behind) h.0)
 counted p d first Has falls ((e, (Done, behind)) ∷ more) m later a has h = omega (arith, done_ends p d behind more h.1)
@@ -64,7 +64,7 @@ counted p d first Has falls ((e, (At n, behind)) ∷ more) m later a has h =
 -- a run, where the machine of each file's first line has ranks
 run_counted : (p : Program) (d first second : ℕ) (Has : Machine → ℕ × ℕ → Type 0) → AtMost first second Has → FallsRanks p d first Has → (files : Files)
     → ((n : Machine) → node_of n ≡ start (is_last n.unread) → (a : ℕ × ℕ) × Has n a) → (steps : List (Event × WideState))
-    → WideSteps p d (Start [], files) steps → length steps ≤ (first + 1) * length (all_lines files) + 1
+    → StepsIn any_locale p d (Start [], files) steps → length steps ≤ (first + 1) * length (all_lines files) + 1
 run_counted p d first second Has at_most falls files starts [] h = omega arith
 run_counted p d first second Has at_most falls files starts ((e, (Start lines, behind)) ∷ more) h =
     absurd (step_begun p d (Start [], files) e (Start lines, behind) h.0)
@@ -98,7 +98,7 @@ falling_falls p formed d c falling m n later behind e h a has =
     ]
 
 pub wide_falling_counted : (p : Program) → AreWellFormed p → (c : Certificate) → IsFalling p c → (d : ℕ) (files : Files) (steps : List (Event × WideState))
-    → WideSteps p d (Start [], files) steps → length steps ≤ falling_limit c (all_lines files)
+    → StepsIn any_locale p d (Start [], files) steps → length steps ≤ falling_limit c (all_lines files)
 wide_falling_counted p formed c falling d files steps h =
     run_counted p d (greatest_first c.ranks) (greatest_second c.ranks) (HasRanks c) (λ m a has. greatest_at c.ranks (node_index (node_of m)) a has)
     (falling_falls p formed d c falling) files (starts_ranked p c falling.accepted.ranked) steps h

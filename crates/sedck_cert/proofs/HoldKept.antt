@@ -3,7 +3,7 @@ use Rattle.std.proofs.Common.{◌≡◌, ◌≢◌, ℕ, suc, ◌≤◌, Bool, t
 use Rattle.std.specs.Prelude.{Option, Some, None, MatchOption, slice_get, if◌then◌else◌}
 use Rattle.sedck_script.specs.Program.{Address, Two, Substitution, Verb, Block, Branch, Change, Delete, DeleteFirstLine, Exchange, Get, GetAppend, Hold, HoldAppend, Next, NextAppend, Quit, Substitute, Test, Transliterate, Command, Program}
 use Rattle.sedck_flow.specs.Run.{Machine, At, Event, onward, onward_with, skip}
-use Rattle.sedck_flow.specs.WideRun.{Files, NextWideCycle, WideTakesLine, behind_end, WideDropsFirstLine, WideChangesText, WideSubstituteStep, WideDoes, WideStepAt, WideStepBehind, WideStep, all_lines}
+use Rattle.sedck_flow.specs.WideRun.{any_locale, Files, NextWideCycle, WideTakesLine, behind_end, WideDropsFirstLine, WideChangesText, SubstituteStepIn, DoesIn, StepAtIn, WideStepBehind, StepIn, all_lines}
 use Rattle.sedck_flow.proofs.States.{at_inj, at-done, first_of, BeginsWith, next_begins, cycle_begins}
 use Rattle.sedck_cert.specs.SpaceLimit.{AppendsToHold, AreSpacesWithin}
 
@@ -43,11 +43,11 @@ module _ (p : Program) (d size : ℕ) (m : Machine) (later : Files) (fits : AreS
   test target n true e = kept n (record m { at = target; flag = false }) e refl
   test target n false e = kept n (record m { at = suc m.at }) e refl
 
-  substitute : (s : Substitution) (n : Machine) (e : Event) → WideSubstituteStep p s m e (At n) → Within n
+  substitute : (s : Substitution) (n : Machine) (e : Event) → SubstituteStepIn any_locale p s m e (At n) → Within n
   substitute s n e (inl (_, h)) = kept n (record m { at = suc m.at }) h refl
   substitute s n e (inr (_, new, _, h)) = kept n (record m { at = suc m.at; flag = true; pattern = new }) h refl
 
-  does : (a : Address) (v : Verb) → v ≢ HoldAppend → (n : Machine) (behind : Files) (e : Event) → WideDoes p d a v m later e (At n, behind) → Within n
+  does : (a : Address) (v : Verb) → v ≢ HoldAppend → (n : Machine) (behind : Files) (e : Event) → DoesIn any_locale p d a v m later e (At n, behind) → Within n
   does a (Change text) never n behind e (_, h) = changes a n behind h
   does a Delete never n behind e (_, h) = cycle n behind h
   does a DeleteFirstLine never n behind e (_, h) = drops (behind_end d m.pattern) n behind h
@@ -71,14 +71,14 @@ module _ (p : Program) (d size : ℕ) (m : Machine) (later : Files) (fits : AreS
   passes (Block past) n h = kept n (record m { at = past }) h refl
   passes _ n h = kept n (record m { at = suc m.at }) h refl
 
-  command : (c : Command) → c.verb ≢ HoldAppend → (n : Machine) (behind : Files) (e : Event) → WideStepAt p d c m later e (At n, behind) → Within n
+  command : (c : Command) → c.verb ≢ HoldAppend → (n : Machine) (behind : Files) (e : Event) → StepAtIn any_locale p d c m later e (At n, behind) → Within n
   command c never n behind e (inl (_, h)) = does c.address c.verb never n behind e h
   command c never n behind e (inr (_, _, h)) = passes c.verb n (first_of (At n, behind) (skip c.verb m, later) h)
 
   place : (o : Option Command) → ((c : Command) → o ≡ Some c → c.verb ≢ HoldAppend) → (n : Machine) (behind : Files) (e : Event)
-      → MatchOption o (WideStepBehind p m later e (At n, behind)) (λ c. WideStepAt p d c m later e (At n, behind)) → Within n
+      → MatchOption o (WideStepBehind p m later e (At n, behind)) (λ c. StepAtIn any_locale p d c m later e (At n, behind)) → Within n
   place None never n behind e (_, _, h) = cycle n behind h
   place (Some c) never n behind e h = command c (never c refl) n behind e h
 
-  pub hold_within : ¬ AppendsToHold p → (n : Machine) (behind : Files) (e : Event) → WideStep p d (At m, later) e (At n, behind) → Within n
+  pub hold_within : ¬ AppendsToHold p → (n : Machine) (behind : Files) (e : Event) → StepIn any_locale p d (At m, later) e (At n, behind) → Within n
   hold_within never n behind e h = place (slice_get p.commands m.at) (λ c is appends. never (m.at, c, is, appends)) n behind e h

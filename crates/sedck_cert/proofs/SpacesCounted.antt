@@ -3,7 +3,8 @@ use Rattle.std.proofs.Common.{◌≡◌, ◌≢◌, ℕ, suc, ◌+◌, ◌≤◌
 use Rattle.sedck_script.specs.Invariant.{AreWellFormed}
 use Rattle.sedck_script.specs.Program.{Program}
 use Rattle.sedck_flow.specs.Run.{Machine, State, Start, At, Done, Event, Run, state_after}
-use Rattle.sedck_flow.specs.WideRun.{Files, WideState, WideStep, WideSteps, all_lines}
+use Rattle.sedck_flow.specs.WideRun.{any_locale, Files, WideState, StepIn, StepsIn, WideRun, all_lines}
+use Rattle.sedck_flow.proofs.CharacterRuns.{character_run_wide}
 use Rattle.sedck_flow.specs.Private.Fits.{lines_left}
 use Rattle.sedck_flow.specs.Spaces.{bytes_of}
 use Rattle.sedck_flow.specs.Laws.{node_of, IsTruthful, alone, wide_steps, wide_state_after}
@@ -15,7 +16,7 @@ use Rattle.sedck_flow.proofs.NotStart.{step_begun}
 use Rattle.sedck_flow.proofs.SpaceGrowth.{AddsLine, step_adds}
 use Rattle.sedck_flow.proofs.States.{at_inj, at-done, first_of, next_begins, next_file_begins}
 use Rattle.sedck_cert.specs.Certificate.{Certificate}
-use Rattle.sedck_cert.specs.SpaceLimit.{IsCompact, IsInputSize, AreSpacesWithin, BoundsSpaces, BoundsWideSpaces}
+use Rattle.sedck_cert.specs.SpaceLimit.{IsCompact, IsInputSize, AreSpacesWithin, BoundsSpaces, BoundsAllSpaces, BoundsSpacesEverywhere}
 use Rattle.sedck_cert.specs.declared.limits.Bound.{Bound}
 use Rattle.sedck_cert.proofs.RanksBoundRuns.{HasRanks, same_left, fewer_left, starts_ranked, one_file}
 use Rattle.sedck_cert.proofs.HoldKept.{hold_within}
@@ -49,14 +50,14 @@ by_kind Grow m n later behind same adds unread no_grow = absurd (no_grow refl)
 
 -- a step leads from ranks to ranks, and stays within the size
 abbrev pub StaysWithin : Program → ℕ → ℕ → (Machine → ℕ × ℕ → Type 0) → Type 0
-StaysWithin p d size Has = (m n : Machine) (later behind : Files) (e : Event) → WideStep p d (At m, later) e (At n, behind) → (a : ℕ × ℕ) → Has m a
+StaysWithin p d size Has = (m n : Machine) (later behind : Files) (e : Event) → StepIn any_locale p d (At m, later) e (At n, behind) → (a : ℕ × ℕ) → Has m a
     → IsWithin size m later → (b : ℕ × ℕ) × Has n b × IsWithin size n behind
 
 spaces : (size : ℕ) (m : Machine) (later : Files) → IsWithin size m later → AreSpacesWithin size m
 spaces size m later within = (omega (arith, within.pattern), within.hold)
 
 after : (p : Program) (d size : ℕ) (Has : Machine → ℕ × ℕ → Type 0) → StaysWithin p d size Has → (steps : List (Event × WideState)) (m : Machine)
-    (later : Files) (a : ℕ × ℕ) → Has m a → IsWithin size m later → WideSteps p d (At m, later) steps → (n : Machine) (behind : Files)
+    (later : Files) (a : ℕ × ℕ) → Has m a → IsWithin size m later → StepsIn any_locale p d (At m, later) steps → (n : Machine) (behind : Files)
     → wide_state_after (At m, later) steps ≡ (At n, behind) → AreSpacesWithin size n
 after p d size Has stays [] m later a has within h n behind is =
     let same : m ≡ n = at_inj (first_of (At m, later) (At n, behind) is) in
@@ -96,7 +97,7 @@ compact_stays p formed d size c compact m n later behind e h a has within =
     ]
 
 pub wide_spaces : (p : Program) → AreWellFormed p → (c : Certificate) → IsCompact p c → (d : ℕ) (files : Files) (steps : List (Event × WideState))
-    → WideSteps p d (Start [], files) steps → (n : Machine) (behind : Files) → wide_state_after (Start [], files) steps ≡ (At n, behind)
+    → StepsIn any_locale p d (Start [], files) steps → (n : Machine) (behind : Files) → wide_state_after (Start [], files) steps ≡ (At n, behind)
     → AreSpacesWithin (size_of (all_lines files)) n
 wide_spaces p formed c compact d files [] h n behind is = absurd (let first : Start [] ≡ At n = first_of (Start [], files) (At n, behind) is in cc)
 wide_spaces p formed c compact d files ((e, (Start lines, later)) ∷ more) h n behind is =
@@ -134,7 +135,13 @@ bounds_spaces p formed c b compact numbers lines steps run n is =
     let within = run_spaces p formed c compact lines steps run n is in
     rw (numbers.per_byte, numbers.per_line, numbers.fixed) (omega (arith, within.0), omega (arith, within.1))
 
-pub bounds_wide_spaces : (p : Program) → AreWellFormed p → (c : Certificate) (b : Bound) → IsCompact p c → IsInputSize b → BoundsWideSpaces p b
-bounds_wide_spaces p formed c b compact numbers safe d files steps run n later is =
+bounds_wide_spaces : (p : Program) → AreWellFormed p → (c : Certificate) (b : Bound) → IsCompact p c → IsInputSize b → BoundsAllSpaces b (WideRun p)
+bounds_wide_spaces p formed c b compact numbers d files steps run n later is =
     let within = wide_spaces p formed c compact d files steps run n later is in
     rw (numbers.per_byte, numbers.per_line, numbers.fixed) (omega (arith, within.0), omega (arith, within.1))
+
+pub bounds_everywhere : (p : Program) → AreWellFormed p → (c : Certificate) (b : Bound) → IsCompact p c → IsInputSize b → BoundsSpacesEverywhere p b
+bounds_everywhere p formed c b compact numbers = record {
+  by_bytes = bounds_wide_spaces p formed c b compact numbers;
+  by_characters = λ safe d files steps run. bounds_wide_spaces p formed c b compact numbers d files steps (character_run_wide p safe d files steps run);
+}

@@ -6,8 +6,10 @@ use Rattle.sedck_script.specs.Program.{Command, Program, HoldAppend}
 use Rattle.sedck_flow.specs.Run.{Machine, State, Start, At, Event, Run, state_after}
 use Rattle.sedck_flow.specs.WideRun.{Files, WideState, WideRun, all_lines}
 use Rattle.sedck_flow.specs.Laws.{wide_state_after}
+use Rattle.sedck_flow.specs.CharacterRun.{CharacterRun}
 use Rattle.sedck_flow.specs.Spaces.{bytes_of}
 use Rattle.sedck_cert.specs.Certificate.{Certificate}
+use Rattle.sedck_cert.specs.Everywhere.{Runs}
 use Rattle.sedck_cert.specs.Ranked.{IsSteady}
 use Rattle.sedck_cert.specs.declared.limits.Bound.{Bound}
 
@@ -40,13 +42,18 @@ abbrev pub IsSpaceLimit : Program → Certificate → Option Bound → Type 0
 IsSpaceLimit p c (Some bound) = IsCompact p c × IsInputSize bound × BoundsSpaces p bound
 IsSpaceLimit p c None = ¬ IsCompact p c
 
--- nor in a wide run, by the lines of all files
-abbrev pub BoundsWideSpaces : Program → Bound → Type 0
-BoundsWideSpaces p b = IsByteSafe p → (d : ℕ) (files : Files) (steps : List (Event × WideState)) → WideRun p d files steps
+-- nor in one of these runs, by the lines of all files
+abbrev pub BoundsAllSpaces : Bound → Runs → Type 0
+BoundsAllSpaces b IsRun = (d : ℕ) (files : Files) (steps : List (Event × WideState)) → IsRun d files steps
     → (m : Machine) (later : Files) → wide_state_after (Start [], files) steps ≡ (At m, later)
     → AreSpacesWithin (b.per_byte * bytes_of (all_lines files) + b.per_line * length (all_lines files) + b.fixed) m
 
+-- in the POSIX locale, and by characters
+pub record BoundsSpacesEverywhere (p : Program) (b : Bound) : Type 0 where
+  pub by_bytes : BoundsAllSpaces b (WideRun p)
+  pub by_characters : IsByteSafe p → BoundsAllSpaces b (CharacterRun p)
+
 -- a limit is one everywhere
 abbrev pub IsSpaceLimitEverywhere : Program → Option Bound → Type 0
-IsSpaceLimitEverywhere p (Some bound) = BoundsWideSpaces p bound
+IsSpaceLimitEverywhere p (Some bound) = BoundsSpacesEverywhere p bound
 IsSpaceLimitEverywhere p None = Unit {0}

@@ -7,7 +7,7 @@ ghost use Rattle.sedck_cert.specs.Ranked.{Accepts, IsSteady, NeverGrows, IsGrowt
 ghost use Rattle.sedck_cert.specs.StepLimit.{greatest_first, greatest_second};
 ghost use Rattle.sedck_cert.specs.Bounds.{IsBoundOf, BoundsRuns};
 ghost use Rattle.sedck_cert.specs.Headline.{IsLimit};
-ghost use Rattle.sedck_cert.specs.Everywhere.{BoundsWideRuns, IsLimitEverywhere};
+ghost use Rattle.sedck_cert.specs.Everywhere.{BoundsEverywhere, IsLimitEverywhere};
 
 use crate::certificate::Cert;
 use crate::checking::{Verdict, check, ranks_of};
@@ -24,7 +24,7 @@ pub fn bound(script: &Script, cert: &Cert) -> Option<Bound>
     // No run has more steps.
     ensures counted { IfSome result (BoundsRuns script.now) }
     // Nor has one on several files, with other ends of lines, or in another locale.
-    ensures everywhere { IfSome result (BoundsWideRuns script.now) }
+    ensures everywhere { IfSome result (BoundsEverywhere script.now) }
 {
     match check(script, cert) {
         Verdict::Accepted => limit(script, cert),

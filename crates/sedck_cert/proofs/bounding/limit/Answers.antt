@@ -1,6 +1,6 @@
 use Rattle.std.proofs.Common.{sym, ◌∙◌}
 use Rattle.sedck_cert.specs.Ranked.{IsSteady}
-use Rattle.sedck_cert.proofs.BoundingLemmas.{bounds_runs, bounds_wide_runs, grows_nowhere}
+use Rattle.sedck_cert.proofs.BoundingLemmas.{bounds_runs, bounds_everywhere, grows_nowhere}
 use Rattle.sedck_cert.proofs.bounding.limit.Goals as goal
 use Rattle.sedck_cert.proofs.bounding.limit.Goals.{After-bound_of}
 
@@ -20,4 +20,4 @@ returns-clause-limit c = (
 -- and the law on steady wide runs
 pub returns-clause-everywhere : goal.returns-clause-everywhere
 returns-clause-everywhere c =
-    bounds_wide_runs c.args.script.now c.first_growth.ensures.formed c.args.cert.now c.bound_of.result (steady c) c.bound_of.ensures
+    bounds_everywhere c.args.script.now c.first_growth.ensures.formed c.args.cert.now c.bound_of.result (steady c) c.bound_of.ensures

@@ -1,5 +1,5 @@
 use Rattle.sedck_cert.specs.Ranked.{IsFalling}
-use Rattle.sedck_cert.proofs.FallingLemmas.{bounds_runs, bounds_wide_runs}
+use Rattle.sedck_cert.proofs.FallingLemmas.{bounds_runs, bounds_everywhere}
 use Rattle.sedck_cert.proofs.falling.limit_by_lines.Goals as goal
 use Rattle.sedck_cert.proofs.falling.limit_by_lines.Goals.{After-bound_of}
 
@@ -17,4 +17,4 @@ returns-clause-limit c = (
 -- and the law on falling wide runs
 pub returns-clause-everywhere : goal.returns-clause-everywhere
 returns-clause-everywhere c =
-    bounds_wide_runs c.args.script.now c.lowers_first_ranks.ensures.formed c.args.cert.now c.bound_of.result (falling c) c.bound_of.ensures
+    bounds_everywhere c.args.script.now c.lowers_first_ranks.ensures.formed c.args.cert.now c.bound_of.result (falling c) c.bound_of.ensures

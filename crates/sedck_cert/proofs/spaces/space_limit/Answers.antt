@@ -1,7 +1,7 @@
 use Rattle.std.proofs.Common.{sym, ◌∙◌}
 use Rattle.sedck_cert.specs.SpaceLimit.{AppendsToHold, IsCompact}
 use Rattle.sedck_cert.proofs.SpaceLemmas.{input_size, is_compact}
-use Rattle.sedck_cert.proofs.SpacesCounted.{bounds_spaces, bounds_wide_spaces}
+use Rattle.sedck_cert.proofs.SpacesCounted.{bounds_spaces, bounds_everywhere}
 use Rattle.sedck_cert.proofs.spaces.space_limit.Goals as goal
 
 -- no edge grows, and no command is `H`
@@ -17,4 +17,4 @@ returns-clause-everywhere c =
     let never : ¬ AppendsToHold c.args.script.now = λ some. let yes = c.appends_to_hold.ensures.1 some in let no = c.if-appends_to_hold.false in cc in
     let compact : IsCompact c.args.script.now c.args.cert.now = is_compact c.args.script.now c.args.cert.now c.first_growth.result c.requires
     c.first_growth.ensures.growth (sym c.is_some.ensures ∙ c.if-is_some.false) never in
-    bounds_wide_spaces c.args.script.now c.first_growth.ensures.formed c.args.cert.now _ compact input_size
+    bounds_everywhere c.args.script.now c.first_growth.ensures.formed c.args.cert.now _ compact input_size
