@@ -14,4 +14,4 @@ mod TextLemmas
 mod TransliterateLemmas
 mod SelectLemmas
 mod StepLemmas
-mod RunLemmas
+pub mod RunLemmas

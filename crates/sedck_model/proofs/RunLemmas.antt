@@ -1,9 +1,9 @@
--- Runs, step by step.
+-- Steps, one after another.
 use Rattle.std.proofs.Common.{◌≡◌, ℕ, ◌+◌, ◌<◌, List, [], ◌∷◌, ◌++◌, map, length, get_or, take, refl, sym, ap, ◌∙◌, subst, arith}
 use Rattle.std.proofs.lemmas.List.{length-map, get_or-map, take_more}
 use Rattle.std.proofs.lemmas.Option.{slice_get_read}
 use Rattle.sedck_script.specs.Program.{Program}
-use Rattle.sedck_flow.specs.Run.{Event, State, Start, Step, Run, state_after}
+use Rattle.sedck_flow.specs.Run.{Event, State, Start, Step, Steps, Run, state_after}
 use Rattle.sedck_flow.proofs.RunsGoOn.{extended}
 use Rattle.sedck_model.specs.States.{event_of, state_of, move_of, IsFirstWrong}
 use Rattle.sedck_model.specs.declared.states.Move.{Move}
@@ -20,18 +20,18 @@ one_more steps i d below =
     ∙ ap (λ (m : Event × State). take i (map move_of steps) ++ m ∷ []) (get_or-map move_of steps i d (move_of d) below)
 
 -- one step more
-pub run_more : (p : Program) (lines : List (List ℕ)) (steps : List Move) (i : ℕ) (d : Move) (s : State) → i < length steps
-    → Run p lines (take i (map move_of steps)) → s ≡ state_after (Start lines) (take i (map move_of steps))
-    → Step p s (event_of (get_or steps i d).event) (state_of (get_or steps i d).after) → Run p lines (take (i + 1) (map move_of steps))
-run_more p lines steps i d s below run here step =
+pub steps_more : (p : Program) (from : State) (steps : List Move) (i : ℕ) (d : Move) (s : State) → i < length steps
+    → Steps p from (take i (map move_of steps)) → s ≡ state_after from (take i (map move_of steps))
+    → Step p s (event_of (get_or steps i d).event) (state_of (get_or steps i d).after) → Steps p from (take (i + 1) (map move_of steps))
+steps_more p from steps i d s below so_far here step =
     rw (one_more steps i d below)
-    (extended p (Start lines) (take i (map move_of steps)) (move_of (get_or steps i d)) run
+    (extended p from (take i (map move_of steps)) (move_of (get_or steps i d)) so_far
     (subst (λ (t : State). Step p t (event_of (get_or steps i d).event) (state_of (get_or steps i d).after)) here step))
 
-pub here_after : (lines : List (List ℕ)) (steps : List Move) (i : ℕ) (d : Move) → i < length steps
-    → state_of (get_or steps i d).after ≡ state_after (Start lines) (take (i + 1) (map move_of steps))
-here_after lines steps i d below =
-    rw (one_more steps i d below) (sym (state_after-push (Start lines) (take i (map move_of steps)) (move_of (get_or steps i d))))
+pub here_after : (from : State) (steps : List Move) (i : ℕ) (d : Move) → i < length steps
+    → state_of (get_or steps i d).after ≡ state_after from (take (i + 1) (map move_of steps))
+here_after from steps i d below =
+    rw (one_more steps i d below) (sym (state_after-push from (take i (map move_of steps)) (move_of (get_or steps i d))))
 
 -- the first step that is none
 pub first_wrong : (p : Program) (lines : List (List ℕ)) (steps : List Move) (i : ℕ) (d : Move) (s : State) → i < length steps

@@ -8,8 +8,8 @@ ghost use Rattle.sedck_model.specs.States.{lines_of, machine_of, state_of};
 use crate::states::{Machine, State};
 use crate::texts::same_lines;
 
-/// Whether the two are the same, wherever their texts lie in memory.
-pub(crate) fn is_same(found: &Machine, expected: &Machine) -> bool
+/// Whether both are the same state, wherever their texts are in memory.
+pub fn is_same(found: &Machine, expected: &Machine) -> bool
     ensures { IsTrue result ↔ machine_of found.now ≡ machine_of expected.now }
 {
     found.at == expected.at

@@ -33,6 +33,7 @@ mod substituting;
 mod texts;
 mod transliterating;
 
+pub use arriving::is_same;
 pub use reaching::{ends, has_match};
 pub use runs::follows;
 pub use spending::{Budget, Undecided};
