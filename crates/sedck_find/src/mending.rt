@@ -3,23 +3,34 @@
 use crate::found::{OpenHole, Role};
 use crate::words::{add, empty};
 use sedck_origin::{Hole, Origin, Result, Traced, Way};
-use sedck_parts::{Mend, mends_in};
+use sedck_parts::{Mend, Reading, escapes_delimiter, mends_in};
 use std::alloc::Global;
 
 /// The script with another delimiter for each command that has its own in a list, where the file has that. Of such a command the delimiters
-/// are holes, and it is a condition.
-pub(crate) fn mended(alloc: Global, text: Traced, holes: &mut Vec<OpenHole>) -> Result<Traced> {
+/// are holes, escaped ones lose their backslashes, and it is a condition.
+pub(crate) fn mended(
+    alloc: Global,
+    file: &[u8],
+    text: Traced,
+    holes: &mut Vec<OpenHole>,
+) -> Result<Traced> {
     let mends = mends_in(alloc, &text.bytes)?;
     if mends.is_empty() {
         return Ok(text);
     }
     let mut written = empty(alloc);
     let mut number = 0usize;
+    let mut reading = Reading::SCRIPT;
     for (offset, (byte, origin)) in text.bytes.iter().zip(text.origins.iter()).enumerate() {
+        reading = reading.after(*byte);
+        let next = text.bytes.get(offset.saturating_add(1));
         let mend = mends.get(number).copied();
-        match mend.filter(|mend| mend.has(offset) && is_in_file(&text.origins, *mend)) {
-            Some(mend) => add_delimiter(&mut written, holes, (mend, offset), &text.origins)?,
-            None => add(&mut written, *byte, *origin)?,
+        match mend.filter(|mend| is_in_file(&text.origins, *mend)) {
+            Some(mend) if mend.has(offset) => {
+                add_delimiter(&mut written, holes, (mend, offset), file, &text.origins)?
+            }
+            Some(mend) if mend.is_around(offset) && escapes_delimiter(reading, next) => {}
+            _ => add(&mut written, *byte, *origin)?,
         }
         number = number.saturating_add(usize::from(mend.is_some_and(|mend| mend.last == offset)));
     }
@@ -31,13 +42,14 @@ fn add_delimiter(
     written: &mut Traced,
     holes: &mut Vec<OpenHole>,
     (mend, offset): (Mend, usize),
+    file: &[u8],
     origins: &[Origin],
 ) -> Result<()> {
     let hole = hole_between(origins, offset, offset);
     if offset == mend.first {
         let whole = hole_between(origins, mend.first, mend.last);
         let part = origins.get(mend.first..mend.last).unwrap_or(&[]);
-        let is_whole = is_unquoted(part, whole.start);
+        let is_whole = is_unquoted(file, part, whole.start);
         let is_bare = mend.is_bare;
         holes.push(OpenHole {
             hole: whole,
@@ -63,18 +75,27 @@ fn is_at(origins: &[Origin], index: usize) -> bool {
     matches!(origins.get(index), Some(Origin::At(_)))
 }
 
-/// Whether the file has these bytes and holes one right behind another, from this offset on.
-fn is_unquoted(origins: &[Origin], start: usize) -> bool {
+/// Whether the file has these bytes and holes one right behind another, from this offset on, and in the place of each hole just the name of
+/// a variable: more may have the delimiter, too.
+fn is_unquoted(file: &[u8], origins: &[Origin], start: usize) -> bool {
     let mut next = start;
     for origin in origins {
         next = match *origin {
             Origin::At(offset) if offset == next => offset.saturating_add(1),
             // Several bytes may be in the place of one hole.
-            Origin::Hole(hole) if hole.start == next || hole.end == next => hole.end,
+            Origin::Hole(hole) if (hole.start == next || hole.end == next) && is_name(file, hole) =>
+                { hole.end }
             _ => return false,
         };
     }
     true
+}
+
+/// Whether a variable is written in the place of the hole with no more than its name.
+fn is_name(file: &[u8], hole: Hole) -> bool {
+    let written = file.get(hole.start..hole.end).unwrap_or(&[]);
+    written.iter().all(|byte| matches!(*byte, b'$' | b'{' | b'}' | b'(' | b')' | b'_')
+        || byte.is_ascii_alphanumeric())
 }
 
 /// What the file has from the one of these bytes to the other one.

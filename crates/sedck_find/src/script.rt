@@ -82,7 +82,7 @@ fn script_in(
         return Ok(FoundScript::Unknown(Unknown::Part));
     };
     if around.mends {
-        text = mended(alloc, text, &mut holes)?;
+        text = mended(alloc, around.file, text, &mut holes)?;
     }
     let conditions = Conditions::of(alloc, &call, words, around.name, around.runner)?;
     if conditions.is_unknown {

@@ -23,10 +23,18 @@ impl Mend {
     pub fn has(self, offset: usize) -> bool {
         offset == self.first || Some(offset) == self.middle || offset == self.last
     }
+
+    /// Whether the byte at this offset is between its delimiters.
+    pub fn is_around(self, offset: usize) -> bool {
+        self.first < offset && offset < self.last
+    }
 }
 
 /// Delimiters that are nothing else in an expression, and nothing in a replacement.
 const OTHERS: &[u8] = b",|:@%#;~!=";
+
+/// The only one of them, and of `/`, that some seds read otherwise where it is escaped: the end of an alternative.
+const ALTERNATION: u8 = b'|';
 
 /// The state of looking for what is to be mended.
 #[derive(Clone, Copy)]
@@ -46,7 +54,7 @@ struct Search<'a> {
 }
 
 /// What can be mended in the text, in order. Lists are left alone that have the delimiter and a class, a symbol, a backslash or a newline, or
-/// begin with a bracket, and so are commands with an escaped delimiter.
+/// begin with a bracket, and so are commands with an escaped delimiter in an interval, or with one that may mean something else.
 pub fn mends_in(alloc: Global, text: &[u8]) -> Result<Vec<Mend>, AllocError> {
     let mut mends = Vec::new(alloc);
     let mut search = Search::of(text);
@@ -108,8 +116,9 @@ impl Search<'_> {
             self.is_odd = false;
         } else {
             // A newline isn't read alike in each part.
-            let is_inside = before.is_escaped || before.place == Place::Interval;
-            let is_own = is_inside && byte == before.delimiter;
+            let is_fixed = before.place == Place::Interval
+                || (before.is_escaped && byte == ALTERNATION);
+            let is_own = is_fixed && byte == before.delimiter;
             self.is_unclear = self.is_unclear || is_own || byte == b'\n';
         }
         None
@@ -152,8 +161,14 @@ impl Search<'_> {
     }
 }
 
-/// A command or an address from its first delimiter to its last one, with this delimiter in place of its own, but for that in lists. An address
-/// may get a backslash before it.
+/// Whether the byte that is read last and this next one are the reader's delimiter and the backslash before it. With another delimiter the
+/// backslash has no place.
+pub fn escapes_delimiter(reading: Reading, next: Option<&u8>) -> bool {
+    reading.is_escaped && next == Some(&reading.delimiter)
+}
+
+/// A command or an address from its first delimiter to its last one, with this delimiter in place of its own. Those in lists stay, and so do
+/// escaped ones, without their backslashes. An address may get a backslash before it.
 pub fn delimited(
     alloc: Global,
     part: &[u8],
@@ -169,10 +184,15 @@ pub fn delimited(
     if is_bare {
         written.push(b'\\')?;
     }
-    for byte in part {
-        let is_delimiter = Some(byte) == part.first() && !reading.is_in_list();
-        reading = reading.after(*byte);
-        written.push(if is_delimiter { other } else { *byte })?;
+    for (index, byte) in part.iter().enumerate() {
+        let before = reading;
+        reading = before.after(*byte);
+        let next = part.get(index.saturating_add(1));
+        let is_inside = before.is_escaped || before.is_in_list();
+        let is_delimiter = Some(byte) == part.first() && !is_inside;
+        if !escapes_delimiter(reading, next) {
+            written.push(if is_delimiter { other } else { *byte })?;
+        }
     }
     Ok(written)
 }

@@ -23,6 +23,8 @@ struct Page {
     depth: usize,
     /// Whether an empty line comes before what is next.
     is_parted: bool,
+    /// Whether the script begins with a comment, at its very first byte.
+    is_first: bool,
 }
 
 /// The script of this text, whose commands have these bracket lists, as it is to be checked, and where each command is.
@@ -38,6 +40,7 @@ pub(crate) fn laid_out(
         comments,
         depth: 0,
         is_parted: false,
+        is_first: text.starts_with(b"#"),
     };
     let commands = located.script.commands();
     let mut locations = Vec::new(alloc);
@@ -123,15 +126,17 @@ impl Page {
         Ok(between.saturating_add(comment.len()))
     }
 
-    /// Adds the comment, on a line of its own. One that would make the script quiet gets a blank.
+    /// Adds the comment, on a line of its own. One that begins with `n`, and comes first only here, gets a blank: to GNU sed and ssed a
+    /// text that begins so is quiet.
     fn add_comment(&mut self, comment: &[u8]) -> Result<(), AllocError> {
         if self.comments == Comments::LeftOut {
             return Ok(());
         }
         self.part()?;
         self.indent()?;
-        if self.out.is_empty() && comment == b"#n".as_slice() {
-            self.out.extend_from_slice(b"# n")?;
+        if self.out.is_empty() && !self.is_first && comment.starts_with(b"#n") {
+            self.out.extend_from_slice(b"# ")?;
+            self.out.extend_from_slice(comment.get(1..).unwrap_or(&[]))?;
         } else {
             self.out.extend_from_slice(comment)?;
         }
