@@ -1,7 +1,8 @@
 -- Findings that are added.
 use Rattle.std.proofs.Common.{◌≡◌, ◌∙◌, ◌||◌, ◌&&◌, Bool, true, false, List, [], ◌∷◌, ◌++◌, Option, Result, Ok, Err, OnOk, refl, sym, ap, subst}
 use Rattle.std.proofs.lemmas.List.Folds.{list_any-append}
-use Rattle.sedck_report.specs.Levels.{is_error, has_error, is_warning, has_warning, is_locale, has_locale, BeginsWithError}
+use Rattle.sedck_report.specs.Levels.{is_error, has_error, is_warning, warns_of, is_locale, has_locale, BeginsWithError}
+use Rattle.sedck_report.specs.declared.code.Code.{Code}
 use Rattle.sedck_report.specs.declared.finding.Finding.{Finding}
 use Rattle.sedck_report.specs.declared.places.Position.{Position}
 use Rattle.sedck_advice.specs.Added.{AddsNoError, AddsOthers}
@@ -22,18 +23,20 @@ or-kept : (a b : Bool) → a ≡ true → (a || b) ≡ true
 or-kept a b is = rw is refl
 
 -- a warning stays where findings are added
-warned-append : (old new more : List Finding) → new ≡ old ++ more → has_warning old ≡ true → has_warning new ≡ true
-warned-append old new more is warned =
-    ap has_warning is ∙ list_any-append (λ finding. is_warning finding.level) old more ∙ or-kept (has_warning old) (has_warning more) warned
+warned-append : (old new more : List Finding) → new ≡ old ++ more → (kind : Code → Bool) → warns_of kind old ≡ true → warns_of kind new ≡ true
+warned-append old new more is kind warned =
+    ap (warns_of kind) is ∙ list_any-append (λ (f : Finding). is_warning f.level && kind f.code) old more
+    ∙ or-kept (warns_of kind old) (warns_of kind more) warned
 
 or-behind : (a b : Bool) → b ≡ true → (a || b) ≡ true
 or-behind true b is = refl
 or-behind false b is = is
 
 -- a warning is there where it is added
-pub warned_behind : (old new more : List Finding) → new ≡ old ++ more → has_warning more ≡ true → has_warning new ≡ true
-warned_behind old new more is warned =
-    ap has_warning is ∙ list_any-append (λ finding. is_warning finding.level) old more ∙ or-behind (has_warning old) (has_warning more) warned
+pub warned_behind : (old new more : List Finding) → new ≡ old ++ more → (kind : Code → Bool) → warns_of kind more ≡ true → warns_of kind new ≡ true
+warned_behind old new more is kind warned =
+    ap (warns_of kind) is ∙ list_any-append (λ (f : Finding). is_warning f.level && kind f.code) old more
+    ∙ or-behind (warns_of kind old) (warns_of kind more) warned
 
 -- a finding that is no error
 pub no_error_push : (old new : List Finding) (f : Finding) → new ≡ old ++ (f ∷ []) → is_error f.level ≡ false → AddsNoError old new
@@ -54,7 +57,7 @@ no_error_append old new more is none = record {
 pub no_error_trans : (a b c : List Finding) → AddsNoError a b → AddsNoError b c → AddsNoError a c
 no_error_trans a b c one two = record {
   errors = two.errors ∙ one.errors;
-  warned = λ warned. two.warned (one.warned warned);
+  warned = λ kind warned. two.warned kind (one.warned kind warned);
   first = λ position begins. two.first position (one.first position begins);
 }
 

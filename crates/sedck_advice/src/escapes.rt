@@ -62,7 +62,8 @@ fn repeat_hint(spot: Spot) -> &'static str {
     }
     let is_plus = spot.rest.get(1) == Some(&b'+');
     if !is_plus && spot.inside().ends_with(b"\\$") {
-        return "if the two characters `$?` are meant write `\\$?`; GNU sed reads `\\$\\?` as a `$` that may be missing: for that write `\\$\\{0,1\\}`, with `\\,` where the comma is the delimiter";
+        return "if the two characters `$?` are meant write `\\$?`; GNU sed reads `\\$\\?` as a `$` that may be missing: for that write \
+            `\\$\\{0,1\\}`, with `\\,` where the comma is the delimiter";
     }
     match (is_plus, spot.delimiter() == b',') {
         (true, true) => "for `x\\+` write `xx*`, or `x\\{1\\,\\}`, since `,` is the delimiter",
@@ -96,12 +97,15 @@ fn bar_hint(spot: Spot) -> &'static str {
 /// For `\|` in a group.
 fn group_bar_hint(spot: Spot) -> &'static str {
     if is_replaced(spot) && spot.inside().ends_with(b"\\(^") {
-        return "for `s/\\(^\\|,\\)a/\\1b/` write `s/^/\\n/`, `s/\\([\\n,]\\)a/\\1b/` and `s/^\\n//`, if the pattern space is one line and doesn't begin with both, a match of `a` and one of `,a`; a list such as `[^0-9]` has the newline already; the first `s` sets the flag that `t` tests";
+        return "for `s/\\(^\\|,\\)a/\\1b/` write `s/^/\\n/`, `s/\\([\\n,]\\)a/\\1b/` and `s/^\\n//`, if the pattern space is one line and doesn't \
+            begin with both, a match of `a` and one of `,a`; a list such as `[^0-9]` has the newline already; the first `s` sets the flag that `t` tests";
     }
     if is_replaced(spot) && spot.rest.starts_with(b"\\|$\\)") {
-        return "for `s/a\\(,\\|$\\)/b\\1/` write `s/$/\\n/`, `s/a\\([\\n,]\\)/b\\1/` and `s/\\n$//`, if the pattern space is one line; a list such as `[^0-9]` has the newline already; the first `s` sets the flag that `t` tests";
+        return "for `s/a\\(,\\|$\\)/b\\1/` write `s/$/\\n/`, `s/a\\([\\n,]\\)/b\\1/` and `s/\\n$//`, if the pattern space is one line; a list such as \
+            `[^0-9]` has the newline already; the first `s` sets the flag that `t` tests";
     }
-    "write `\\([ab]\\)` for `\\(a\\|b\\)`, `\\(64\\)\\{0,1\\}` for `\\(\\|64\\)` and `\\(\\.[ch]\\)` for `\\(\\.c\\|\\.h\\)`; otherwise write one command for each alternative, if no line has a match of two of them"
+    "write `\\([ab]\\)` for `\\(a\\|b\\)`, `\\(64\\)\\{0,1\\}` for `\\(\\|64\\)` and `\\(\\.[ch]\\)` for `\\(\\.c\\|\\.h\\)`; otherwise write one \
+        command for each alternative, if no line has a match of two of them"
 }
 
 /// Whether the expression is that of an `s`.
@@ -112,7 +116,8 @@ fn is_replaced(spot: Spot) -> bool {
 /// For `\b`, `\<` and `\>`.
 fn word_hint(spot: Spot) -> &'static str {
     if !is_replaced(spot) {
-        return "match what is next to the word, with a command for each case: `/^WORD$/`, `/^WORD[^[:alnum:]_]/`, `/[^[:alnum:]_]WORD$/` and `/[^[:alnum:]_]WORD[^[:alnum:]_]/`";
+        return "match what is next to the word, with a command for each case: `/^WORD$/`, `/^WORD[^[:alnum:]_]/`, `/[^[:alnum:]_]WORD$/` and \
+            `/[^[:alnum:]_]WORD[^[:alnum:]_]/`";
     }
     let begins = has_one_end(spot) && spot.begins();
     let ends = has_one_end(spot) && spot.rest.get(2) == Some(&spot.delimiter());
@@ -127,14 +132,17 @@ fn word_hint(spot: Spot) -> &'static str {
         (_, true, Copies::Whole) =>
             "for `s/WORD\\>/X&/g` write `s/$/\\n/`, `s/\\(WORD\\)\\([^[:alnum:]_]\\)/X\\1\\2/g` and `s/\\n$//`; the first `s` sets the flag that `t` tests",
         (_, _, Copies::Nothing) =>
-            "for `s/\\bWORD\\b/NEW/g` write `s/.*/\\n&\\n/`, twice `s/\\([^[:alnum:]_]\\)WORD\\([^[:alnum:]_]\\)/\\1NEW\\2/g`, and `s/^\\n\\(.*\\)\\n$/\\1/`, if NEW has no such word; without `g` only once; the first `s` sets the flag that `t` tests",
+            "for `s/\\bWORD\\b/NEW/g` write `s/.*/\\n&\\n/`, twice `s/\\([^[:alnum:]_]\\)WORD\\([^[:alnum:]_]\\)/\\1NEW\\2/g`, and \
+                `s/^\\n\\(.*\\)\\n$/\\1/`, if NEW has no such word; without `g` only once; the first `s` sets the flag that `t` tests",
         (_, _, Copies::Whole) =>
-            "for `s/\\bWORD\\b/X&/` write `s/.*/\\n&\\n/`, `s/\\([^[:alnum:]_]\\)\\(WORD\\)\\([^[:alnum:]_]\\)/\\1X\\2\\3/` and `s/^\\n\\(.*\\)\\n$/\\1/`; with `g` this leaves out words that share a byte between them; the first `s` sets the flag that `t` tests",
+            "for `s/\\bWORD\\b/X&/` write `s/.*/\\n&\\n/`, `s/\\([^[:alnum:]_]\\)\\(WORD\\)\\([^[:alnum:]_]\\)/\\1X\\2\\3/` and \
+                `s/^\\n\\(.*\\)\\n$/\\1/`; with `g` this leaves out words that share a byte between them; the first `s` sets the flag that `t` tests",
     }
 }
 
 const GROUPS: &str =
-    "no escape of POSIX means an end of a word: match the byte next to it as a group of its own, after which the groups of WORD have other numbers, and `&` has that byte too";
+    "no escape of POSIX means an end of a word: match the byte next to it as a group of its own, after which the groups of WORD have other numbers, \
+        and `&` has that byte too";
 
 /// For `\B`.
 fn inner_hint(spot: Spot) -> &'static str {
@@ -142,14 +150,16 @@ fn inner_hint(spot: Spot) -> &'static str {
         return "`\\B` wants a byte of a word on both sides, or on none: for `/\\BWORD/` write `/[[:alnum:]_]WORD/`, and so for `WORD\\B`";
     }
     if replacement_of(spot) == b",&".as_slice() {
-        return "for commas in numbers that stand alone write `s/\\(.*[0-9]\\)\\([0-9]\\{3\\}\\)/\\1,\\2/` as often as a line may need one, without a loop, as docs/MENDING.md shows";
+        return "for commas in numbers that stand alone write `s/\\(.*[0-9]\\)\\([0-9]\\{3\\}\\)/\\1,\\2/` as often as a line may need one, without a \
+            loop, as docs/MENDING.md shows";
     }
     match (spot.purpose(), copies_in(spot)) {
         (Purpose::ReplacesAll, _) | (_, Copies::Groups) => GROUPS,
         (_, Copies::Nothing) =>
             "`\\B` wants a byte of a word on both sides, or on none: for `s/\\BWORD/NEW/` write `s/\\([[:alnum:]_]\\)WORD/\\1NEW/`, and so for `WORD\\B`",
         (_, Copies::Whole) =>
-            "`\\B` wants a byte of a word on both sides, or on none: for `s/\\BWORD/X&/` write `s/\\([[:alnum:]_]\\)\\(WORD\\)/\\1X\\2/`, and so for `WORD\\B`",
+            "`\\B` wants a byte of a word on both sides, or on none: for `s/\\BWORD/X&/` write `s/\\([[:alnum:]_]\\)\\(WORD\\)/\\1X\\2/`, and so for \
+                `WORD\\B`",
     }
 }
 

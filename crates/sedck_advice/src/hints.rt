@@ -75,10 +75,21 @@ fn command_hint(spot: Spot) -> Option<&'static str> {
         b'$' if spot.previous() == Some(b'$') => Some(
             "in a makefile `$$` becomes one `$`: write one, or check the script that the shell passes on",
         ),
-        b'Q' if spot.previous() == Some(b'!') => Some(
-            "for `/x/!Q` write `/x/!{`, `:end`, `$d`, `N`, `s/.*\\n//`, `b end` and `}` on lines of their own",
-        ),
+        b'Q' => Some(quit_hint(spot)),
         verb => verb_hint(verb),
+    }
+}
+
+/// In place of `Q`, which may have an exit status.
+fn quit_hint(spot: Spot) -> &'static str {
+    let is_negated = spot.previous() == Some(b'!');
+    let has_status = matches!(without_blanks(spot.behind()).first(), Some(b'0'..=b'9'));
+    match (is_negated, has_status) {
+        (false, false) => "for `/x/Q` write `/x/,$d`",
+        (false, true) =>
+            "for `/x/Q` write `/x/,$d`; no command of POSIX gives an exit status: look for the line outside the script, as with `grep`",
+        (true, _) =>
+            "for `/x/!Q` write `/x/!{`, `:end`, `$d`, `N`, `s/.*\\n//`, `b end` and `}` on lines of their own",
     }
 }
 
@@ -89,7 +100,6 @@ fn verb_hint(verb: u8) -> Option<&'static str> {
             "for `T end` write `t go`, `b end` and `:go` on lines of their own; for `/x/T end` put the first two into a block, `/x/{` and `}`",
         ),
         b'z' => Some("for `z` write `s/.*//`, which sets the flag that `t` tests"),
-        b'Q' => Some("for `/x/Q` write `/x/,$d`"),
         b'I' => Some("for `/hello/I` write `/[hH][eE][lL][lL][oO]/`"),
         b'e' => Some("POSIX sed can't run other programs: do it outside the script"),
         b'v' => Some("`v` requires a version of GNU sed: leave it out"),
@@ -150,7 +160,8 @@ fn first_match_hint(behind: &[u8]) -> &'static str {
         Some(b'd') =>
             "for `0,/x/d` alone in a script write `/x/!d`, `$d`, `N`, `s/.*\\n//`, `:rest`, `n` and `b rest` on lines of their own",
         Some(b's' | b'p' | b'y' | b'=' | b'w' | b'a' | b'i' | b'r' | b'l') =>
-            "for `0,/x/s/a/b/` alone in a script write `/x/{`, `s/a/b/`, `:rest`, `n`, `b rest`, `}` and once more `s/a/b/` on lines of their own, and so for `p`",
+            "for `0,/x/s/a/b/` alone in a script write `/x/{`, `s/a/b/`, `:rest`, `n`, `b rest`, `}` and once more `s/a/b/` on lines of their own, \
+                and so for `p`",
         _ => "`1,/x/` is the same if the first line doesn't match",
     }
 }

@@ -27,6 +27,8 @@ enum Role {
     Order,
     /// It is the `ignore` of a comment without a code.
     Alone,
+    /// It is a comment in which nothing follows `sedck:`.
+    Empty,
     /// It is the first word of a comment after a command.
     AfterCommand,
 }
@@ -124,6 +126,15 @@ fn add_words<'a>(
     comment: Comment<'a>,
     order: &'a [u8],
 ) -> Result<(), AllocError> {
+    if order.is_empty() {
+        let Comment { offset, bytes, .. } = comment;
+        let role = Role::Empty;
+        return Ok(words.push(Word {
+            offset,
+            bytes,
+            role,
+        })?);
+    }
     let first = order.split(|byte| is_blank(*byte)).next().unwrap_or(order);
     let listed = order.get(first.len()..).unwrap_or(&[]);
     let before = comment.bytes.len().saturating_sub(order.len());
@@ -240,6 +251,13 @@ fn unknown_words_of(alloc: Global, word: Word) -> Result<(String, &'static str),
         Role::Code => code_words(alloc, name.as_str(), word.named().is_some()),
         Role::Order => Ok((
             format!(in alloc; "\"{name}\" is unknown here: this comment ignores nothing")?,
+            "`# sedck: ignore CODE` ignores the warnings and notes with that code",
+        )),
+        Role::Empty => Ok((
+            String::from_str(
+                alloc,
+                "nothing follows `sedck:`, so this comment ignores nothing",
+            )?,
             "`# sedck: ignore CODE` ignores the warnings and notes with that code",
         )),
         Role::Alone => Ok((

@@ -35,7 +35,8 @@ fn escape_look(text: &[u8], offset: usize) -> Look {
         end: Some(end_behind(text, position, 2)),
         code: Code::BackslashInList,
         message: "in a list POSIX takes this for two bytes, the backslash and the letter; GNU sed and most others take it for one byte, as a tab for `\\t`",
-        hint: "write the byte itself, a tab as it is, or a class, as in `[[:blank:]]` or `[[:space:]]`; if the backslash is meant, write it last in the list, as in `[t\\]`",
+        hint: "write the byte itself, a tab as it is, or a class, as in `[[:blank:]]` or `[[:space:]]`; if the backslash is meant, write it last in \
+            the list, as in `[t\\]`",
         fix: None,
     }
 }

@@ -129,7 +129,8 @@ fn push_locale(
             "in a locale of UTF-8 sed takes whole characters here, and not bytes: nothing is known of runs there",
         )?,
         hint: Some(
-            "run the script with `LC_ALL=C`; or write whole characters, in a group to repeat them, as in `\\(..\\)*`, and replace them by an `s` in place of a `y`",
+            "run the script with `LC_ALL=C`; or write whole characters, in a group to repeat them, as in `\\(..\\)*`, and replace them by an `s` in \
+                place of a `y`",
         ),
         fix: place.and_then(|place| place.fix),
         steps: Vec::new(alloc),

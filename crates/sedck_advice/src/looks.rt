@@ -181,7 +181,8 @@ fn extended_look(position: Position) -> Look {
         end: None,
         code: Code::LooksExtended,
         message: "in a basic regular expression this is an ordinary character: is the script meant for `sed -E`?",
-        hint: "write `\\(` and `\\)` for a group, `\\{1,\\}` for `+`, `\\{0,1\\}` for `?` and `\\{3\\}` for `{3}`; there is no `|`. If the character is meant, put it into a bracket list, as in `[+]`",
+        hint: "write `\\(` and `\\)` for a group, `\\{1,\\}` for `+`, `\\{0,1\\}` for `?` and `\\{3\\}` for `{3}`; there is no `|`. If the character \
+            is meant, put it into a bracket list, as in `[+]`",
         fix: None,
     }
 }

@@ -29,6 +29,10 @@ is_warning _ = false
 abbrev pub has_warning : List Finding → Bool
 has_warning findings = list_any (λ finding. is_warning finding.level) findings
 
+-- one of these findings is a warning with a code of this kind
+abbrev pub warns_of : (kind : Code → Bool) → List Finding → Bool
+warns_of kind findings = list_any (λ finding. is_warning finding.level && kind finding.code) findings
+
 abbrev pub is_locale : Code → Bool
 is_locale code.Locale = true
 is_locale _ = false
