@@ -1,0 +1,2 @@
+-- What the public contracts cite.
+pub mod Endless
