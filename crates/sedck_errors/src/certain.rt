@@ -6,8 +6,52 @@ use sedck_flow::Node;
 use sedck_script::{Address, Command, Part, Pattern, Place, Script, Substitution, Verb};
 use sedck_search::Walk;
 
-/// Whether each run that takes all steps of the loop once takes them for ever.
+/// Whether each run that takes all steps of the loop once takes them for ever, or at least never leaves the loop and what follows it.
 pub(crate) fn never_ends(script: &Script, walk: &Walk) -> bool {
+    goes_round(script, walk) || is_closed(script, walk)
+}
+
+/// Whether no command from the loop's first one on leads back before it, to the end of a cycle or to a line, as far as a run may go from
+/// there.
+fn is_closed(script: &Script, walk: &Walk) -> bool {
+    let places = walk.nodes.iter().map(|node| usize::from(node.at));
+    let first = places.min().unwrap_or(0);
+    let mut last = first;
+    for (at, command) in script.commands().iter().enumerate().skip(first) {
+        if at > last {
+            return true;
+        }
+        match furthest(command, at, first) {
+            Some(target) => last = last.max(target),
+            None => return false,
+        }
+    }
+    last < script.commands().len()
+}
+
+/// The last place to which the command at this one may lead, if it leads to none before the first one, and neither reads a line nor ends a
+/// cycle, whatever its address.
+fn furthest(command: &Command, at: usize, first: usize) -> Option<usize> {
+    let next = at.saturating_add(1);
+    match &command.verb {
+        Verb::Next
+        | Verb::NextAppend
+        | Verb::Delete
+        | Verb::DeleteFirstLine
+        | Verb::Change(_)
+        | Verb::Quit => None,
+        Verb::Branch(target) | Verb::Test(target) if *target < first => None,
+        Verb::Branch(target) if is_plain(command) => Some(*target),
+        Verb::Branch(target) | Verb::Test(target) | Verb::Block(target) => {
+            let target = *target;
+            Some(target.max(next))
+        }
+        _ => Some(next),
+    }
+}
+
+/// Whether each run that takes all steps of the loop once takes them for ever.
+fn goes_round(script: &Script, walk: &Walk) -> bool {
     let mut facts = Facts {
         tests: false,
         changes: false,

@@ -3,9 +3,11 @@
 ghost use Rattle.std.specs.Prelude.{◌≡◌, ◌&&◌, ◌||◌, true, false, IfOk, OnOk};
 ghost use Rattle.std.specs.Option.{is_some};
 ghost use Rattle.sedck_cert.specs.Limits.{is_unbounded, is_growing};
-ghost use Rattle.sedck_report.specs.Levels.{has_warning, is_warning, has_locale, has_error, is_error};
+ghost use Rattle.sedck_report.specs.Levels.{has_warning, is_warning, has_locale, has_error, is_error, warns_of};
 ghost use Rattle.sedck_report.specs.Files.{is_there};
+ghost use Rattle.sedck_errors.specs.Denials.{denies};
 
+use crate::warnings::{DeniedWarnings, is_denied};
 use sedck_advice::Slow;
 use sedck_cert::{Cert, Limits};
 use sedck_report::{Code, Finding, Level, NamedFile, Position, shown_name};
@@ -18,8 +20,8 @@ pub struct Denied {
     pub reads: bool,
     /// A file that it writes.
     pub writes: bool,
-    /// A finding of the level of warnings.
-    pub warnings: bool,
+    /// Findings of the level of warnings, by their codes.
+    pub warnings: DeniedWarnings,
     /// Steps without a known limit.
     pub unbounded: bool,
     /// Spaces without a known limit on their lengths.
@@ -37,20 +39,13 @@ impl Denied {
     pub const NOTHING: Denied = Denied {
         reads: false,
         writes: false,
-        warnings: false,
+        warnings: DeniedWarnings::NONE,
         unbounded: false,
         growing: false,
         slow: false,
         references: false,
         c_locale: false,
     };
-}
-
-/// Whether one of the findings is a warning.
-pub fn any_warning(findings: &[Finding]) -> bool
-    ensures { result ≡ has_warning findings.now }
-{
-    findings.iter().any(|finding| finding.is_warning())
 }
 
 /// Whether a file is read.
@@ -87,9 +82,10 @@ pub fn with_denials(
 ) -> Result<Vec<Finding>, AllocError>
     // There is an error where something is denied and there, or was one before; all warnings are kept.
     ensures errors { IfOk result (λ all. has_error all.items ≡ ((denied.reads && is_there has.entry.reads.now) || (denied.writes && is_there has.entry.writes.now)
-        || (denied.unbounded && is_unbounded has.entry.limits) || (denied.growing && is_growing has.entry.limits) || (denied.warnings && has_warning findings.items) || (denied.slow && is_some has.entry.slow)
+        || (denied.unbounded && is_unbounded has.entry.limits) || (denied.growing && is_growing has.entry.limits) || warns_of (denies denied.warnings) findings.items || (denied.slow && is_some has.entry.slow)
         || (denied.references && is_there has.entry.references.now) || has_error findings.items)) }
     ensures warnings { IfOk result (λ all. has_warning all.items ≡ has_warning findings.items) }
+    ensures denied { IfOk result (λ all. warns_of (denies denied.warnings) all.items ≡ warns_of (denies denied.warnings) findings.items) }
     ensures locale { IfOk result (λ all. has_locale all.items ≡ has_locale findings.items) }
 {
     let mut all = Vec::new(alloc);
@@ -155,38 +151,23 @@ fn push_each_file(
     Ok(())
 }
 
-/// Adds an error for each warning, at its place, where they are denied.
+/// Adds an error for each warning that is denied, at its place.
 fn push_warnings(
     alloc: Global,
     findings: &mut Vec<Finding>,
-    is_denied: bool,
+    denied: DeniedWarnings,
     given: &[Finding],
 ) -> Result<(), AllocError>
-    ensures errors { OnOk result (has_error findings.new.items ≡ (has_error findings.old.items || (is_denied && has_warning given.now))) }
-    ensures warnings { OnOk result (has_warning findings.new.items ≡ has_warning findings.old.items) }
-    ensures locale { OnOk result (has_locale findings.new.items ≡ has_locale findings.old.items) }
-{
-    if is_denied {
-        return push_each_warning(alloc, findings, given);
-    }
-    Ok(())
-}
-
-/// Adds an error for each warning, at its place.
-fn push_each_warning(
-    alloc: Global,
-    findings: &mut Vec<Finding>,
-    given: &[Finding],
-) -> Result<(), AllocError>
-    ensures errors { OnOk result (has_error findings.new.items ≡ (has_error findings.old.items || has_warning given.now)) }
+    ensures errors { OnOk result (has_error findings.new.items ≡ (has_error findings.old.items || warns_of (denies denied) given.now)) }
     ensures warnings { OnOk result (has_warning findings.new.items ≡ has_warning findings.old.items) }
     ensures locale { OnOk result (has_locale findings.new.items ≡ has_locale findings.old.items) }
 {
     for finding in given {
-        if finding.is_warning() {
+        if is_denied(finding, denied) {
             let code = finding.code.name();
+            let word = if denied.others { "warnings" } else { code };
             let message = format!(in alloc;
-                "this has the warning `{code}`, which `--deny warnings` forbids"
+                "this has the warning `{code}`, which `--deny {word}` forbids"
             )?;
             let mut error = denial(alloc, Code::DeniedWarnings, finding.position, message);
             error.end = finding.end;

@@ -5,13 +5,16 @@
 mod certain;
 mod certificates;
 mod denied;
+mod endless;
 mod ends;
 mod loops;
 mod refusals;
 mod steps;
+mod warnings;
 
 pub use certificates::{certificate_refusal, rejection};
-pub use denied::{Deniable, Denied, any_warning, has_reads, has_writes, with_denials};
+pub use denied::{Deniable, Denied, has_reads, has_writes, with_denials};
 pub use ends::with_end;
 pub use loops::{growth_note, loop_finding};
 pub use refusals::script_refusal;
+pub use warnings::{DeniedWarnings, any_denied};

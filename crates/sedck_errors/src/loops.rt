@@ -4,7 +4,8 @@ ghost use Rattle.std.specs.Prelude.{◌≡◌, IfOk, IfSome};
 ghost use Rattle.sedck_report.specs.declared.finding.Level.TheVariants.{Error, Note};
 ghost use Rattle.sedck_errors.specs.Errors.{first_position};
 
-use crate::certain::{is_repeated_once, never_ends};
+use crate::certain::is_repeated_once;
+use crate::endless::add_ending;
 use crate::steps::{position_of, step, target_step};
 use sedck_cert::{Cert, Limits, first_growth};
 use sedck_flow::{Edge, Kind, Node};
@@ -23,38 +24,32 @@ pub fn loop_finding(
     ensures level { IfOk result (λ finding. finding.level ≡ Error) }
     ensures position { IfOk result (λ finding. finding.position ≡ first_position positions.now walk.now.nodes.items) }
 {
-    let (code, message) = loop_words(walk.form, never_ends(script, walk));
+    let (code, words) = loop_words(walk.form);
+    let mut message = String::from_str(alloc, words)?;
+    add_ending(alloc, &mut message, script, walk)?;
     let steps = loop_steps(alloc, script, positions, walk)?;
     Ok(Finding {
         level: Level::Error,
         code,
         position: loop_position(positions, walk),
         end: None,
-        message: String::from_str(alloc, message)?,
+        message,
         hint: Some(loop_hint(script, walk)),
         fix: None,
         steps,
     })
 }
 
-/// The code and the message for a loop of this form.
-fn loop_words(form: Form, never_ends: bool) -> (Code, &'static str) {
-    match (form, never_ends) {
-        (Form::Idle, false) => (
+/// The code of a loop of this form, and how its message begins.
+fn loop_words(form: Form) -> (Code, &'static str) {
+    match form {
+        Form::Idle => (
             Code::LoopIdle,
-            "this loop reads no line and never shortens the pattern space: it may run forever",
+            "this loop reads no line and never shortens the pattern space: ",
         ),
-        (Form::Idle, true) => (
-            Code::LoopIdle,
-            "this loop reads no line and never shortens the pattern space: it never ends once it is entered",
-        ),
-        (Form::Growing, false) => (
+        Form::Growing => (
             Code::LoopGrowing,
-            "this loop reads no line and may lengthen the pattern space each time: it may run forever",
-        ),
-        (Form::Growing, true) => (
-            Code::LoopGrowing,
-            "this loop reads no line and may lengthen the pattern space each time: it never ends once it is entered",
+            "this loop reads no line and may lengthen the pattern space each time: ",
         ),
     }
 }
@@ -120,7 +115,8 @@ fn loop_hint(script: &Script, walk: &Walk) -> &'static str {
 /// How loops are repaired that have a command which may read a line, and doesn't.
 fn reading_hint(script: &Script, walk: &Walk) -> &'static str {
     if restarts(script, walk) {
-        return "use `D` only where a line was read: put it into a block with the `N`, and end the last line by `d`, as in `$!{`, `N`, `P`, `D`, `}`, `P`, `d` on lines of their own for `$!N`, `P` and `D`";
+        return "use `D` only where a line was read: put it into a block with the `N`, and end the last line by `d`, as in `$!{`, `N`, `P`, `D`, `}`, \
+            `P`, `d` on lines of their own for `$!N`, `P` and `D`";
     }
     "branch only where a line was read: put the branch into a block with the `N` or `n`, as in `/x/{`, `N`, `b a`, `}` on lines of their own"
 }
@@ -128,9 +124,11 @@ fn reading_hint(script: &Script, walk: &Walk) -> &'static str {
 /// How loops are repaired in which `D` starts again without a line, and something was added before.
 fn restart_hint(script: &Script, walk: &Walk) -> &'static str {
     if has_verb(script, walk, VerbForm::Substituting) {
-        return "`D` starts again without reading a line: if the `s` splits a line, let it put in all newlines at once, as docs/MENDING.md folds lines; else write `d` for `D`, if nothing after the newline is needed";
+        return "`D` starts again without reading a line: if the `s` splits a line, let it put in all newlines at once, as docs/MENDING.md folds \
+            lines; else write `d` for `D`, if nothing after the newline is needed";
     }
-    "`D` starts again without reading a line, and each round adds a text: add it only where a line was read, or write `d` for `D`, if nothing after the newline is needed"
+    "`D` starts again without reading a line, and each round adds a text: add it only where a line was read, or write `d` for `D`, if nothing after \
+        the newline is needed"
 }
 
 /// Whether a `D` along the loop starts again without a line.
@@ -150,12 +148,15 @@ fn growth_hint(script: &Script, walk: &Walk) -> Option<&'static str> {
     }
     if has_verb(script, walk, VerbForm::Copying) {
         return Some(
-            "each round may copy what it matches, so don't write it out many times: the pattern space could double each time; move bytes instead of copying them, as docs/MENDING.md reverses a line",
+            "each round may copy what it matches, so don't write it out many times: the pattern space could double each time; move bytes instead of \
+                copying them, as docs/MENDING.md reverses a line",
         );
     }
     if has_verb(script, walk, VerbForm::Padding) {
         return Some(
-            "if the loop makes a line as long as it should be, add all that may be needed with one `s` and cut the rest off with a second one, as docs/MENDING.md pads a line; else repeat the command as often as it may be needed; then write `t c` and `:c`, since the loop leaves the flag of `t` unset",
+            "if the loop makes a line as long as it should be, add all that may be needed with one `s` and cut the rest off with a second one, as \
+                docs/MENDING.md pads a line; else repeat the command as often as it may be needed; then write `t c` and `:c`, since the loop leaves \
+                the flag of `t` unset",
         );
     }
     None
@@ -200,16 +201,20 @@ fn test_hint(script: &Script, walk: &Walk) -> &'static str {
             "an `s` that matches the empty string sets the flag too: make it match at least one byte, as in `s/^xx*//` for `s/^x*//`"
         }
         _ if has_earlier_flag(script, walk) => {
-            "`t` branches for any `s` since the last `t`, here for one that isn't the last: if the last one alone is meant, write `t c` and `:c` before it; else repeat the commands as often as it may be needed, and then write `t c` and `:c`"
+            "`t` branches for any `s` since the last `t`, here for one that isn't the last: if the last one alone is meant, write `t c` and `:c` \
+                before it; else repeat the commands as often as it may be needed, and then write `t c` and `:c`"
         }
         _ if is_entered_elsewhere(script, walk) => {
-            "repeat the command as often as it may be needed, and then write `t c` and `:c`, since the loop leaves the flag of `t` unset; keep the label, to which another command leads"
+            "repeat the command as often as it may be needed, and then write `t c` and `:c`, since the loop leaves the flag of `t` unset; keep the \
+                label, to which another command leads"
         }
         _ if is_repeated_once(script, walk) => {
-            "write one `s` with the flag `g`, and then `t c` and `:c`, since the loop leaves the flag of `t` unset: it does the same, since what it writes can't be a part of a match"
+            "write one `s` with the flag `g`, and then `t c` and `:c`, since the loop leaves the flag of `t` unset: it does the same, since what it \
+                writes can't be a part of a match"
         }
         Form::Idle if has_verb(script, walk, VerbForm::ReplacingAll) => {
-            "repeat the command as often as it may be needed, and then write `t c` and `:c`, since the loop leaves the flag of `t` unset; or give the loop fuel, as docs/MENDING.md shows"
+            "repeat the command as often as it may be needed, and then write `t c` and `:c`, since the loop leaves the flag of `t` unset; or give the \
+                loop fuel, as docs/MENDING.md shows"
         }
         _ =>
             "repeat the command as often as it may be needed, and then write `t c` and `:c`, since the loop leaves the flag of `t` unset",
