@@ -1,6 +1,6 @@
 -- Errors among findings.
 use Rattle.std.proofs.Common.{◌≡◌, ◌∙◌, ◌||◌, if◌then◌else◌, ℕ, Bool, true, false, not, List, [], ◌∷◌, Option, Some, refl, ap}
-use Rattle.sedck_report.specs.Levels.{has_warning, is_error, has_error, BeginsWithError}
+use Rattle.sedck_report.specs.Levels.{is_error, has_error, BeginsWithError}
 use Rattle.sedck_report.specs.declared.finding.Finding.{Finding}
 use Rattle.sedck_report.specs.declared.places.Position.{Position}
 use Rattle.sedck_errors.specs.declared.denied.Denied.{Denied}
@@ -51,10 +51,10 @@ denied_is_error false before error status is none is_status = rw (is_status, is,
 
 -- there is an error exactly where it isn't accepted, and the first is that of the answer
 pub errors_of : (text : List ℕ) (positions : List Position) (denied : Denied) (has : Expressions) (answer : Answer) (before all : List Finding) (status : Status)
-    → AreFindingsOf text positions answer before → AreDeniedFindings denied has before all answer → status ≡ status_under denied (has_warning all) has answer
+    → AreFindingsOf text positions answer before → AreDeniedFindings denied has before all answer → status ≡ status_under denied all has answer
     → (has_error all ≡ not (is_accepted status)) × BeginsWithAnswer text positions all answer
 errors_of text positions denied has (Accepted cert limits) before all status found denials is =
-    (denied_is_error (is_denied denied (has_warning all) has (Accepted cert limits)) (has_error before) (has_error all) status denials found is, tt)
+    (denied_is_error (is_denied denied all has (Accepted cert limits)) (has_error before) (has_error all) status denials found is, tt)
 errors_of text positions denied has (ScriptRefused why) before all status found denials is =
     rw denials ((rw is (begins_is_error found.0 before found.2)), found)
 errors_of text positions denied has (CertificateRefused why) before all status found denials is =
@@ -68,7 +68,7 @@ errors_of text positions denied has NotJudged before all status found denials is
 
 -- the same of a script that is refused, where nothing is denied
 pub errors_of_refusal : (text : List ℕ) (denied : Denied) (has : Expressions) (answer : Answer) (findings : List Finding) (status : Status) → IsRefused text answer
-    → AreFindingsOf text [] answer findings → status ≡ status_under denied (has_warning findings) has answer
+    → AreFindingsOf text [] answer findings → status ≡ status_under denied findings has answer
     → (has_error findings ≡ not (is_accepted status)) × BeginsWithAnswer text [] findings answer
 errors_of_refusal text denied has (ScriptRefused why) findings status refused found is =
     errors_of text [] denied has (ScriptRefused why) findings findings status found refl is

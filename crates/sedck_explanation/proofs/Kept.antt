@@ -1,15 +1,16 @@
 -- What stays of the findings where some are ignored.
-use Rattle.std.proofs.Common.{◌≡◌, ◌∙◌, ◌||◌, ◌&&◌, not, ℕ, Bool, true, false, List, [], ◌∷◌, ◌++◌, Option, map, refl, sym, ap, subst}
+use Rattle.std.proofs.Common.{◌≡◌, ◌∙◌, ◌||◌, not, ℕ, Bool, true, false, List, [], ◌∷◌, ◌++◌, Option, map, refl, sym, ap, subst}
 use Rattle.std.specs.Prelude.{cond}
 use Rattle.std.proofs.lemmas.List.Elements.{All-head}
-use Rattle.sedck_report.specs.Levels.{has_warning, is_error, has_error, BeginsWithError}
+use Rattle.sedck_report.specs.Levels.{is_error, has_error, BeginsWithError}
 use Rattle.sedck_report.specs.Reported.{AreOf, AreInOrder, head_of}
 use Rattle.sedck_report.specs.declared.code.Code.{Code}
 use Rattle.sedck_report.specs.declared.finding.Finding.{Finding}
 use Rattle.sedck_report.specs.declared.finding.Level.TheVariants.{Error}
 use Rattle.sedck_report.specs.declared.places.Position.{Position}
 use Rattle.sedck_errors.specs.declared.denied.Denied.{Denied}
-use Rattle.sedck_explanation.specs.Denial.{status_under}
+use Rattle.sedck_errors.specs.declared.warnings.DeniedWarnings.{DeniedWarnings}
+use Rattle.sedck_explanation.specs.Denial.{status_under, warns_of_denied}
 use Rattle.sedck_explanation.specs.Errors.{BeginsWithAnswer}
 use Rattle.sedck_explanation.specs.Status.{Status, is_accepted}
 use Rattle.sedck_explanation.specs.Private.Reporting.{errors_in, KeepsErrors, AreReported}
@@ -64,14 +65,10 @@ answer_kept text positions (Rejected cert why) found all keeps order begins = (b
 answer_kept text positions (Endless walk) found all keeps order begins = (begins.0, begins.1, first_kept begins.0 found all keeps order begins.2)
 answer_kept text positions NotJudged found all keeps order begins = (begins.0, begins.1, first_kept begins.0 found all keeps order begins.2)
 
-warned_same : (counts was now : Bool) → (counts ≡ true → now ≡ was) → (counts && was) ≡ (counts && now)
-warned_same true was now same = sym (same refl)
-warned_same false was now same = refl
-
 -- the status
-pub status_kept : (denied : Denied) (has : Expressions) (answer : Answer) (was now : Bool) → (denied.warnings ≡ true → now ≡ was)
+pub status_kept : (denied : Denied) (has : Expressions) (answer : Answer) (was now : List Finding) → warns_of_denied denied now ≡ warns_of_denied denied was
     → status_under denied was has answer ≡ status_under denied now has answer
-status_kept denied has (Accepted cert limits) was now same = rw (warned_same denied.warnings was now same) refl
+status_kept denied has (Accepted cert limits) was now same = rw same refl
 status_kept denied has (ScriptRefused why) was now same = refl
 status_kept denied has (CertificateRefused why) was now same = refl
 status_kept denied has (Rejected cert why) was now same = refl
@@ -79,14 +76,12 @@ status_kept denied has (Endless walk) was now same = refl
 status_kept denied has NotJudged was now same = refl
 
 -- what holds of the errors that were found holds of those that are reported
-pub errors_reported : (text : List ℕ) (positions : List Position) (answer : Answer) (ignored : List Code) (found all : List Finding) (status : Status)
-    → AreReported text ignored found all → (has_error found ≡ not (is_accepted status)) × BeginsWithAnswer text positions found answer
+pub errors_reported : (text : List ℕ) (positions : List Position) (answer : Answer) (denied : DeniedWarnings) (found all : List Finding) (status : Status)
+    → AreReported text denied found all → (has_error found ≡ not (is_accepted status)) × BeginsWithAnswer text positions found answer
     → (has_error all ≡ not (is_accepted status)) × BeginsWithAnswer text positions all answer
-errors_reported text positions answer ignored found all status reported errors =
+errors_reported text positions answer denied found all status reported errors =
     (error_kept found all reported.errors ∙ errors.0, answer_kept text positions answer found all reported.errors reported.order errors.1)
 
-pub status_reported : (text : List ℕ) (denied : Denied) (has : Expressions) (answer : Answer) (ignored : List Code) (found all : List Finding) (status : Status)
-    → AreReported text ignored found all → (denied.warnings ≡ true → ignored ≡ []) → status ≡ status_under denied (has_warning found) has answer
-    → status ≡ status_under denied (has_warning all) has answer
-status_reported text denied has answer ignored found all status reported none is =
-    is ∙ status_kept denied has answer (has_warning found) (has_warning all) (λ counts. reported.warnings (none counts))
+pub status_reported : (text : List ℕ) (denied : Denied) (has : Expressions) (answer : Answer) (found all : List Finding) (status : Status)
+    → AreReported text denied.warnings found all → status ≡ status_under denied found has answer → status ≡ status_under denied all has answer
+status_reported text denied has answer found all status reported is = is ∙ status_kept denied has answer found all reported.warnings

@@ -5,19 +5,21 @@ use Rattle.std.proofs.lemmas.List.{map-append}
 use Rattle.std.proofs.lemmas.List.Folds.{list_any-append}
 use Rattle.std.proofs.lemmas.List.Elements.{filter-append, All-append, All-cons, All-nil, All-head, All-tail}
 use Rattle.std.specs.List.{All}
-use Rattle.sedck_report.specs.Levels.{has_warning, has_locale, is_warning, is_locale, is_error}
+use Rattle.sedck_report.specs.Levels.{warns_of, has_locale, is_warning, is_locale, is_error}
 use Rattle.sedck_report.specs.Reported.{AreOf, AreInOrder, HasRange, head_of}
 use Rattle.sedck_report.specs.declared.code.Code.{Code}
 use Rattle.sedck_report.specs.declared.finding.Finding.{Finding}
 use Rattle.sedck_report.specs.declared.finding.Level.{Level}
 use Rattle.sedck_report.specs.declared.places.Position.{Position}
 use Rattle.sedck_report.specs.declared.finding.Level.TheVariants.{Error, Warning, Note}
+use Rattle.sedck_errors.specs.Denials.{denies}
+use Rattle.sedck_errors.specs.declared.warnings.DeniedWarnings.{DeniedWarnings}
 use Rattle.sedck_explanation.specs.Private.Reporting.{errors_in, AreReported}
 
 -- what was found so far, by its levels and without what is ignored
-pub record IsSortedOut (text : List ℕ) (ignored : List Code) (found errors warnings notes : List Finding) : Type 0 where
+pub record IsSortedOut (text : List ℕ) (denied : DeniedWarnings) (found errors warnings notes : List Finding) : Type 0 where
   pub heads : map head_of errors ≡ map head_of (errors_in found)
-  pub warned : ignored ≡ [] → has_warning warnings ≡ has_warning found
+  pub warned : warns_of (denies denied) warnings ≡ warns_of (denies denied) found
   pub locale : has_locale warnings ≡ has_locale found
   pub are_errors : AreOf Error errors
   pub are_warnings : AreOf Warning warnings
@@ -43,20 +45,23 @@ or_false : (b : Bool) → (b || false) ≡ b
 or_false true = refl
 or_false false = refl
 
--- whether there is a warning, with one finding more
-warned_by : (f : Finding) (found : List Finding) → has_warning (found ++ (f ∷ [])) ≡ (has_warning found || is_warning f.level)
-warned_by f found = list_any-append (λ finding. is_warning finding.level) found (f ∷ []) ∙ ap (λ b. has_warning found || b) (or_false (is_warning f.level))
+-- whether there is a warning of a kind, with one finding more
+warned_by : (kind : Code → Bool) (f : Finding) (found : List Finding)
+    → warns_of kind (found ++ (f ∷ [])) ≡ (warns_of kind found || (is_warning f.level && kind f.code))
+warned_by kind f found = list_any-append (λ (finding : Finding). is_warning finding.level && kind finding.code) found (f ∷ [])
+    ∙ ap (λ b. warns_of kind found || b) (or_false (is_warning f.level && kind f.code))
 
-not_warned : (f : Finding) → is_warning f.level ≡ false → (found : List Finding) → has_warning (found ++ (f ∷ [])) ≡ has_warning found
-not_warned f none found = warned_by f found ∙ ap (λ b. has_warning found || b) none ∙ or_false (has_warning found)
+not_warned : (kind : Code → Bool) (f : Finding) → (is_warning f.level && kind f.code) ≡ false → (found : List Finding)
+    → warns_of kind (found ++ (f ∷ [])) ≡ warns_of kind found
+not_warned kind f none found = warned_by kind f found ∙ ap (λ b. warns_of kind found || b) none ∙ or_false (warns_of kind found)
 
--- whether there is the warning `locale`, with one finding more
-locale_by : (f : Finding) (found : List Finding) → has_locale (found ++ (f ∷ [])) ≡ (has_locale found || (is_warning f.level && is_locale f.code))
-locale_by f found = list_any-append (λ finding. is_warning finding.level && is_locale finding.code) found (f ∷ [])
-    ∙ ap (λ b. has_locale found || b) (or_false (is_warning f.level && is_locale f.code))
-
-pub not_locale : (f : Finding) → (is_warning f.level && is_locale f.code) ≡ false → (found : List Finding) → has_locale (found ++ (f ∷ [])) ≡ has_locale found
-not_locale f none found = locale_by f found ∙ ap (λ b. has_locale found || b) none ∙ or_false (has_locale found)
+-- the same of one that takes the place of another
+warned_both : (kind : Code → Bool) (f g : Finding) (found warnings : List Finding) → g.level ≡ f.level → head_of g ≡ head_of f
+    → warns_of kind warnings ≡ warns_of kind found → warns_of kind (warnings ++ (g ∷ [])) ≡ warns_of kind (found ++ (f ∷ []))
+warned_both kind f g found warnings same head sorted =
+    warned_by kind g warnings ∙ ap (λ b. b || (is_warning g.level && kind g.code)) sorted
+    ∙ ap (λ l. warns_of kind found || (is_warning l && kind g.code)) same
+    ∙ ap (λ (h : Code × Option Position). warns_of kind found || (is_warning f.level && kind h.0)) head ∙ sym (warned_by kind f found)
 
 none_and : (a b : Bool) → a ≡ false → (a && b) ≡ false
 none_and a b is = rw is refl
@@ -79,18 +84,18 @@ no_error_more f none found =
 error_more : (f : Finding) → f.level ≡ Error → (found : List Finding) → errors_in (found ++ (f ∷ [])) ≡ errors_in found ++ (f ∷ [])
 error_more f is found = filter-append (λ finding. is_error finding.level) found (f ∷ []) ∙ ap (λ t. errors_in found ++ t) (errors_one f is)
 
-pub more_error : (text : List ℕ) (ignored : List Code) (found errors pushed warnings notes : List Finding) (f g : Finding)
+pub more_error : (text : List ℕ) (denied : DeniedWarnings) (found errors pushed warnings notes : List Finding) (f g : Finding)
     → g.level ≡ f.level → head_of g ≡ head_of f → HasRange text g → g.level ≡ Error → pushed ≡ errors ++ (g ∷ [])
-    → IsSortedOut text ignored found errors warnings notes → IsSortedOut text ignored (found ++ (f ∷ [])) pushed warnings notes
-more_error text ignored found errors pushed warnings notes f g same head has is pushes sorted =
+    → IsSortedOut text denied found errors warnings notes → IsSortedOut text denied (found ++ (f ∷ [])) pushed warnings notes
+more_error text denied found errors pushed warnings notes f g same head has is pushes sorted =
     let was : f.level ≡ Error = sym same ∙ is in
     let heads : map head_of (errors ++ (g ∷ [])) ≡ map head_of (errors_in (found ++ (f ∷ []))) =
     map-append head_of errors (g ∷ []) ∙ ap (λ t. map head_of errors ++ (t ∷ [])) head ∙ ap (λ t. t ++ (head_of f ∷ [])) sorted.heads
     ∙ sym (map-append head_of (errors_in found) (f ∷ [])) ∙ ap (map head_of) (sym (error_more f was found)) in
     record {
       heads = subst (λ (t : List Finding). map head_of t ≡ map head_of (errors_in (found ++ (f ∷ [])))) (sym pushes) heads;
-      warned = λ none. sorted.warned none ∙ sym (not_warned f (ap is_warning was) found);
-      locale = sorted.locale ∙ sym (not_locale f (none_and (is_warning f.level) (is_locale f.code) (ap is_warning was)) found);
+      warned = sorted.warned ∙ sym (not_warned (denies denied) f (none_and (is_warning f.level) (denies denied f.code) (ap is_warning was)) found);
+      locale = sorted.locale ∙ sym (not_warned is_locale f (none_and (is_warning f.level) (is_locale f.code) (ap is_warning was)) found);
       are_errors = subst (AreOf Error) (sym pushes) (level_of Error g is errors sorted.are_errors);
       are_warnings = sorted.are_warnings;
       are_notes = sorted.are_notes;
@@ -99,19 +104,15 @@ more_error text ignored found errors pushed warnings notes f g same head has is 
       note_ends = sorted.note_ends;
     }
 
-pub more_warning : (text : List ℕ) (ignored : List Code) (found errors warnings pushed notes : List Finding) (f g : Finding)
+pub more_warning : (text : List ℕ) (denied : DeniedWarnings) (found errors warnings pushed notes : List Finding) (f g : Finding)
     → g.level ≡ f.level → head_of g ≡ head_of f → HasRange text g → g.level ≡ Warning → pushed ≡ warnings ++ (g ∷ [])
-    → IsSortedOut text ignored found errors warnings notes → IsSortedOut text ignored (found ++ (f ∷ [])) errors pushed notes
-more_warning text ignored found errors warnings pushed notes f g same head has is pushes sorted =
+    → IsSortedOut text denied found errors warnings notes → IsSortedOut text denied (found ++ (f ∷ [])) errors pushed notes
+more_warning text denied found errors warnings pushed notes f g same head has is pushes sorted =
     let was : f.level ≡ Warning = sym same ∙ is in
-    let both : has_warning (warnings ++ (g ∷ [])) ≡ (has_warning warnings || true) = warned_by g warnings ∙ ap (λ l. has_warning warnings || is_warning l) is in
-    let found_both : has_warning (found ++ (f ∷ [])) ≡ (has_warning found || true) = warned_by f found ∙ ap (λ l. has_warning found || is_warning l) was in
     record {
       heads = sorted.heads ∙ ap (map head_of) (sym (no_error_more f (ap is_error was) found));
-      warned = λ none. ap has_warning pushes ∙ both ∙ ap (λ b. b || true) (sorted.warned none) ∙ sym found_both;
-      locale = ap has_locale pushes ∙ locale_by g warnings ∙ ap (λ b. b || (is_warning g.level && is_locale g.code)) sorted.locale
-          ∙ ap (λ l. has_locale found || (is_warning l && is_locale g.code)) same
-          ∙ ap (λ (h : Code × Option Position). has_locale found || (is_warning f.level && is_locale h.0)) head ∙ sym (locale_by f found);
+      warned = ap (warns_of (denies denied)) pushes ∙ warned_both (denies denied) f g found warnings same head sorted.warned;
+      locale = ap has_locale pushes ∙ warned_both is_locale f g found warnings same head sorted.locale;
       are_errors = sorted.are_errors;
       are_warnings = subst (AreOf Warning) (sym pushes) (level_of Warning g is warnings sorted.are_warnings);
       are_notes = sorted.are_notes;
@@ -120,15 +121,15 @@ more_warning text ignored found errors warnings pushed notes f g same head has i
       note_ends = sorted.note_ends;
     }
 
-pub more_note : (text : List ℕ) (ignored : List Code) (found errors warnings notes pushed : List Finding) (f g : Finding)
+pub more_note : (text : List ℕ) (denied : DeniedWarnings) (found errors warnings notes pushed : List Finding) (f g : Finding)
     → g.level ≡ f.level → HasRange text g → g.level ≡ Note → pushed ≡ notes ++ (g ∷ [])
-    → IsSortedOut text ignored found errors warnings notes → IsSortedOut text ignored (found ++ (f ∷ [])) errors warnings pushed
-more_note text ignored found errors warnings notes pushed f g same has is pushes sorted =
+    → IsSortedOut text denied found errors warnings notes → IsSortedOut text denied (found ++ (f ∷ [])) errors warnings pushed
+more_note text denied found errors warnings notes pushed f g same has is pushes sorted =
     let was : f.level ≡ Note = sym same ∙ is in
     record {
       heads = sorted.heads ∙ ap (map head_of) (sym (no_error_more f (ap is_error was) found));
-      warned = λ none. sorted.warned none ∙ sym (not_warned f (ap is_warning was) found);
-      locale = sorted.locale ∙ sym (not_locale f (none_and (is_warning f.level) (is_locale f.code) (ap is_warning was)) found);
+      warned = sorted.warned ∙ sym (not_warned (denies denied) f (none_and (is_warning f.level) (denies denied f.code) (ap is_warning was)) found);
+      locale = sorted.locale ∙ sym (not_warned is_locale f (none_and (is_warning f.level) (is_locale f.code) (ap is_warning was)) found);
       are_errors = sorted.are_errors;
       are_warnings = sorted.are_warnings;
       are_notes = subst (AreOf Note) (sym pushes) (level_of Note g is notes sorted.are_notes);
@@ -146,13 +147,14 @@ and_none true b is = is
 and_none false b is = refl
 
 -- one that is left out
-pub more_ignored : (text : List ℕ) (ignored : List Code) (found errors warnings notes : List Finding) (f : Finding) (is : Bool) → is ≡ true
-    → (is_error f.level ≡ true → is ≡ false) → (is_locale f.code ≡ true → is ≡ false) → (ignored ≡ [] → is ≡ false)
-    → IsSortedOut text ignored found errors warnings notes → IsSortedOut text ignored (found ++ (f ∷ [])) errors warnings notes
-more_ignored text ignored found errors warnings notes f is holds error locale nothing sorted = record {
+pub more_ignored : (text : List ℕ) (denied : DeniedWarnings) (found errors warnings notes : List Finding) (f : Finding) (is : Bool) → is ≡ true
+    → (is_error f.level ≡ true → is ≡ false) → (is_locale f.code ≡ true → is ≡ false) → (denies denied f.code ≡ true → is ≡ false)
+    → IsSortedOut text denied found errors warnings notes → IsSortedOut text denied (found ++ (f ∷ [])) errors warnings notes
+more_ignored text denied found errors warnings notes f is holds error locale denial sorted = record {
   heads = sorted.heads ∙ ap (map head_of) (sym (no_error_more f (not_so (is_error f.level) is holds error) found));
-  warned = λ none. absurd (false≢true (sym (nothing none) ∙ holds));
-  locale = sorted.locale ∙ sym (not_locale f (and_none (is_warning f.level) (is_locale f.code) (not_so (is_locale f.code) is holds locale)) found);
+  warned = sorted.warned
+      ∙ sym (not_warned (denies denied) f (and_none (is_warning f.level) (denies denied f.code) (not_so (denies denied f.code) is holds denial)) found);
+  locale = sorted.locale ∙ sym (not_warned is_locale f (and_none (is_warning f.level) (is_locale f.code) (not_so (is_locale f.code) is holds locale)) found);
   are_errors = sorted.are_errors;
   are_warnings = sorted.are_warnings;
   are_notes = sorted.are_notes;
@@ -173,16 +175,22 @@ no_locale_append old new more is one two =
     ap has_locale is ∙ list_any-append (λ finding. is_warning finding.level && is_locale finding.code) old more
     ∙ ap (λ b. b || has_locale more) one ∙ two
 
-none_warns : (level : Level) → is_warning level ≡ false → (findings : List Finding) → AreOf level findings → has_warning findings ≡ false
-none_warns level none [] are = refl
-none_warns level none (f ∷ more) are =
-    ap (λ l. is_warning l || has_warning more) (All-head (Of level) f more are) ∙ ap (λ b. b || has_warning more) none ∙ none_warns level none more (All-tail (Of level) f more are)
+none_warns : (kind : Code → Bool) (level : Level) → is_warning level ≡ false → (findings : List Finding) → AreOf level findings → warns_of kind findings ≡ false
+none_warns kind level none [] are = refl
+none_warns kind level none (f ∷ more) are =
+    ap (λ l. (is_warning l && kind f.code) || warns_of kind more) (All-head (Of level) f more are)
+    ∙ ap (λ b. b || warns_of kind more) (none_and (is_warning level) (kind f.code) none) ∙ none_warns kind level none more (All-tail (Of level) f more are)
 
-none_locale : (level : Level) → is_warning level ≡ false → (findings : List Finding) → AreOf level findings → has_locale findings ≡ false
-none_locale level none [] are = refl
-none_locale level none (f ∷ more) are =
-    ap (λ l. (is_warning l && is_locale f.code) || has_locale more) (All-head (Of level) f more are)
-    ∙ ap (λ b. b || has_locale more) (none_and (is_warning level) (is_locale f.code) none) ∙ none_locale level none more (All-tail (Of level) f more are)
+-- the warnings of a kind among findings in order are those of the second part
+warns_of_parts : (kind : Code → Bool) (errors warnings notes : List Finding) → AreOf Error errors → AreOf Note notes
+    → warns_of kind (errors ++ (warnings ++ notes)) ≡ warns_of kind warnings
+warns_of_parts kind errors warnings notes are_errors are_notes =
+    let w = λ (f : Finding). is_warning f.level && kind f.code in
+    list_any-append w errors (warnings ++ notes)
+    ∙ ap (λ b. b || warns_of kind (warnings ++ notes)) (none_warns kind Error refl errors are_errors)
+    ∙ list_any-append w warnings notes
+    ∙ ap (λ b. warns_of kind warnings || b) (none_warns kind Note refl notes are_notes)
+    ∙ or_false (warns_of kind warnings)
 
 no_errors_in : (level : Level) → is_error level ≡ false → (findings : List Finding) → AreOf level findings → errors_in findings ≡ []
 no_errors_in level none [] are = refl
@@ -211,27 +219,13 @@ pub errors_of_ordered : (all : List Finding) (order : AreInOrder all) → errors
 errors_of_ordered all order =
     ap errors_in order.parts ∙ errors_of_parts order.errors order.warnings order.notes order.are_errors order.are_warnings order.are_notes
 
-pub sorted_reports : (text : List ℕ) (ignored : List Code) (found errors warnings notes all : List Finding) → all ≡ errors ++ (warnings ++ notes)
-    → IsSortedOut text ignored found errors warnings notes → AreReported text ignored found all
-sorted_reports text ignored found errors warnings notes all is sorted =
-    let w = λ (f : Finding). is_warning f.level in
-    let warned : has_warning (errors ++ (warnings ++ notes)) ≡ has_warning warnings =
-    list_any-append w errors (warnings ++ notes)
-    ∙ ap (λ b. b || has_warning (warnings ++ notes)) (none_warns Error refl errors sorted.are_errors)
-    ∙ list_any-append w warnings notes
-    ∙ ap (λ b. has_warning warnings || b) (none_warns Note refl notes sorted.are_notes)
-    ∙ or_false (has_warning warnings) in
-    let l = λ (f : Finding). is_warning f.level && is_locale f.code in
-    let located : has_locale (errors ++ (warnings ++ notes)) ≡ has_locale warnings =
-    list_any-append l errors (warnings ++ notes)
-    ∙ ap (λ b. b || has_locale (warnings ++ notes)) (none_locale Error refl errors sorted.are_errors)
-    ∙ list_any-append l warnings notes
-    ∙ ap (λ b. has_locale warnings || b) (none_locale Note refl notes sorted.are_notes)
-    ∙ or_false (has_locale warnings) in
+pub sorted_reports : (text : List ℕ) (denied : DeniedWarnings) (found errors warnings notes all : List Finding) → all ≡ errors ++ (warnings ++ notes)
+    → IsSortedOut text denied found errors warnings notes → AreReported text denied found all
+sorted_reports text denied found errors warnings notes all is sorted =
     record {
       errors = ap (λ t. map head_of (errors_in t)) is ∙ ap (map head_of) (errors_of_parts errors warnings notes sorted.are_errors sorted.are_warnings sorted.are_notes) ∙ sorted.heads;
-      warnings = λ none. ap has_warning is ∙ warned ∙ sorted.warned none;
-      locale = ap has_locale is ∙ located ∙ sorted.locale;
+      warnings = ap (warns_of (denies denied)) is ∙ warns_of_parts (denies denied) errors warnings notes sorted.are_errors sorted.are_notes ∙ sorted.warned;
+      locale = ap has_locale is ∙ warns_of_parts is_locale errors warnings notes sorted.are_errors sorted.are_notes ∙ sorted.locale;
       order = record {
         errors = errors;
         warnings = warnings;

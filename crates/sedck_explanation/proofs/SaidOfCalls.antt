@@ -2,14 +2,16 @@
 use Rattle.std.proofs.Common.{◌≡◌, ℕ, true, false, MatchBool, List, None, Result, Ok, Err, IfOk, refl, sym, subst}
 use Rattle.sedck_call.specs.declared.call.Call.{Call}
 use Rattle.sedck_explanation.specs.Called.{is_in_place, is_denied_call, IsDenied, IsCalled}
-use Rattle.sedck_report.specs.Levels.{has_warning}
+use Rattle.sedck_report.specs.declared.code.Code.TheVariants.{InPlace}
+use Rattle.sedck_errors.specs.Denials.{denies}
+use Rattle.sedck_explanation.specs.Denial.{warns_of_denied}
 use Rattle.sedck_errors.specs.declared.denied.Denied.{Denied}
 use Rattle.sedck_explanation.specs.Explanations.{IsExplanation}
 use Rattle.sedck_explanation.specs.declared.explanation.Explanation.{Explanation}
 
--- where warnings are denied, an operand that is overwritten is warned of
+-- where that is denied, an operand that is overwritten is warned of
 abbrev IsWarned : Denied → Call → Explanation → Type 0
-IsWarned denied call judged = denied.warnings ≡ true → is_in_place call ≡ true → has_warning judged.findings.items ≡ true
+IsWarned denied call judged = denies denied.warnings InPlace ≡ true → is_in_place call ≡ true → warns_of_denied denied judged.findings.items ≡ true
 
 pub called_denied : {E : Type 0} (text : List ℕ) (denied : Denied) (call : Call) (judged : Explanation) (r : Result Explanation E)
     → IsExplanation text None denied judged → IsWarned denied call judged → is_denied_call denied call judged.status ≡ true

@@ -15,8 +15,11 @@ use Rattle.sedck_call.specs.declared.call.Call.{Call}
 use Rattle.sedck_engines.specs.Inputs.{IsRead}
 use Rattle.sedck_engines.specs.Opened.{Known}
 use Rattle.sedck_report.specs.Files.{is_there}
-use Rattle.sedck_report.specs.Levels.{has_warning, has_locale, has_error}
+use Rattle.sedck_report.specs.Levels.{has_locale, has_error}
+use Rattle.sedck_report.specs.declared.code.Code.TheVariants.{InPlace}
+use Rattle.sedck_errors.specs.Denials.{denies}
 use Rattle.sedck_errors.specs.declared.denied.Denied.{Denied}
+use Rattle.sedck_explanation.specs.Denial.{warns_of_denied}
 use Rattle.sedck_explanation.specs.Explanations.{IsExplanation, Keeps}
 use Rattle.sedck_explanation.specs.Status.{Status, Accepted, Rejected, is_accepted}
 use Rattle.sedck_explanation.specs.declared.explanation.Explanation.{Explanation}
@@ -65,11 +68,11 @@ pub record IsDenied (text : List ℕ) (judged e : Explanation) : Type 0 where
   pub keeps : Keeps text e.answer e
 
 -- What is said of a call whose script is this text: what is said of the text, but where that is denied for an operand that is
--- overwritten. This is a warning too, which no comment of the script ignores where warnings are denied.
+-- overwritten. This is a warning too, which no comment of the script ignores where it is denied.
 pub record IsCalled (text : List ℕ) (denied : Denied) (call : Call) (e : Explanation) : Type 0 where
   pub judged : Explanation
   pub is_explanation : IsExplanation text None denied judged
-  pub warned : denied.warnings ≡ true → is_in_place call ≡ true → has_warning judged.findings.items ≡ true
+  pub warned : denies denied.warnings InPlace ≡ true → is_in_place call ≡ true → warns_of_denied denied judged.findings.items ≡ true
   pub said : MatchBool (is_denied_call denied call judged.status) (IsDenied text judged e) (e ≡ judged)
 
 -- the bytes that are read for a path, where they are known: `-` is standard input, of which nothing is

@@ -9,7 +9,7 @@ use Rattle.sedck_script.specs.Spelling.{Spells}
 use Rattle.sedck_cert.specs.Headline.{Only}
 use Rattle.sedck_report.specs.Positions.{position_in}
 use Rattle.sedck_report.specs.Files.{names_of}
-use Rattle.sedck_report.specs.Levels.{has_warning, has_locale}
+use Rattle.sedck_report.specs.Levels.{has_locale}
 use Rattle.sedck_report.specs.Reported.{AreInOrder, HasRange}
 use Rattle.sedck_report.specs.declared.finding.Finding.{Finding}
 use Rattle.sedck_report.specs.declared.places.Position.{Position}
@@ -59,7 +59,7 @@ kept_has has (Some p) = has p
 pub record IsExplanation (text : List ℕ) (given : Option (List ℕ)) (denied : Denied) (e : Explanation) : Type 0 where
   pub is_text : e.text.now ≡ text
   pub is_answer : IsAnswer text given e.answer
-  pub is_status : e.status ≡ status_under denied (has_warning e.findings.items) (expressions_of e.script) e.answer
+  pub is_status : e.status ≡ status_under denied e.findings.items (expressions_of e.script) e.answer
   -- the warning `locale` is there exactly where the script isn't byte safe and the locale isn't known to be C, whatever comments say
   pub locale : has_locale e.findings.items ≡ (not denied.c_locale && kept_has depends_on_locale e.script)
   pub keeps : Keeps text e.answer e

@@ -11,14 +11,15 @@ ghost use Rattle.sedck_cert.specs.Headline.{Only};
 ghost use Rattle.sedck_cert.specs.declared.verifying.Fault.TheVariants as below;
 ghost use Rattle.sedck_report.specs.Files.{is_there};
 ghost use Rattle.sedck_explanation.specs.Answers.{IsAnswer, status_of};
-ghost use Rattle.sedck_explanation.specs.Denial.{nothing, status_under};
+ghost use Rattle.sedck_explanation.specs.Denial.{nothing, status_under, warns_of_denied};
 ghost use Rattle.sedck_explanation.specs.Status.{IsOfAnswer};
 ghost use Rattle.sedck_explanation.specs.Private.Answering.{IsFoundAnswer, IsJudgedAnswer, IsAcceptedAnswer, refusal};
 ghost use Rattle.sedck_explanation.specs.Private.Errors.{IsRefused};
 
 use crate::status::Status;
 use sedck_cert::{Cert, CertFault, Limits, Rejection, Verdict, check, limits_of, read_any};
-use sedck_errors::{Denied, has_reads, has_writes};
+use sedck_errors::{Denied, any_denied, has_reads, has_writes};
+use sedck_report::Finding;
 use sedck_script::{Located, Script, ScriptFault, locate};
 use sedck_search::{Found, Walk, search};
 use std::alloc::{AllocError, Global};
@@ -79,15 +80,15 @@ impl Answer {
         }
     }
 
-    /// The exit status where this is denied: `Rejected` for a script that is accepted and has what is denied, else as `status`. One of
-    /// the findings is a warning where `has_warning` says so, and the script's expressions are such.
+    /// The exit status where this is denied: `Rejected` for a script that is accepted and has what is denied, else as `status`. Of
+    /// the findings the warnings count that are denied.
     pub fn status_under(
         &self,
         denied: Denied,
-        has_warning: bool,
+        findings: &[Finding],
         expressions: Expressions,
     ) -> Status
-        ensures value { result ≡ status_under denied has_warning expressions self.now }
+        ensures value { result ≡ status_under denied findings.now expressions self.now }
         ensures few { IsOfAnswer result }
         // A no stays what it is, and without a denial a yes does too.
         ensures never_a_yes { result ≡ Status.Accepted → status_of self.now ≡ Status.Accepted }
@@ -95,7 +96,7 @@ impl Answer {
     {
         match self {
             Answer::Accepted { cert, limits } => {
-                if has_denied(denied, cert, *limits, has_warning, expressions) {
+                if has_denied(denied, cert, *limits, findings, expressions) {
                     Status::Rejected
                 } else {
                     Status::Accepted
@@ -111,18 +112,18 @@ fn has_denied(
     denied: Denied,
     cert: &Cert,
     limits: Limits,
-    has_warning: bool,
+    findings: &[Finding],
     expressions: Expressions,
 ) -> bool
     ensures { result ≡ ((denied.reads && is_there cert.now.reads) || (denied.writes && is_there cert.now.writes)
-        || (denied.unbounded && is_unbounded limits) || (denied.growing && is_growing limits) || (denied.warnings && has_warning) || (denied.slow && expressions.slow)
+        || (denied.unbounded && is_unbounded limits) || (denied.growing && is_growing limits) || warns_of_denied denied findings.now || (denied.slow && expressions.slow)
         || (denied.references && expressions.references)) }
 {
     (denied.reads && has_reads(cert))
         || (denied.writes && has_writes(cert))
         || (denied.unbounded && limits.is_unbounded())
         || (denied.growing && limits.is_growing())
-        || (denied.warnings && has_warning)
+        || any_denied(findings, denied.warnings)
         || (denied.slow && expressions.slow)
         || (denied.references && expressions.references)
 }

@@ -9,7 +9,7 @@ ghost use Rattle.sedck_report.specs.Positions.{position_in};
 ghost use Rattle.sedck_advice.specs.Added.{AddsNoError};
 ghost use Rattle.sedck_advice.specs.Locale.{depends_on_locale};
 ghost use Rattle.sedck_explanation.specs.Explanations.{IsExplanation, KeepsNothing};
-ghost use Rattle.sedck_explanation.specs.Denial.{expressions_of};
+ghost use Rattle.sedck_explanation.specs.Denial.{expressions_of, warns_of_denied};
 ghost use Rattle.sedck_explanation.specs.Status.{IsOfAnswer};
 ghost use Rattle.sedck_explanation.specs.Private.Errors.{IsOfScript, IsRefused, CanBeReported, AreFindingsOf, IsFindingOf};
 ghost use Rattle.sedck_explanation.specs.Private.Explaining.{Explains, Reports, WarnedWith, KeepsLocated, HasLists, AreDeniedFindings, kinds_of};
@@ -23,8 +23,8 @@ use sedck_advice::{
     references_in, slow_of,
 };
 use sedck_errors::{
-    Deniable, Denied, any_warning, certificate_refusal, growth_note, loop_finding, rejection,
-    script_refusal, with_denials,
+    Deniable, Denied, certificate_refusal, growth_note, loop_finding, rejection, script_refusal,
+    with_denials,
 };
 use sedck_report::{Finding, NamedFile, Position, positions};
 use sedck_script::{Access, Located, Location, Script};
@@ -181,7 +181,7 @@ fn reports(
     requires writes { names_of lists.now.writes.items ≡ writes located.now.script }
     ensures reports { IfOk result (λ r. Reports text.now asked.entry.denied answer.now located.now.script lists.now.positions.items r.0 r.1.items) }
     ensures few { IfOk result (λ r. IsOfAnswer r.0) }
-    ensures warned { IfOk result (λ r. asked.entry.denied.warnings ≡ true → has_warning warnings.items ≡ true → has_warning r.1.items ≡ true) }
+    ensures warned { IfOk result (λ r. warns_of_denied asked.entry.denied warnings.items ≡ true → warns_of_denied asked.entry.denied r.1.items ≡ true) }
 {
     let Asked {
         own,
@@ -207,9 +207,9 @@ fn reports(
     add_warnings(alloc, &mut found, script)?;
     let expressions = expressions_in_script(alloc, text, located, &lists.positions)?;
     let all = denied_findings(alloc, found, denied, answer, lists, &expressions)?;
-    let status = answer.status_under(denied, any_warning(&all), expressions.kinds());
-    let ignored = ignored_codes(alloc, &words, denied)?;
-    let findings = reported(alloc, text, locations, all, &ignored)?;
+    let status = answer.status_under(denied, &all, expressions.kinds());
+    let ignored = ignored_codes(alloc, &words)?;
+    let findings = reported(alloc, text, locations, all, &ignored, denied.warnings)?;
     Ok((status, findings))
 }
 
@@ -282,8 +282,8 @@ fn refused<'a>(
 {
     let mut found = refusal_findings(alloc, text, &answer)?;
     found.append(&mut warnings)?;
-    let status = answer.status_under(denied, any_warning(&found), Expressions::NONE);
-    let findings = reported(alloc, text, &[], found, &[])?;
+    let status = answer.status_under(denied, &found, Expressions::NONE);
+    let findings = reported(alloc, text, &[], found, &[], denied.warnings)?;
     Ok(Explanation {
         text,
         source: text,
@@ -323,6 +323,7 @@ fn denied_findings(
     requires { HasLists lists.now.reads.items lists.now.writes.items answer.now }
     ensures errors { IfOk result (λ all. AreDeniedFindings denied (kinds_of expressions.now) findings.items all.items answer.now) }
     ensures warnings { IfOk result (λ all. has_warning all.items ≡ has_warning findings.items) }
+    ensures denied { IfOk result (λ all. warns_of_denied denied all.items ≡ warns_of_denied denied findings.items) }
     ensures locale { IfOk result (λ all. has_locale all.items ≡ has_locale findings.items) }
 {
     match answer {

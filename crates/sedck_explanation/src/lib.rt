@@ -20,7 +20,7 @@ pub use explaining::explain;
 pub use explanation::Explanation;
 pub use options::{foreign_findings, has_foreign, refusal_of};
 pub use parts::{Unexplained, parts_of};
-pub use sedck_errors::Denied;
+pub use sedck_errors::{Denied, DeniedWarnings};
 pub use sedck_report::{
     Code, Finding, Fix, Level, NamedFile, NewText, Position, Step, is_printable, position_at,
     position_from, shown_line, shown_name,

@@ -1,9 +1,11 @@
 //! What is said of the options of a call, and of words that no sed takes.
 
-ghost use Rattle.std.specs.Prelude.{◌≡◌, false, IfOk};
+ghost use Rattle.std.specs.Prelude.{◌≡◌, ◌&&◌, Bool, false, IfOk};
 ghost use Rattle.sedck_report.specs.declared.finding.Level.TheVariants.{Error};
 ghost use Rattle.std.specs.List.{list_any};
-ghost use Rattle.sedck_report.specs.Levels.{has_warning, has_locale, has_error};
+ghost use Rattle.sedck_report.specs.Levels.{has_warning, has_locale, has_error, warns_of};
+ghost use Rattle.sedck_report.specs.declared.code.Code.{Code};
+ghost use Rattle.sedck_report.specs.declared.code.Code.TheVariants.{InPlace};
 ghost use Rattle.sedck_explanation.specs.Called.{is_foreign as is_foreign_option, has_foreign as has_foreign_option};
 ghost use Rattle.sedck_explanation.specs.Called.{is_overwriting as is_overwriting_option, is_in_place as is_in_place_call};
 
@@ -80,6 +82,7 @@ pub(crate) fn call_warnings(
 ) -> Result<Vec<Finding>, AllocError>
     ensures errors { IfOk result (λ findings. has_error findings.items ≡ false) }
     ensures warnings { IfOk result (λ findings. has_warning findings.items ≡ is_in_place_call call.now) }
+    ensures kinds { IfOk result (λ findings. (kind : Code → Bool) → warns_of kind findings.items ≡ (is_in_place_call call.now && kind InPlace)) }
     ensures locale { IfOk result (λ findings. has_locale findings.items ≡ false) }
 {
     let mut findings = Vec::new(alloc);

@@ -7,14 +7,14 @@ use Rattle.sedck_script.specs.Names.{reads, writes}
 use Rattle.sedck_commands.specs.declared.location.Location.{Location}
 use Rattle.sedck_report.specs.Positions.{position_in}
 use Rattle.sedck_report.specs.Files.{is_there, names_of}
-use Rattle.sedck_report.specs.Levels.{has_warning, has_locale, has_error}
+use Rattle.sedck_report.specs.Levels.{has_locale, has_error}
 use Rattle.sedck_report.specs.Reported.{AreInOrder, HasRange}
 use Rattle.sedck_report.specs.declared.finding.Finding.{Finding}
 use Rattle.sedck_report.specs.declared.finding.NamedFile.{NamedFile}
 use Rattle.sedck_report.specs.declared.places.Position.{Position}
 use Rattle.sedck_advice.specs.Locale.{depends_on_locale}
 use Rattle.sedck_errors.specs.declared.denied.Denied.{Denied}
-use Rattle.sedck_explanation.specs.Denial.{expressions_of, is_denied, status_under}
+use Rattle.sedck_explanation.specs.Denial.{expressions_of, is_denied, status_under, warns_of_denied}
 use Rattle.sedck_explanation.specs.Errors.{HasErrors, BeginsWithAnswer}
 use Rattle.sedck_explanation.specs.Explanations.{kept_has}
 use Rattle.sedck_explanation.specs.Status.{Status, is_accepted}
@@ -28,7 +28,7 @@ use Rattle.sedck_explanation.specs.declared.explanation.Explanation.{Explanation
 pub record Explains (text : List ℕ) (denied : Denied) (answer : Answer) (e : Explanation) : Type 0 where
   pub is_text : e.text.now ≡ text
   pub is_answer : e.answer ≡ answer
-  pub is_status : e.status ≡ status_under denied (has_warning e.findings.items) (expressions_of e.script) e.answer
+  pub is_status : e.status ≡ status_under denied e.findings.items (expressions_of e.script) e.answer
   pub locale : has_locale e.findings.items ≡ (not denied.c_locale && kept_has depends_on_locale e.script)
   pub errors : HasErrors text e
   pub order : AreInOrder e.findings.items
@@ -36,7 +36,7 @@ pub record Explains (text : List ℕ) (denied : Denied) (answer : Answer) (e : E
 
 -- a status and the findings of an answer to a caller who denies this, for this script with its verbs at these positions
 pub record Reports (text : List ℕ) (denied : Denied) (answer : Answer) (script : Program) (positions : List Position) (status : Status) (findings : List Finding) : Type 0 where
-  pub is_status : status ≡ status_under denied (has_warning findings) (expressions_of (Some script)) answer
+  pub is_status : status ≡ status_under denied findings (expressions_of (Some script)) answer
   pub locale : has_locale findings ≡ (not denied.c_locale && depends_on_locale script)
   pub exactly : has_error findings ≡ not (is_accepted status)
   pub first : BeginsWithAnswer text positions findings answer
@@ -63,9 +63,9 @@ kinds_of found = record { slow = is_some found.slow; references = is_there found
 -- what is denied adds errors to the findings of a script that is accepted
 abbrev pub AreDeniedFindings : Denied → Expressions → List Finding → List Finding → Answer → Type 0
 AreDeniedFindings denied expressions before all (Accepted cert limits) =
-    has_error all ≡ (is_denied denied (has_warning all) expressions (Accepted cert limits) || has_error before)
+    has_error all ≡ (is_denied denied all expressions (Accepted cert limits) || has_error before)
 AreDeniedFindings denied expressions before all _ = all ≡ before
 
--- where warnings are denied, those that are given beside the script's own are reported; else a comment of the script may ignore them
+-- of the warnings that are given beside the script's own, those that are denied are reported; a comment of the script may ignore others
 abbrev pub WarnedWith : Denied → List Finding → Explanation → Type 0
-WarnedWith denied given e = denied.warnings ≡ true → has_warning given ≡ true → has_warning e.findings.items ≡ true
+WarnedWith denied given e = warns_of_denied denied given ≡ true → warns_of_denied denied e.findings.items ≡ true

@@ -1,5 +1,6 @@
-use Rattle.std.proofs.Common.{◌≡◌, ◌∙◌, ◌&&◌, Bool, true, false, not, None, [], refl, ap, sym, subst}
-use Rattle.sedck_report.specs.Levels.{has_warning}
+use Rattle.std.proofs.Common.{◌≡◌, ◌∙◌, ◌&&◌, Bool, true, false, not, List, None, [], refl, ap, sym, subst}
+use Rattle.sedck_report.specs.declared.finding.Finding.{Finding}
+use Rattle.sedck_errors.specs.Denials.{denies}
 use Rattle.sedck_explanation.specs.Denial.{expressions_of, status_under}
 use Rattle.sedck_explanation.specs.declared.answer.Expressions.{Expressions}
 use Rattle.sedck_explanation.specs.Errors.{BeginsWithAnswer}
@@ -23,18 +24,18 @@ returns-clause-explains c =
     let begun = c.in_ok-found.found.items in
     let found = c.append.new.self.items in
     let all = c.in_ok-findings.findings.items in
-    let status : c.status_under-status.result ≡ status_under c.args.denied (has_warning found) none answer =
+    let status : c.status_under-status.result ≡ status_under c.args.denied found none answer =
     c.status_under-status.ensures.value
-    ∙ ap (λ warned. status_under c.args.denied warned none answer) (c.any_warning.ensures ∙ ap has_warning c.deref.ensures.value) in
+    ∙ ap (λ (findings : List Finding). status_under c.args.denied findings none answer) c.deref.ensures.value in
     let of_answer : AreFindingsOf text [] answer found =
     findings_stay text [] answer begun found (no_error_append begun found c.args.warnings.items c.in_ok-append.ensures.items c.requires.errors) c.in_ok-found.ensures.answer in
-    let reported : AreReported text [] found all = c.in_ok-findings.ensures in
-    let errors = errors_reported text [] answer [] found all c.status_under-status.result reported
+    let reported : AreReported text c.args.denied.warnings found all = c.in_ok-findings.ensures in
+    let errors = errors_reported text [] answer c.args.denied.warnings found all c.status_under-status.result reported
     (errors_of_refusal text c.args.denied none answer found c.status_under-status.result c.requires.refusal of_answer status) in
     record {
       is_text = refl;
       is_answer = refl;
-      is_status = status_reported text c.args.denied none answer [] found all c.status_under-status.result reported (λ _. refl) status;
+      is_status = status_reported text c.args.denied none answer found all c.status_under-status.result reported status;
       locale = reported.locale ∙ no_locale_append begun found c.args.warnings.items c.in_ok-append.ensures.items c.in_ok-found.ensures.locale c.requires.locale
           ∙ sym (and_false (not c.args.denied.c_locale));
       errors = record {
@@ -46,8 +47,8 @@ returns-clause-explains c =
     }
 
 pub returns-clause-warned : goal.returns-clause-warned
-returns-clause-warned c = λ denied warned.
+returns-clause-warned c = λ warned.
     let begun = c.in_ok-found.found.items in
     let given = c.append.new.self.items in
-    let reported : AreReported c.args.text.now [] given c.in_ok-findings.findings.items = c.in_ok-findings.ensures in
-    reported.warnings refl ∙ warned_behind begun given c.args.warnings.items c.in_ok-append.ensures.items warned
+    let reported : AreReported c.args.text.now c.args.denied.warnings given c.in_ok-findings.findings.items = c.in_ok-findings.ensures in
+    reported.warnings ∙ warned_behind begun given c.args.warnings.items c.in_ok-append.ensures.items (denies c.args.denied.warnings) warned

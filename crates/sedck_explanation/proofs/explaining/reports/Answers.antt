@@ -1,17 +1,17 @@
 use Rattle.std.proofs.Common.{◌≡◌, ◌∙◌, ◌||◌, ◌&&◌, ◌++◌, Bool, true, false, not, List, Some, refl, ap, subst}
-use Rattle.sedck_report.specs.Levels.{has_warning, has_locale}
+use Rattle.sedck_report.specs.Levels.{has_locale, warns_of}
 use Rattle.sedck_report.specs.declared.finding.Finding.{Finding}
-use Rattle.sedck_report.specs.declared.code.Code.{Code}
 use Rattle.sedck_report.specs.declared.places.Position.{Position}
 use Rattle.sedck_advice.specs.Locale.{depends_on_locale}
 use Rattle.sedck_advice.specs.Added.{AddsNoError}
+use Rattle.sedck_errors.specs.Denials.{denies}
 use Rattle.sedck_errors.specs.declared.denied.Denied.{Denied}
 use Rattle.sedck_explanation.specs.Denial.{expressions_of, status_under}
 use Rattle.sedck_explanation.specs.declared.answer.Expressions.{Expressions}
 use Rattle.sedck_explanation.specs.Private.Errors.{AreFindingsOf}
 use Rattle.sedck_explanation.specs.Private.Explaining.{AreDeniedFindings, kinds_of}
 use Rattle.sedck_explanation.specs.Private.Reporting.{AreReported}
-use Rattle.sedck_advice.proofs.Added.{no_error_append, no_error_trans}
+use Rattle.sedck_advice.proofs.Added.{no_error_append, no_error_trans, warned_behind}
 use Rattle.sedck_explanation.proofs.Errors.{errors_of, findings_stay}
 use Rattle.sedck_explanation.proofs.Reports.{no_locale_append}
 use Rattle.sedck_explanation.proofs.Kept.{errors_reported, status_reported}
@@ -28,13 +28,12 @@ returns-clause-reports c =
     let found = c.add_warnings.new.findings.items in
     let all = c.in_ok-all.all.items in
     let findings = c.in_ok-findings.findings.items in
-    let ignored = c.in_ok-ignored.ignored.items in
     let has : Expressions = expressions_of (Some script) in
     let kinds : kinds_of c.in_ok-expressions.expressions ≡ has = c.in_ok-expressions.ensures in
-    let status : c.status_under-status.result ≡ status_under c.args.asked.denied (has_warning all) has answer =
+    let status : c.status_under-status.result ≡ status_under c.args.asked.denied all has answer =
     c.status_under-status.ensures.value
-    ∙ ap (λ warned. status_under c.args.asked.denied warned c.kinds.result answer) (c.any_warning.ensures ∙ ap has_warning c.deref-7.ensures.value)
-    ∙ ap (λ (is : Expressions). status_under c.args.asked.denied (has_warning all) is answer) (c.kinds.ensures ∙ kinds) in
+    ∙ ap (λ (findings : List Finding). status_under c.args.asked.denied findings c.kinds.result answer) c.deref-7.ensures.value
+    ∙ ap (λ (is : Expressions). status_under c.args.asked.denied all is answer) (c.kinds.ensures ∙ kinds) in
     let of_answer : AreFindingsOf text positions answer begun =
     subst (λ (ps : List Position). AreFindingsOf text ps answer begun) c.deref.ensures.value c.in_ok-found.ensures.answer in
     let due = c.due_warnings.new.findings.items in
@@ -45,17 +44,28 @@ returns-clause-reports c =
     c.in_ok-add_warnings.ensures.locale ∙ c.in_ok-due_warnings.ensures.exactly
     ∙ ap (λ was. was || (not c.args.asked.denied.c_locale && depends_on_locale script))
     (no_locale_append begun given c.args.warnings.items c.in_ok-append.ensures.items c.in_ok-found.ensures.locale c.requires.locale) in
-    let reported : AreReported text ignored all findings =
-    subst (λ (codes : List Code). AreReported text codes all findings) c.deref-10.ensures.value c.in_ok-findings.ensures in
-    let errors = errors_reported text positions answer ignored all findings c.status_under-status.result reported
+    let reported : AreReported text c.args.asked.denied.warnings all findings = c.in_ok-findings.ensures in
+    let errors = errors_reported text positions answer c.args.asked.denied.warnings all findings c.status_under-status.result reported
     (errors_of text positions c.args.asked.denied has answer found all c.status_under-status.result
     (findings_stay text positions answer begun found adds of_answer)
     (subst (λ (is : Expressions). AreDeniedFindings c.args.asked.denied is found all answer) kinds c.in_ok-all.ensures.errors) status) in
     record {
-      is_status = status_reported text c.args.asked.denied has answer ignored all findings c.status_under-status.result reported c.in_ok-ignored.ensures status;
+      is_status = status_reported text c.args.asked.denied has answer all findings c.status_under-status.result reported status;
       locale = reported.locale ∙ c.in_ok-all.ensures.locale ∙ locale;
       exactly = errors.0;
       first = errors.1;
       order = reported.order;
       ends = reported.ends;
     }
+
+-- a warning that is given and denied stays from one list to the next
+pub returns-clause-warned : goal.returns-clause-warned
+returns-clause-warned c = λ warned.
+    let kind = denies c.args.asked.denied.warnings in
+    let begun = c.in_ok-found.found.items in
+    let given = c.append.new.self.items in
+    let placed : warns_of kind given ≡ true = warned_behind begun given c.args.warnings.items c.in_ok-append.ensures.items kind warned in
+    let found : warns_of kind c.add_warnings.new.findings.items ≡ true =
+    c.in_ok-add_warnings.ensures.adds.warned kind (c.in_ok-due_warnings.ensures.added.warned kind placed) in
+    let reported : AreReported c.args.text.now c.args.asked.denied.warnings c.in_ok-all.all.items c.in_ok-findings.findings.items = c.in_ok-findings.ensures in
+    reported.warnings ∙ c.in_ok-all.ensures.denied ∙ found

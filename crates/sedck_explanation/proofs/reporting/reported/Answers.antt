@@ -9,7 +9,7 @@ use Rattle.sedck_explanation.proofs.reporting.reported.Goals as goal
 
 pub loop-finding-preserved-then-is_ignored : goal.loop-finding-preserved-then-is_ignored
 loop-finding-preserved-then-is_ignored c =
-    more_ignored _ _ _ _ _ _ _ c.is_ignored.result c.if-is_ignored.true c.is_ignored.ensures.error c.is_ignored.ensures.locale c.is_ignored.ensures.nothing
+    more_ignored _ _ _ _ _ _ _ c.is_ignored.result c.if-is_ignored.true c.is_ignored.ensures.error c.is_ignored.ensures.locale c.is_ignored.ensures.denied
     c.loop-finding.invariant
 
 pub loop-finding-preserved-in-Continue-1 : goal.loop-finding-preserved-in-Continue-1
@@ -36,5 +36,5 @@ returns c =
     let found : c.loop-finding.yielded ≡ c.args.findings.items = sym (map_fixed (λ (y : Finding). y) c.loop-finding.yielded (λ k d less. refl)) ∙ all.0 in
     let items : c.append-2.new.self.items ≡ c.loop-finding.errors.items ++ (c.loop-finding.warnings.items ++ c.loop-finding.notes.items) =
     c.in_ok-append-2.ensures.items ∙ ap (λ (t : List Finding). c.loop-finding.errors.items ++ t) c.in_ok-append.ensures.items in
-    subst (λ (t : List Finding). AreReported c.args.text.now c.args.ignored.now t c.append-2.new.self.items) found
+    subst (λ (t : List Finding). AreReported c.args.text.now c.args.denied t c.append-2.new.self.items) found
     (sorted_reports _ _ _ _ _ _ _ items c.loop-finding.invariant)
