@@ -1,8 +1,12 @@
 //! The program `sedck-explain`: its arguments, its standard streams and its exit status. All else is in `sedck_explain_cli`.
 #![tactic(auto)]
 
+mod quiet;
+
+use crate::quiet::{Muted, Watched};
 use sedck_cert::streams::{FromWrite, write_all};
 use sedck_explain_cli::{Words, arguments, flushed, out_of_memory, program};
+use std::cell::Cell;
 use std::env;
 use std::env::VarError;
 use std::io::IsTerminal;
@@ -14,8 +18,9 @@ const WAITING: &[u8] =
     b"sedck-explain: reading a script from the terminal, to the end of input (Ctrl-D); --help shows what else it does\n";
 
 fn main(rt: HostRuntime) -> ExitCode {
-    let mut out = FromWrite::new(rt.stdout());
-    let mut err = FromWrite::new(rt.stderr());
+    let is_gone = Cell::new(false);
+    let mut out = FromWrite::new(Watched::new(rt.stdout(), &is_gone));
+    let mut err = FromWrite::new(Muted::new(rt.stderr(), &is_gone));
     let colour = wants_colour(&rt) && rt.stdout().is_terminal();
     let status = match arguments(&rt) {
         Ok(words) => {

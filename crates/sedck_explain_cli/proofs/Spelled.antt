@@ -2,13 +2,14 @@
 use Rattle.std.proofs.Common.{◌≡◌, ◌∙◌, ℕ, Bool, true, false, List, [], ◌∷◌, Option, Result, Ok, Err, IfOk, IfSome, inl, inr, refl, sym, subst}
 use Rattle.std.specs.Prelude.{◌⊎◌}
 use Rattle.std.specs.Io.KnownBytes.{Keeps as KeepsBytes}
+use Rattle.sedck_report.specs.declared.finding.Finding.{Finding}
 use Rattle.sedck_errors.specs.declared.denied.Denied.{Denied}
 use Rattle.sedck_engines.specs.Inputs.{IsRead}
 use Rattle.sedck_engines.specs.Opened.{Known}
 use Rattle.sedck_engines.specs.declared.answer.RunFault.{RunFault}
 use Rattle.sedck_explanation.specs.Called.{known_bytes}
 use Rattle.sedck_explanation.proofs.Answering.{on_ok}
-use Rattle.sedck_explanation.specs.Denial.{status_under}
+use Rattle.sedck_explanation.specs.Denial.{expressions_of, status_under}
 use Rattle.sedck_explanation.specs.Explanations.{Keeps, KeepsScript, IsExplanation}
 use Rattle.sedck_explanation.specs.declared.answer.Answer.{Answer}
 use Rattle.sedck_explanation.specs.declared.answer.Expressions.{Expressions}
@@ -38,14 +39,14 @@ judged_yes judged status (inr both) accepted = both.0
 -- ---- The script
 
 -- an accepted script is kept
-kept_script : (text : List ℕ) (denied : Denied) (warned : Bool) (expressions : Expressions) (e : Explanation) (answer : Answer)
-    → e.status ≡ status_under denied warned expressions answer → Keeps text answer e → e.status ≡ exit.Accepted → KeepsScript text e
-kept_script text denied warned expressions e (Accepted cert limits) is keeps accepted = keeps
-kept_script text denied warned expressions e (Rejected cert why) is keeps accepted = keeps
-kept_script text denied warned expressions e (Endless walk) is keeps accepted = keeps
-kept_script text denied warned expressions e (CertificateRefused why) is keeps accepted = keeps
-kept_script text denied warned expressions e (ScriptRefused why) is keeps accepted = let clash : exit.Refused ≡ exit.Accepted = sym is ∙ accepted in cc clash
-kept_script text denied warned expressions e NotJudged is keeps accepted = let clash : exit.Refused ≡ exit.Accepted = sym is ∙ accepted in cc clash
+kept_script : (text : List ℕ) (denied : Denied) (findings : List Finding) (expressions : Expressions) (e : Explanation) (answer : Answer)
+    → e.status ≡ status_under denied findings expressions answer → Keeps text answer e → e.status ≡ exit.Accepted → KeepsScript text e
+kept_script text denied findings expressions e (Accepted cert limits) is keeps accepted = keeps
+kept_script text denied findings expressions e (Rejected cert why) is keeps accepted = keeps
+kept_script text denied findings expressions e (Endless walk) is keeps accepted = keeps
+kept_script text denied findings expressions e (CertificateRefused why) is keeps accepted = keeps
+kept_script text denied findings expressions e (ScriptRefused why) is keeps accepted = let clash : exit.Refused ≡ exit.Accepted = sym is ∙ accepted in cc clash
+kept_script text denied findings expressions e NotJudged is keeps accepted = let clash : exit.Refused ≡ exit.Accepted = sym is ∙ accepted in cc clash
 
 -- what spells it is a copy of the text
 copied : (text : List ℕ) (e : Explanation) (out : Output) → KeepsScript text e → IfSome e.script (Writes out e.source.now) → Copies text out
@@ -57,7 +58,7 @@ copied text e out kept writes =
 pub copied_yes : (text : List ℕ) (given : Option (List ℕ)) (denied : Denied) (e : Explanation) (out : Output) → IsExplanation text given denied e
     → e.status ≡ exit.Accepted → IfSome e.script (Writes out e.source.now) → Copies text out
 copied_yes text given denied e out is accepted writes =
-    copied text e out (kept_script text denied _ _ e e.answer is.is_status is.keeps accepted) writes
+    copied text e out (kept_script text denied e.findings.items (expressions_of e.script) e e.answer is.is_status is.keeps accepted) writes
 
 -- ---- What is written
 

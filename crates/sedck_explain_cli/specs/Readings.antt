@@ -8,12 +8,14 @@ use Rattle.std.specs.declared.alloc.Global.{Global}
 abbrev pub texts_of : List (String Global) → List (List ℕ)
 texts_of words = map string_bytes words
 
--- what the next word is: an option or a path; the certificate's path; what is denied; the locale's name; the format's name; the value of
+-- what the next word is: an option or a path; the certificate's path; what is denied; what is allowed; the locale's
+-- name; the format's name; the value of
 -- an option on which the status doesn't depend; or a path, whatever it begins with
 pub data Awaited : Type 0 where
   AnyWord : Awaited
   ItsCertificate : Awaited
   ItsDenied : Awaited
+  ItsAllowed : Awaited
   ItsLocale : Awaited
   ItsFormat : Awaited
   OtherValue : Awaited
@@ -23,6 +25,7 @@ pub data Awaited : Type 0 where
 pub record Asked : Type 0 where
   pub certificate : Option (List ℕ)
   pub denied : List (List ℕ)
+  pub allowed : List (List ℕ)
   pub locale : Option (List ℕ)
   pub format : Option (List ℕ)
   pub sed : Bool
@@ -53,6 +56,7 @@ abbrev pub after_word : Asked → List ℕ → Asked
 after_word a word =
     if bytes_eq word (codes "--cert") then record a { next = ItsCertificate }
     else if bytes_eq word (codes "--deny") then record a { next = ItsDenied }
+    else if bytes_eq word (codes "--allow") then record a { next = ItsAllowed }
     else if bytes_eq word (codes "--locale") then record a { next = ItsLocale }
     else if bytes_eq word (codes "--format") then record a { next = ItsFormat }
     else if bytes_eq word (codes "--sed") then record a { sed = true }
@@ -70,8 +74,12 @@ abbrev pub or_locale : Asked → List ℕ → Option (List ℕ) → Asked
 or_locale a word None = or_format a word (behind (codes "--format=") word)
 or_locale a word (Some name) = record a { locale = Some name }
 
+abbrev pub or_allowed : Asked → List ℕ → Option (List ℕ) → Asked
+or_allowed a word None = or_locale a word (behind (codes "--locale=") word)
+or_allowed a word (Some names) = record a { allowed = a.allowed ++ names ∷ [] }
+
 abbrev pub or_denied : Asked → List ℕ → Option (List ℕ) → Asked
-or_denied a word None = or_locale a word (behind (codes "--locale=") word)
+or_denied a word None = or_allowed a word (behind (codes "--allow=") word)
 or_denied a word (Some names) = record a { denied = a.denied ++ names ∷ [] }
 
 abbrev pub or_certificate : Asked → List ℕ → Option (List ℕ) → Asked
@@ -86,6 +94,7 @@ abbrev pub after_next : Awaited → Asked → List ℕ → Asked
 after_next AnyWord a word = after_any a word
 after_next ItsCertificate a word = record a { certificate = Some word; next = AnyWord }
 after_next ItsDenied a word = record a { denied = a.denied ++ word ∷ []; next = AnyWord }
+after_next ItsAllowed a word = record a { allowed = a.allowed ++ word ∷ []; next = AnyWord }
 after_next ItsLocale a word = record a { locale = Some word; next = AnyWord }
 after_next ItsFormat a word = record a { format = Some word; next = AnyWord }
 after_next OtherValue a word = record a { next = AnyWord }
@@ -96,7 +105,7 @@ abbrev pub after : Asked → List ℕ → Asked
 after a word = after_next a.next a word
 
 abbrev pub nothing_asked : Asked
-nothing_asked = record { certificate = None; denied = []; locale = None; format = None; sed = false; calls = false; paths = []; next = AnyWord }
+nothing_asked = record { certificate = None; denied = []; allowed = []; locale = None; format = None; sed = false; calls = false; paths = []; next = AnyWord }
 
 -- all words
 abbrev pub read : List (List ℕ) → Asked

@@ -1,7 +1,11 @@
 -- The request that the words of the command line are, this project's own.
-use Rattle.std.specs.Prelude.{◌≡◌, ◌||◌, ℕ, Bool, true, false, List, [], ◌∷◌, map, Option, Some, None, option_map, codes}
+use Rattle.std.specs.Prelude.{◌≡◌, ◌&&◌, ◌||◌, not, ℕ, Bool, true, false, List, [], ◌∷◌, map, Option, Some, None, option_map, codes}
 use Rattle.std.specs.Str.{bytes_eq}
+use Rattle.sedck_report.specs.Codes.{name_of}
+use Rattle.sedck_report.specs.declared.code.Code.{Code}
+use Rattle.sedck_report.specs.declared.code.Code.TheVariants as code
 use Rattle.sedck_errors.specs.declared.denied.Denied.{Denied}
+use Rattle.sedck_errors.specs.declared.warnings.DeniedWarnings.{DeniedWarnings}
 use Rattle.sedck_explain_cli.specs.Readings.{Asked, is_among, read}
 use Rattle.sedck_explain_cli.specs.declared.format.Format.{Format}
 use Rattle.sedck_explain_cli.specs.declared.format.Format.TheVariants as format
@@ -20,12 +24,47 @@ abbrev pub has_bytes : Option (List ℕ) → Bool
 has_bytes None = false
 has_bytes (Some name) = bytes_eq name (codes "C") || bytes_eq name (codes "POSIX")
 
--- what is denied by these lists of names, which have commas between, in the locale of this name
-abbrev pub denied_by : List (List ℕ) → Option (List ℕ) → Denied
-denied_by lists locale = record {
+-- The warnings with this code are denied, by its name or with all, and aren't allowed. In whatever order: what is allowed isn't denied.
+abbrev pub is_denied_code : (denied allowed : List (List ℕ)) → Code → Bool
+is_denied_code denied allowed c = (is_among denied (codes "warnings") || is_among denied (name_of c)) && not (is_among allowed (name_of c))
+
+abbrev pub warnings_by : (denied allowed : List (List ℕ)) → DeniedWarnings
+warnings_by denied allowed = record {
+  options_in_first_line = is_denied_code denied allowed code.OptionsInFirstLine;
+  brace_behind_label = is_denied_code denied allowed code.BraceBehindLabel;
+  looks_extended = is_denied_code denied allowed code.LooksExtended;
+  one_line_text = is_denied_code denied allowed code.OneLineText;
+  silencing_comment = is_denied_code denied allowed code.SilencingComment;
+  locale = is_denied_code denied allowed code.Locale;
+  backslash_in_list = is_denied_code denied allowed code.BackslashInList;
+  class_without_list = is_denied_code denied allowed code.ClassWithoutList;
+  range_in_y = is_denied_code denied allowed code.RangeInY;
+  stream_name = is_denied_code denied allowed code.StreamName;
+  device_name = is_denied_code denied allowed code.DeviceName;
+  absolute_name = is_denied_code denied allowed code.AbsoluteName;
+  upward_name = is_denied_code denied allowed code.UpwardName;
+  unprintable_name = is_denied_code denied allowed code.UnprintableName;
+  blank_at_end = is_denied_code denied allowed code.BlankAtEnd;
+  command_in_name = is_denied_code denied allowed code.CommandInName;
+  hidden_name = is_denied_code denied allowed code.HiddenName;
+  makefile_name = is_denied_code denied allowed code.MakefileName;
+  option_name = is_denied_code denied allowed code.OptionName;
+  shell_byte_in_name = is_denied_code denied allowed code.ShellByteInName;
+  read_and_written = is_denied_code denied allowed code.ReadAndWritten;
+  same_file = is_denied_code denied allowed code.SameFile;
+  names_itself = is_denied_code denied allowed code.NamesItself;
+  writes_its_input = is_denied_code denied allowed code.WritesItsInput;
+  unknown_code = is_denied_code denied allowed code.UnknownCode;
+  in_place = is_denied_code denied allowed code.InPlace;
+  others = is_among denied (codes "warnings");
+}
+
+-- what is denied by these lists of names, which have commas between, and not allowed by those, in the locale of this name
+abbrev pub denied_by : List (List ℕ) → List (List ℕ) → Option (List ℕ) → Denied
+denied_by lists allowed locale = record {
   reads = is_among lists (codes "reads");
   writes = is_among lists (codes "writes");
-  warnings = is_among lists (codes "warnings");
+  warnings = warnings_by lists allowed;
   unbounded = is_among lists (codes "unbounded");
   growing = is_among lists (codes "growing");
   slow = is_among lists (codes "slow");
@@ -54,7 +93,7 @@ paths_of may_be_none paths = paths
 -- the request is for this: it has all that its status depends on
 pub record AsksFor (asked : Asked) (request : Request) : Type 0 where
   pub certificate : certificate_of request ≡ asked.certificate
-  pub denied : request.denied ≡ denied_by asked.denied asked.locale
+  pub denied : request.denied ≡ denied_by asked.denied asked.allowed asked.locale
   pub plain : is_plain request.format ≡ is_plain_name asked.format
   pub sed : request.sed ≡ asked.sed
   pub calls : request.calls ≡ asked.calls

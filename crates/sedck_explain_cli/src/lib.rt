@@ -10,6 +10,7 @@ mod command_line;
 mod explaining;
 mod format;
 mod plain;
+mod policy;
 mod reading;
 mod request;
 mod scanning;

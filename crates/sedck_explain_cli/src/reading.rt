@@ -15,6 +15,8 @@ pub(crate) struct Reading<'a> {
     pub(crate) certificate: Option<&'a str>,
     /// What is denied: of each use of the option the names, with commas between.
     pub(crate) denied: Vec<&'a str>,
+    /// What is allowed of it, likewise.
+    pub(crate) allowed: Vec<&'a str>,
     /// The name of the locale in which sed runs.
     pub(crate) locale: Option<&'a str>,
     /// The name of the format.
@@ -34,6 +36,8 @@ pub(crate) enum Next {
     Certificate,
     /// What is denied.
     Denied,
+    /// What is allowed.
+    Allowed,
     /// The name of the locale.
     Locale,
     /// The name of the format.
@@ -51,6 +55,7 @@ pub(crate) fn read_words<'a>(alloc: Global, words: &'a [String]) -> Result<Readi
     let mut reading = Reading {
         certificate: None,
         denied: Vec::new(alloc),
+        allowed: Vec::new(alloc),
         locale: None,
         format: None,
         sed: false,
@@ -73,6 +78,7 @@ impl<'a> Reading<'a> {
             Next::Any => return self.add_any(word),
             Next::Certificate => self.certificate = Some(word),
             Next::Denied => self.denied.push(word)?,
+            Next::Allowed => self.allowed.push(word)?,
             Next::Locale => self.locale = Some(word),
             Next::Format => self.format = Some(word),
             Next::Other => {}
@@ -90,6 +96,8 @@ impl<'a> Reading<'a> {
             self.certificate = Some(path);
         } else if let Some(names) = rest_behind("--deny=", word) {
             self.denied.push(names)?;
+        } else if let Some(names) = rest_behind("--allow=", word) {
+            self.allowed.push(names)?;
         } else if let Some(name) = rest_behind("--locale=", word) {
             self.locale = Some(name);
         } else if let Some(name) = rest_behind("--format=", word) {
@@ -107,6 +115,7 @@ impl<'a> Reading<'a> {
         match word {
             "--cert" => self.next = Next::Certificate,
             "--deny" => self.next = Next::Denied,
+            "--allow" => self.next = Next::Allowed,
             "--locale" => self.next = Next::Locale,
             "--format" => self.next = Next::Format,
             "--sed" => self.sed = true,

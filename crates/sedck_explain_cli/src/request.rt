@@ -2,14 +2,15 @@
 
 ghost use Rattle.std.specs.Prelude.{◌≡◌, map, IfOk, option_map};
 ghost use Rattle.sedck_explain_cli.specs.Readings.{texts_of};
-ghost use Rattle.sedck_explain_cli.specs.Requests.{IsRequest, denied_by, has_bytes, is_plain, is_some_plain, is_plain_name, paths_of};
+ghost use Rattle.sedck_explain_cli.specs.Requests.{IsRequest, denied_by, warnings_by, is_denied_code, has_bytes, is_plain, is_some_plain, is_plain_name, paths_of};
 
 use crate::format::{Format, NAMES, Style};
+use crate::policy::{DENIALS, WARNINGS};
 use crate::reading::{Reading, is_among, read_words};
 use crate::sets::{AUTOCONF, SETS};
 use clap::{Arg, ArgAction, ArgMatches, Command, Error};
 use sedck_calls_in_files::At;
-use sedck_explanation::{Denied, Level};
+use sedck_explanation::{Code, Denied, DeniedWarnings, Level};
 use sedck_find::Assumed;
 use sedck_formats::VERSION;
 use sedck_hosts::Kind;
@@ -77,6 +78,7 @@ pub fn request_of<'a>(alloc: Global, words: &'a [String]) -> Result<Request<'a>,
     let Reading {
         certificate,
         denied,
+        allowed,
         locale,
         format,
         sed,
@@ -89,7 +91,7 @@ pub fn request_of<'a>(alloc: Global, words: &'a [String]) -> Result<Request<'a>,
         format,
         least: level_of(&matches, format, calls),
         comments: comments_of(&matches),
-        denied: denied_of(&denied, locale),
+        denied: denied_of(&denied, &allowed, locale),
         certificate,
         stdin_name: matches.get_str("stdin-filename").unwrap_or("-"),
         sed,
@@ -210,20 +212,63 @@ fn assumed_by(word: &str) -> Assumed<'_> {
     }
 }
 
-/// What is denied, by these lists of names, in the locale of this name.
-fn denied_of(lists: &[&str], locale: Option<&str>) -> Denied
-    ensures { result ≡ denied_by (map (λ list. list.now) lists.now) (option_map (λ name. name.now) locale.entry) }
+/// What is denied by these lists of names, and not allowed by those, in the locale of this name.
+fn denied_of(lists: &[&str], allowed: &[&str], locale: Option<&str>) -> Denied
+    ensures { result ≡ denied_by (map (λ list. list.now) lists.now) (map (λ list. list.now) allowed.now) (option_map (λ name. name.now) locale.entry) }
 {
     Denied {
         reads: is_among(lists, b"reads"),
         writes: is_among(lists, b"writes"),
-        warnings: is_among(lists, b"warnings"),
+        warnings: warnings_of(lists, allowed),
         unbounded: is_among(lists, b"unbounded"),
         growing: is_among(lists, b"growing"),
         slow: is_among(lists, b"slow"),
         references: is_among(lists, b"references"),
         c_locale: is_c_locale(locale),
     }
+}
+
+/// The warnings that are denied by these lists of names, and not allowed by those.
+fn warnings_of(denied: &[&str], allowed: &[&str]) -> DeniedWarnings
+    ensures { result ≡ warnings_by (map (λ list. list.now) denied.now) (map (λ list. list.now) allowed.now) }
+{
+    DeniedWarnings {
+        options_in_first_line: is_denied_code(denied, allowed, Code::OptionsInFirstLine),
+        brace_behind_label: is_denied_code(denied, allowed, Code::BraceBehindLabel),
+        looks_extended: is_denied_code(denied, allowed, Code::LooksExtended),
+        one_line_text: is_denied_code(denied, allowed, Code::OneLineText),
+        silencing_comment: is_denied_code(denied, allowed, Code::SilencingComment),
+        locale: is_denied_code(denied, allowed, Code::Locale),
+        backslash_in_list: is_denied_code(denied, allowed, Code::BackslashInList),
+        class_without_list: is_denied_code(denied, allowed, Code::ClassWithoutList),
+        range_in_y: is_denied_code(denied, allowed, Code::RangeInY),
+        stream_name: is_denied_code(denied, allowed, Code::StreamName),
+        device_name: is_denied_code(denied, allowed, Code::DeviceName),
+        absolute_name: is_denied_code(denied, allowed, Code::AbsoluteName),
+        upward_name: is_denied_code(denied, allowed, Code::UpwardName),
+        unprintable_name: is_denied_code(denied, allowed, Code::UnprintableName),
+        blank_at_end: is_denied_code(denied, allowed, Code::BlankAtEnd),
+        command_in_name: is_denied_code(denied, allowed, Code::CommandInName),
+        hidden_name: is_denied_code(denied, allowed, Code::HiddenName),
+        makefile_name: is_denied_code(denied, allowed, Code::MakefileName),
+        option_name: is_denied_code(denied, allowed, Code::OptionName),
+        shell_byte_in_name: is_denied_code(denied, allowed, Code::ShellByteInName),
+        read_and_written: is_denied_code(denied, allowed, Code::ReadAndWritten),
+        same_file: is_denied_code(denied, allowed, Code::SameFile),
+        names_itself: is_denied_code(denied, allowed, Code::NamesItself),
+        writes_its_input: is_denied_code(denied, allowed, Code::WritesItsInput),
+        unknown_code: is_denied_code(denied, allowed, Code::UnknownCode),
+        in_place: is_denied_code(denied, allowed, Code::InPlace),
+        others: is_among(denied, b"warnings"),
+    }
+}
+
+/// Whether the warnings with this code are denied, by its name or with all, and aren't allowed.
+fn is_denied_code(denied: &[&str], allowed: &[&str], code: Code) -> bool
+    ensures { result ≡ is_denied_code (map (λ list. list.now) denied.now) (map (λ list. list.now) allowed.now) code }
+{
+    let name = code.name().as_bytes();
+    (is_among(denied, b"warnings") || is_among(denied, name)) && !is_among(allowed, name)
 }
 
 /// Whether a character is a byte in the locale of this name.
@@ -241,17 +286,6 @@ const KINDS: &[&str] = &["sh", "make", "docker", "yaml", "spec", "m4"];
 
 /// The levels, by name.
 const LEVELS: &[&str] = &["error", "warning", "note"];
-
-/// What a script may be denied, by name.
-const DENIALS: &[&str] = &[
-    "reads",
-    "writes",
-    "warnings",
-    "unbounded",
-    "growing",
-    "slow",
-    "references",
-];
 
 /// What follows an option; the first word is what the help calls it.
 #[derive(Clone, Copy)]
@@ -275,7 +309,7 @@ struct Choice {
 }
 
 /// The options, in the order of the help.
-static CHOICES: [Choice; 14] = [
+static CHOICES: [Choice; 15] = [
     Choice {
         name: "format",
         takes: Takes::OneOf("FORMAT", NAMES),
@@ -299,7 +333,12 @@ static CHOICES: [Choice; 14] = [
     Choice {
         name: "deny",
         takes: Takes::SomeOf("WHAT", DENIALS),
-        help: "What makes an accepted script end with status 1; several have commas\nbetween, or an option each [reads, writes, warnings, unbounded,\ngrowing, slow, references]",
+        help: "What makes an accepted script end with status 1; several have commas\nbetween, or an option each [reads, writes, warnings, unbounded,\ngrowing, slow, references]; or the code of a warning",
+    },
+    Choice {
+        name: "allow",
+        takes: Takes::SomeOf("CODE", WARNINGS),
+        help: "Warnings that --deny leaves alone, by their codes; they are reported\nas ever",
     },
     Choice {
         name: "locale",

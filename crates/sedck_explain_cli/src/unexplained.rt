@@ -4,7 +4,7 @@ ghost use Rattle.std.specs.Prelude.{◌≡◌};
 
 use crate::format::Format;
 use crate::session::Session;
-use sedck_calls_in_files::{Unread, ended, out_of_memory, unwritten};
+use sedck_calls_in_files::{NOT_UTF_8, Unread, ended, out_of_memory, unwritten, why_unread};
 use sedck_cert::streams::{Sink, write_all};
 use sedck_engines::{Input, Opener, RunFault};
 use sedck_explanation::{Status, Unexplained};
@@ -117,18 +117,16 @@ fn unread_part<'a, O: Opener>(files: &O, path: &'a [u8]) -> Unread<'a> {
         },
         Ok(path) => unread_file(files, path),
         Err(_) => Unread {
-            name: "?",
-            reason: Some("its name is not UTF-8"),
+            name: "a file of -f",
+            reason: Some(NOT_UTF_8),
         },
     }
 }
 
-/// Why the file at the path can't be read. An argument has NUL where it isn't UTF-8.
+/// Why the file at the path can't be read.
 fn unread_file<'a, O: Opener>(files: &O, path: &'a str) -> Unread<'a> {
-    let reason = if path.contains('\0') {
-        Some("its name is not UTF-8")
-    } else {
-        files.why_unreadable(path)
-    };
-    Unread { name: path, reason }
+    Unread {
+        name: path,
+        reason: why_unread(files, path),
+    }
 }
