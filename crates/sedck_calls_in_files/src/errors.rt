@@ -6,6 +6,7 @@ ghost use Rattle.sedck_cert.specs.Streams.{ReportsFailure};
 ghost use Rattle.sedck_calls_in_files.specs.Lines.{error_line};
 
 use sedck_cert::streams::{Failed, Sink, write_all};
+use sedck_engines::Opener;
 use sedck_explanation::{Status, Unexplained};
 use sedck_formats::shown_letter;
 use std::alloc::{AllocError, Global};
@@ -50,6 +51,18 @@ pub fn ended<E: Sink>(err: &mut E, fault: Unexplained) -> Status
     match fault {
         Unexplained::Write => unwritten(err),
         _ => out_of_memory(err),
+    }
+}
+
+/// Files are opened by names of text alone; what standard input is has no name.
+pub const NOT_UTF_8: &str = "its name is not UTF-8; give the file as standard input";
+
+/// Why the file at the path can't be read. A path has NUL where it isn't UTF-8.
+pub fn why_unread<O: Opener>(files: &O, path: &str) -> Option<&'static str> {
+    if path.contains('\0') {
+        Some(NOT_UTF_8)
+    } else {
+        files.why_unreadable(path)
     }
 }
 

@@ -21,7 +21,7 @@ mod request;
 mod tracing;
 mod walk;
 
-pub use errors::{Unread, end, ended, out_of_memory, unwritten};
+pub use errors::{NOT_UTF_8, Unread, end, ended, out_of_memory, unwritten, why_unread};
 pub use file::{explain_calls, explain_text};
 pub use finder::{AsTheShell, Finder};
 pub use judging::explain_found;

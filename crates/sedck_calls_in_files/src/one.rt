@@ -11,7 +11,7 @@ ghost use Rattle.sedck_calls_in_files.specs.Private.Contents.{IsTextOf};
 ghost use Rattle.sedck_calls_in_files.specs.Private.Spelling.{SpellsCall, SpellsIn};
 
 use crate::answers::call_report;
-use crate::errors::{Unread, end, out_of_memory, unwritten};
+use crate::errors::{Unread, end, out_of_memory, unwritten, why_unread};
 use crate::file::call_position;
 use crate::finder::Finder;
 use crate::judging::explain_found;
@@ -71,7 +71,7 @@ pub fn spell_call<R: Input + AllocGlobal, O: Opener, F: Finder, W: Sink, E: Sink
         }
         Contents::TooLong => unread(path, TOO_LONG, err),
         Contents::Other | Contents::Unreadable => {
-            unread(path, walk.files.why_unreadable(path), err)
+            unread(path, why_unread(walk.files, path), err)
         }
     }
 }

@@ -7,7 +7,7 @@ ghost use Rattle.sedck_calls_in_files.specs.Private.Contents.{ContentsStatus, So
 
 use crate::answers::{path_report, write_report};
 use crate::assumed::assumed_texts;
-use crate::errors::{Unread, ended, write_named};
+use crate::errors::{Unread, ended, why_unread, write_named};
 use crate::file::explain_text;
 use crate::finder::Finder;
 use crate::reading::{Contents, contents_of};
@@ -291,7 +291,7 @@ impl<R: Files + Input + AllocGlobal + Clone + Drop, O: Opener, F: Finder> Walk<'
     fn skip<W: Sink>(&self, path: &str, pass: &mut Pass, out: &mut W) -> Result<Status, Unexplained>
         ensures { IfOk result (λ status. status ≡ Status.Failed) }
     {
-        let reason = match self.files.why_unreadable(path) {
+        let reason = match why_unread(self.files, path) {
             Some("it is a directory") => Some("not all of its names can be read"),
             other => other,
         };
