@@ -3,7 +3,11 @@ complete -c sedck-explain -l format -x -a 'text gcc json sarif html dot sed' -d 
 complete -c sedck-explain -l level -x -a 'error warning note' -d 'The least level of findings'
 complete -c sedck-explain -l no-comments -d 'Leave out the comments of a script'
 complete -c sedck-explain -l cert -r -d 'Judge this certificate'
-complete -c sedck-explain -l deny -x -a '(__fish_append , reads writes warnings unbounded growing slow references)' -d 'What ends with status 1'
+set -l warnings options-in-first-line brace-behind-label looks-extended one-line-text silencing-comment locale backslash-in-list class-without-list range-in-y \
+    stream-name device-name absolute-name upward-name unprintable-name blank-at-end command-in-name hidden-name makefile-name option-name shell-byte-in-name \
+    read-and-written same-file names-itself writes-its-input unknown-code in-place
+complete -c sedck-explain -l deny -x -a "(__fish_append , reads writes warnings unbounded growing slow references $warnings)" -d 'What ends with status 1'
+complete -c sedck-explain -l allow -x -a "(__fish_append , $warnings)" -d 'Warnings that --deny leaves alone'
 complete -c sedck-explain -l locale -x -a 'C POSIX C.UTF-8' -d 'The locale in which sed runs'
 complete -c sedck-explain -l stdin-filename -x -d 'The name of standard input'
 complete -c sedck-explain -l sed -d 'Explain a call of sed'

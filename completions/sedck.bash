@@ -1,4 +1,4 @@
-# Completions of sedck, sedck-explain, sedck-fmt and sedck-sed for bash. tests/completions.py compares their words with what the programs say.
+# Completions of sedck, sedck-explain, sedck-fmt, sedck-known and sedck-sed for bash. tests/completions.py compares their words with what the programs say.
 
 # Completes with these words, or with files where there are none.
 _sedck_reply() {
@@ -18,11 +18,16 @@ _sedck() {
     esac
 }
 
-# The value of --deny is a list: what stands before the last comma stays.
-_sedck_denied() {
+# The codes of warnings.
+_sedck_warnings='options-in-first-line brace-behind-label looks-extended one-line-text silencing-comment locale backslash-in-list class-without-list range-in-y
+stream-name device-name absolute-name upward-name unprintable-name blank-at-end command-in-name hidden-name makefile-name option-name shell-byte-in-name
+read-and-written same-file names-itself writes-its-input unknown-code in-place'
+
+# The values of --deny and --allow are lists: what stands before the last comma stays.
+_sedck_list() {
     local word=${COMP_WORDS[COMP_CWORD]} front=''
     case $word in *,*) front=${word%,*}, ;; esac
-    mapfile -t COMPREPLY < <(compgen -P "$front" -W 'reads writes warnings unbounded growing slow references' -- "${word##*,}")
+    mapfile -t COMPREPLY < <(compgen -P "$front" -W "$*" -- "${word##*,}")
     compopt -o nospace 2> /dev/null
 }
 
@@ -34,14 +39,15 @@ _sedck_explain() {
     case ${COMP_WORDS[COMP_CWORD - 1]} in
         --format) _sedck_reply text gcc json sarif html dot sed ;;
         --level) _sedck_reply error warning note ;;
-        --deny) _sedck_denied ;;
+        --deny) _sedck_list reads writes warnings unbounded growing slow references $_sedck_warnings ;;
+        --allow) _sedck_list $_sedck_warnings ;;
         --locale) _sedck_reply C POSIX C.UTF-8 ;;
         --as) _sedck_reply sh make docker yaml spec m4 ;;
         --assume | --at | --stdin-filename) COMPREPLY=() ;;
         --assume-set) _sedck_reply autoconf ;;
         *)
             case ${COMP_WORDS[COMP_CWORD]} in
-                -*) _sedck_reply --format --level --no-comments --cert --deny --locale --stdin-filename --sed --calls --as --assume --assume-set --mend --at --help --version -- ;;
+                -*) _sedck_reply --format --level --no-comments --cert --deny --allow --locale --stdin-filename --sed --calls --as --assume --assume-set --mend --at --help --version -- ;;
                 *) _sedck_reply ;;
             esac ;;
     esac
@@ -54,6 +60,13 @@ _sedck_fmt() {
     esac
 }
 
+_sedck_known() {
+    case $COMP_CWORD${COMP_WORDS[COMP_CWORD]} in
+        1-*) _sedck_reply --write --help ;;
+        *) _sedck_reply ;;
+    esac
+}
+
 _sedck_sed() {
     [ "$COMP_CWORD" -ne 1 ] || _sedck_reply --dir --help
 }
@@ -61,4 +74,5 @@ _sedck_sed() {
 complete -F _sedck sedck
 complete -F _sedck_explain sedck-explain
 complete -F _sedck_fmt sedck-fmt
+complete -F _sedck_known sedck-known
 complete -F _sedck_sed sedck-sed

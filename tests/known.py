@@ -1,0 +1,173 @@
+#!/usr/bin/env python3
+"""Tries wrapper/sedck-known with a given program: python3 tests/known.py build/sedck-explain
+
+Scripts that are accepted, that have a loop and that are refused, with and without entries for them; entries that fit no more; what is printed,
+written and left as it is; statuses. The entries that are due are worked out here. The status is 0 only where all is as it is due.
+"""
+import hashlib
+import os
+import shutil
+import stat
+import subprocess
+import sys
+import tempfile
+from pathlib import Path
+
+TOP = Path(__file__).resolve().parent.parent
+KNOWN = TOP / "wrapper" / "sedck-known"
+HEAD = b"# checksum, code, line:column and path of what sedck-known lets pass\n"
+# A script, and its errors: code and place.
+SCRIPTS = {
+    "plain.sed": (b"p\n", []),
+    "loop.sed": (b"p\n :a\ns/x/y/\nba\n", [b"loop-idle 2:2"]),
+    "a name: 1:1.sed": (b":a\ns/x/xx/\nta\n", [b"loop-growing 2:1"]),
+    "-n.sed": (b"s/a\n", [b"unterminated 1:1"]),
+    'q"{"level":"error","code":"q.sed': (b"# \"position\":{\"offset\":9,\"line\":9,\"column\":9\n:a\nba\n", [b"loop-idle 2:1"]),
+}
+wrong = []
+
+
+def expect(holds, what):
+    if not holds:
+        wrong.append(what)
+        print("known: " + what)
+
+
+def entries(*names):
+    """The entries for the errors of these scripts."""
+    return b"".join(b"%s %s %s\n" % (hashlib.sha256(text).hexdigest().encode(), error, name.encode()) for name in names for text, errors in [SCRIPTS[name]] for error in errors)
+
+
+def lines(kind, *names):
+    """What is printed for each of these errors."""
+    return b"".join(b"%s: %s:%s: %s\n" % (kind, name.encode(), error.split()[1], error.split()[0]) for name in names for error in SCRIPTS[name][1])
+
+
+class Place:
+    """A folder with the scripts."""
+    def __init__(self, folder, explain):
+        self.folder, self.explain = Path(folder), explain
+        for name, (text, _) in SCRIPTS.items():
+            self.write(name, text)
+
+    def write(self, name, text, mode=0o644):
+        path = self.folder / name
+        path.write_bytes(text)
+        path.chmod(mode)
+        return path
+
+    def run(self, *words, program=KNOWN, **environment):
+        """The status, and what is printed."""
+        done = subprocess.run([program, *words], cwd=self.folder, env={**os.environ, "SEDCK_EXPLAIN": self.explain, **environment},
+                              stdin=subprocess.DEVNULL, stdout=subprocess.PIPE, stderr=subprocess.PIPE, timeout=60)
+        return done.returncode, done.stdout, done.stderr
+
+
+def check_words(place):
+    place.write("none", b"")
+    for words in ([], ["none"], ["none", "--"], ["--write"], ["--write", "none"], ["-n.sed", "plain.sed"], ["none", "-n.sed"], ["--check", "none", "plain.sed"], ["", "plain.sed"],
+                  ["--help", "none"]):
+        status, out, said = place.run(*words)
+        expect((status, out, said.startswith(b"sedck-known: usage: ")) == (3, b"", True), "%s: %d, %r, %r" % (words, status, out, said))
+    status, out, said = place.run("--help")
+    expect((status, out.startswith(b"usage: "), said) == (0, True, b""), "--help: %d, %r, %r" % (status, out, said))
+    for text in (b"loop-idle 2:2 loop.sed\n", entries("loop.sed").upper(), b"# head\n\n" + entries("loop.sed") + b"x" + entries("loop.sed")[1:], b"a" * 64 + b" loop-idle 2 f\n",
+                 b"a" * 64 + b" loop-idle 2:2\n"):
+        place.write("bad", text)
+        status, out, said = place.run("bad", "plain.sed")
+        line = b"bad:4: no entry" if text.startswith(b"#") else b"bad:1: no entry"
+        expect((status, out, line in said) == (3, b"", True), "%r: %d, %r, %r" % (text, status, out, said))
+
+
+def check_passes(place):
+    """What passes is accepted or has an entry for each error; the path, the code, the place and each byte count."""
+    place.write("none", b"# no entry\n\n")
+    expect(place.run("none", "plain.sed") == (0, b"1 accepted, 0 known, 0 with other errors\n", b""), "an accepted script: %s" % (place.run("none", "plain.sed"),))
+    names = list(SCRIPTS)
+    place.write("all", b"# why\n\n" + entries(*names))
+    for due in (names, names[::-1]):
+        found = place.run("all", "--", *due)
+        expect(found == (0, lines(b"known", *due) + b"1 accepted, 4 known, 0 with other errors\n", b""), "all are known: %s" % (found,))
+    for name, status in (("loop.sed", 1), ("a name: 1:1.sed", 1), ("-n.sed", 2)):
+        found = place.run("none", "--", name)
+        expect(found[0] == status and b"%s:%s: error: " % (name.encode(), SCRIPTS[name][1][0].split()[1]) in found[1], "%s without an entry: %s" % (name, found))
+        whole = entries(name)
+        for old, new in ((whole[:1], b"0" if whole[:1] != b"0" else b"1"), (b" loop", b" leap"), (b" unter", b" inter"), (b":", b":1"), (name.encode(), b"./" + name.encode())):
+            if old not in whole:
+                continue
+            place.write("other", whole.replace(old, new, 1))
+            found = place.run("other", "--", name)
+            expect(found[0] == status and b"\nstale: " in found[1] and b"known: " not in found[1], "%s with %r for %r: %s" % (name, new, old, found))
+    place.write("loop.sed", SCRIPTS["loop.sed"][0] + b"#\n")
+    found = place.run("all", "--", *names)
+    expect((found[0], lines(b"stale", "loop.sed") in found[1]) == (1, True), "a script that has changed: %s" % (found,))
+    place.write("loop.sed", SCRIPTS["loop.sed"][0])
+
+
+def check_stale(place):
+    """Entries that fit nothing fail, whatever else is there; where a script can't be read, nothing is said of them."""
+    place.write("loops", entries("loop.sed", "-n.sed"))
+    found = place.run("loops", "plain.sed", "loop.sed")
+    expect(found == (1, lines(b"known", "loop.sed") + lines(b"stale", "-n.sed") + b"1 accepted, 1 known, 0 with other errors\n", b""), "a stale entry: %s" % (found,))
+    for names in (["missing.sed"], ["."], ["a\nb"]):
+        found = place.run("loops", *names, "loop.sed")
+        expect((found[0], b"stale" in found[1], found[2].startswith(b"sedck-known: ")) == (4, False, True), "%s: %s" % (names, found))
+    found = place.run("missing", "loop.sed")
+    expect(found == (4, b"", b"sedck-known: missing: it can't be read\n"), "a file of entries that isn't there: %s" % (found,))
+    found = place.run("loops", "loop.sed", SEDCK_EXPLAIN="/nowhere")
+    expect((found[0], b"known: " in found[1]) == (4, False), "without the program: %s" % (found,))
+
+
+def check_written(place):
+    """--write writes the entries that are due, and nothing where a script can't be read."""
+    names = list(SCRIPTS)
+    found = place.run("--write", "new", "--", *names)
+    expect(found == (0, lines(b"known", *names) + b"1 accepted, 4 known, 0 with other errors\n", b""), "--write: %s" % (found,))
+    expect((place.folder / "new").read_bytes() == HEAD + entries(*names), "--write writes %r" % (place.folder / "new").read_bytes())
+    expect(place.run("new", "--", *names)[0] == 0, "what --write has written doesn't pass")
+    place.write("old", b"# mine\n" + entries("-n.sed"), 0o640)
+    place.run("--write", "old", "loop.sed")
+    expect((place.folder / "old").read_bytes() == HEAD + entries("loop.sed"), "--write leaves %r" % (place.folder / "old").read_bytes())
+    expect(stat.S_IMODE((place.folder / "old").stat().st_mode) == 0o640, "--write changes the mode")
+    place.run("--write", "old", "plain.sed")
+    expect((place.folder / "old").read_bytes() == HEAD, "--write without errors: %r" % (place.folder / "old").read_bytes())
+    found = place.run("--write", "new", "plain.sed", "missing.sed")
+    expect((found[0], (place.folder / "new").read_bytes()) == (4, HEAD + entries(*names)), "--write where a script is missing: %s" % (found,))
+    (place.folder / "link").symlink_to("old")
+    expect(place.run("--write", "link", "loop.sed")[0] == 4 and (place.folder / "link").is_symlink(), "a link is replaced")
+    expect(place.run("--write", "nowhere/new", "loop.sed")[0] == 4, "a file in no folder is written")
+    expect(not list(place.folder.glob(".sedck-known*")), "files are left: %s" % os.listdir(place.folder))
+
+
+def check_programs(place):
+    """Beside it the program is found; each sh and awk that there is gives the same."""
+    beside = place.folder / "beside"
+    beside.mkdir()
+    shutil.copy(KNOWN, beside / "sedck-known")
+    shutil.copy(place.explain, beside / "sedck-explain")
+    names = list(SCRIPTS)
+    place.write("all", entries(*names))
+    due = (0, lines(b"known", *names) + b"1 accepted, 4 known, 0 with other errors\n", b"")
+    found = place.run("all", "--", *names, program=beside / "sedck-known", SEDCK_EXPLAIN="")
+    expect(found == due, "the program beside it: %s" % (found,))
+    for shell in (["dash"], ["bash", "--posix"], ["busybox", "sh"]):
+        for awk in ("gawk", "mawk", "busybox"):
+            if shutil.which(shell[0]) and shutil.which(awk):
+                call = '#!/bin/sh\nexec %s%s "$@"\n' % (shutil.which(awk), " awk" if awk == "busybox" else "")
+                place.write("beside/awk", call.encode(), 0o755)
+                found = place.run(*shell[1:], beside / "sedck-known", "all", "--", *names, program=shell[0], PATH="%s:%s" % (beside, os.environ["PATH"]))
+                expect(found == due, "%s with %s: %s" % (shell, awk, found))
+
+
+def main():
+    explain = os.path.abspath(sys.argv[1])
+    for check in (check_words, check_passes, check_stale, check_written, check_programs):
+        with tempfile.TemporaryDirectory(prefix="sedck-known-") as folder:
+            check(Place(folder, explain))
+    if not wrong:
+        print("known: as it is due")
+    return 1 if wrong else 0
+
+
+if __name__ == "__main__":
+    sys.exit(main())
