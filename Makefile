@@ -98,7 +98,7 @@ calls-tests: build
 	python3 tests/run.py $@
 
 wrapper-tests: build
-	@echo "Testing the sed that has its calls judged, and the formatter ..."
+	@echo "Testing the sed that has its calls judged, the formatter, and known errors ..."
 	python3 tests/run.py $@
 
 # Tests the page that is there: without it, or without a tool, a line says what is skipped.

@@ -69,7 +69,7 @@ def check_lists(whole):
     listed = json.loads(files["sbom.spdx.json"])
     due = {"./" + name: (hashlib.sha1(text).hexdigest(), hashlib.sha256(text).hexdigest()) for name, text in files.items()
            if name not in ("SHA256SUMS", "sbom.spdx.json")}
-    seen = {one["fileName"]: tuple(sum["checksumValue"] for sum in one["checksums"]) for one in listed["files"]}
+    seen = {one["fileName"]: tuple(row["checksumValue"] for row in one["checksums"]) for one in listed["files"]}
     expect(seen == due, "the list of materials has other files or sums: %s" % sorted(set(seen.items()) ^ set(due.items()))[:3])
     code = hashlib.sha1("".join(sorted(sums[0] for sums in due.values())).encode()).hexdigest()
     own = [one["packageVerificationCode"]["packageVerificationCodeValue"] for one in listed["packages"] if one["filesAnalyzed"]]
@@ -101,7 +101,7 @@ def check_installing(whole, folder):
     due = {str(path.relative_to(whole)) for part in ("bin", "include", "lib", "libexec", "share") for path in (whole / part).rglob("*") if path.is_file()}
     expect(seen == due and len(due) > 40, "install.sh installs other files: %s" % sorted(seen ^ due))
     modes = {path.name for path in to.rglob("*") if path.is_file() and path.stat().st_mode & 0o777 == 0o755}
-    expect(modes == {"sedck", "sedck-explain", "sedck-fmt", "sedck-sed", "sedck-lsp", "sed"}, "the programs are %s" % modes)
+    expect(modes == {"sedck", "sedck-explain", "sedck-fmt", "sedck-known", "sedck-sed", "sedck-lsp", "sed"}, "the programs are %s" % modes)
     expect((to / "opt/own sedck/lib/pkgconfig/sedck.pc").read_text().startswith("prefix=/opt/own sedck\n"), "sedck.pc has another prefix")
 
 
@@ -137,7 +137,7 @@ def check_pages(place):
         expect(status == 0 and "say where and why a sed script" in " ".join(said.split()), "man shows %s" % said[:200])
     else:
         print("archive: no manual page is shown, since this machine lacks man")
-    for name in ("sedck", "sedck-explain", "sedck-fmt", "sedck-sed"):
+    for name in ("sedck", "sedck-explain", "sedck-fmt", "sedck-known", "sedck-sed"):
         for path in ("bash-completion/completions/" + name, "fish/vendor_completions.d/%s.fish" % name):
             expect((place / "share" / path).is_file(), "share/%s isn't there" % path)
 

@@ -13,7 +13,7 @@ FLAGS = ["--headless", "--no-sandbox", "--disable-gpu", "--disable-dev-shm-usage
 SECONDS = 120
 
 
-def found():
+def found() -> str | None:
     """The browser's path, if there is one."""
     return next((path for path in map(shutil.which, NAMES) if path), None)
 

@@ -139,8 +139,13 @@ ROWS = [
     # A delimiter in a list.
     ("a.sh", ["--mend"], "sed 's/[^/]*$//' f\nsed '/[/]/d;s/[a/]b/c/' f\nsed -n '\\,[,],p' f\nsed \"s/[$x/]/$y/\" f\nsed 's/a/b/' f\n", 5,
      [("1:1", IF, ["s/[^/]*$//", "f"]), ("2:1", IF, None), ("3:1", IF, None), ("4:1", IF, None), ("5:1", A, ["s/a/b/", "f"])]),
-    ("a.sh", ["--mend"], "sed 's/[[:alpha:]/]//' f\nsed 's/[a\\\\/]//' f\nsed 's/[/]\\/x//' f\nsed 's/[]/]//' f\nsed 's/[^]/]//' f\nsed 's,|:@%#;~!=/[,],,' f\nsed 's/[/]' f\nsed 's_[_]__' f\n", 2,
+    ("a.sh", ["--mend"], "sed 's/[[:alpha:]/]//' f\nsed 's/[a\\\\/]//' f\nsed 's|[|]\\|x||' f\nsed 's/[]/]//' f\nsed 's/[^]/]//' f\nsed 's,|:@%#;~!=/[,],,' f\nsed 's/[/]' f\nsed 's_[_]__' f\n", 2,
      [("%d:1" % line, REFUSED, None) for line in range(1, 9)]),
+    # An escaped delimiter beside it, as `configure` scripts have it where they need the folder of a file.
+    ("a.sh", ["--mend"], "sed '/^X\\(.*[^/]\\)\\/\\/*[^/][^/]*\\/*$/{\n\t    s//\\1/\n\t    q\n\t  }\n\t  /^X\\(\\/\\/\\)[^/].*/{\n\t    s//\\1/\n\t    q\n\t  }\n\t  /^X\\(\\/\\).*/{\n"
+     "\t    s//\\1/\n\t    q\n\t  }\n\t  s/.*/./; q' f\nsed 's/[/]\\/x/\\//' f\nsed 's,\\,[,]x\\\\\\,,\\,,w g' f\n", 5, [("1:1", IF, None), ("14:1", IF, None), ("15:1", IF, None)]),
+    ("a.sh", ["--mend"], "sed 's,[,]\\{1\\,2\\},x,' f\nsed 's/[a\\\\/]\\/x//' f\n", 2, [("1:1", REFUSED, None), ("2:1", REFUSED, None)]),
+    ("a.sh", ["--mend"], "sed ':a;s/[/]\\/*/\\/x/;ta' f\n", 1, [("1:1", LOOP, None)]),
     ("a.sh", ["--mend"], "sed ':a;s/[/]*/x/;ta' f\n", 1, [("1:1", LOOP, None)]),
     ("a.sh", ["--mend"], "sed 's,[,]\\{1,2\\},x,' f\n", 2, [("1:1", REFUSED, None)]),
     ("a.sh", ["--mend", "--assume", "s=s/[/]/x/"], 's=s/[/]/x/\nsed "$s" f\n', 2, [("2:1", REFUSED, None)]),
@@ -421,8 +426,8 @@ def assumptions():
 
 def mends():
     """The command with another delimiter is said where the file has the command without quoting."""
-    for text, due in (("sed 's/[^/]*$//' f\n", ",[^/]*$,,"), ("sed -n '/[/]/p' f\n", "\\\\,[/],"), ("sed 's/[/]/,|/' f\n", ":[/]:,|:"), ("sed \"s/[/]/$x/\" f\n", ",[/],$x,"),
-                      ("sed \"s/[/]/\\$x/\" f\n", None)):
+    for text, due in (("sed 's/[^/]*$//' f\n", ",[^/]*$,,"), ("sed -n '/[/]/p' f\n", "\\\\,[/],"), ("sed 's/[/]/,|/' f\n", ":[/]:,|:"), ("sed \"s/[/]/$x/\" f\n", ",[/],$x,"), ("sed 's/\\/[/]/\\/,\\|/' f\n", ":/[/]:/,\\\\|:"),
+                      ("sed \"s/[/]/\\$x/\" f\n", None), ("sed \"s/[/]/${x#/}/\" f\n", None), ("sed \"s/[/]\\/${x}/y/\" f\n", ",[/]/${x},y,")):
         status, calls, _ = explained(text, "a.sh", "--mend")
         said = [finding["message"] for finding in calls[0]["findings"] if "has its delimiter in a list" in finding["message"]]
         if status != 5 or len(said) != 1 or said[0].partition("; for all seds write ")[2] != ('"%s"' % due if due else ""):
@@ -465,6 +470,9 @@ def folders():
         status, out, err = run(folder, "--format", "gcc", "--calls", "b")
         if status != 4 or b"not all of its names can be read" not in err:
             fail("a name that isn't UTF-8: %d %r" % (status, err))
+        status, out, err = run(folder, "--format", "gcc", "--calls", b"b/\xff.sh")
+        if (status, err) != (4, b"sedck-explain: cannot read b/?.sh: its name is not UTF-8; give the file as standard input\n"):
+            fail("a file whose name isn't UTF-8: %d %r" % (status, err))
         done = subprocess.run([PROGRAM, "--format", "json", "--calls", "-"], input=b"sed p\n", capture_output=True)
         if done.returncode != 0 or json.loads(done.stdout.splitlines()[0])["words"] != ["p"]:
             fail("standard input: %d %r" % (done.returncode, done.stdout))
@@ -571,8 +579,8 @@ def scripts_of_machine():
 
 
 def judged_by_the_shell():
-    """The words of each literal call, as the shell gives them; and how many literal calls are found."""
-    files = compared = found = others = 0
+    """The words of each literal call, as the shell gives them; and no literal call is missing."""
+    files = compared = others = 0
     names = []
     with tempfile.TemporaryDirectory() as scratch:
         fake = Path(scratch, "sed")
@@ -594,7 +602,6 @@ def judged_by_the_shell():
                     if is_command(text, literal.start()) is not False:
                         names.append("%s at %d: %r" % (path, literal.start(), literal[0][:60]))
                     continue
-                found += 1
                 words = [bytes_of(word) for word in calls[literal.start()]["words"]]
                 due = asked(literal[0], scratch)
                 # Between backquotes the shell takes off some backslashes before it reads the command.

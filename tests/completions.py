@@ -35,8 +35,13 @@ def words_of_programs(sedck, explain):
     rows = re.findall(r"^ {2,6}(?:-\w, )?(--[\w-]+)(?: <[^>]*>)?\n((?: {10}.*\n)+)", text, re.M)
     listed = {option: re.search(r"\[([^\]:]*)\]", " ".join(said_of.split())) for option, said_of in rows}
     values = {option: set(re.findall(r"\w+", found[1])) for option, found in listed.items() if found}
+    # The help has no room for the codes of warnings: they are in the answer to a word that is none.
+    codes = set(re.findall(r"[a-z-]+", re.search(r"\[possible values: ([^\]]*)\]", said([explain, "--allow", "none"]))[1]))
+    values["--deny"] |= codes
+    values["--allow"] = codes
     words = {"sedck": set(re.findall(r"\b([a-z]+)(?= (?:SCRIPT|CERT))", usage)), "sedck-explain": {option for option, _ in rows},
              "sedck-fmt": set(re.findall(r"--[a-z]+", said([TOP / "wrapper" / "sedck-fmt", "--help"]).splitlines()[0])),
+             "sedck-known": set(re.findall(r"--[a-z]+", said([TOP / "wrapper" / "sedck-known", "--help"]).splitlines()[0])),
              "sedck-sed": set(re.findall(r"--[a-z]+", said([TOP / "wrapper" / "sedck-sed", "--help"]).splitlines()[0]))}
     return words, values
 
@@ -54,10 +59,13 @@ def check_bash(words, values):
     expect(from_bash("sedck "), words["sedck"], "bash: sedck")
     expect(from_bash("sedck-explain -"), words["sedck-explain"] | {"--"}, "bash: sedck-explain")
     expect(from_bash("sedck-fmt "), words["sedck-fmt"], "bash: sedck-fmt")
+    expect(from_bash("sedck-known -"), words["sedck-known"], "bash: sedck-known")
+    expect(from_bash("sedck-known sedck.b"), {"sedck.bash"}, "bash: a file of sedck-known")
     expect(from_bash("sedck-sed "), words["sedck-sed"], "bash: sedck-sed")
     for option, due in values.items():
         expect(from_bash("sedck-explain %s " % option), due, "bash: the values of " + option)
-    expect(from_bash("sedck-explain --deny reads,w"), {"reads,writes", "reads,warnings"}, "bash: a second value of --deny")
+    expect(from_bash("sedck-explain --deny reads,w"), {"reads,writes", "reads,warnings", "reads,writes-its-input"}, "bash: a second value of --deny")
+    expect(from_bash("sedck-explain --allow locale,in"), {"locale,in-place"}, "bash: a second value of --allow")
     expect(from_bash("sedck check sedck.b"), {"sedck.bash"}, "bash: a file of sedck check")
     expect(from_bash("sedck-explain -- sedck.b"), {"sedck.bash"}, "bash: a file behind --")
     expect(from_bash("sedck-explain sedck.b"), {"sedck.bash"}, "bash: a script")
@@ -67,14 +75,15 @@ def check_bash(words, values):
 def check_zsh(words, values):
     """The words of the file for zsh, which must be one that zsh can read."""
     text = (FOLDER / "_sedck").read_text()
+    text = text.replace("${=warnings}", re.search(r"^local warnings='([^']*)'$", text, re.M)[1])
     parts = dict(re.findall(r"^    (sedck[\w-]*)\)\n(.*?);;$", text, re.M | re.S))
     expect(set(parts), set(words), "zsh: the programs")
     expect(set(re.match(r"#compdef (.*)", text)[1].split()), set(words), "zsh: the programs of the first line")
     expect(set(re.findall(r"[( ]([a-z]+)\\:", parts["sedck"])), words["sedck"], "zsh: sedck")
-    for name in ("sedck-explain", "sedck-fmt", "sedck-sed"):
+    for name in ("sedck-explain", "sedck-fmt", "sedck-known", "sedck-sed"):
         expect(set(re.findall(r"(--[\w-]+)[\[}]", parts[name])), words[name], "zsh: " + name)
     for option, due in values.items():
-        listed = re.search(re.escape("'" + option + "[") + r"[^\]]*\]:\w+:(?:\(([^)]*)\)|_values -s , what ([^']*))", parts["sedck-explain"])
+        listed = re.search("['\"]" + re.escape(option + "[") + r"[^\]]*\]:\w+:(?:\(([^)]*)\)|_values -s , \w+ ([^'\"]*))", parts["sedck-explain"])
         expect(set((listed[1] or listed[2]).split()), due, "zsh: the values of " + option)
     if shutil.which("zsh"):
         expect(said(["zsh", "-n", str(FOLDER / "_sedck")]), "", "zsh: the file")
@@ -91,7 +100,7 @@ def check_fish(words, values):
             return {row.split("\t")[0] for row in done.stdout.splitlines()}
 
         expect(asked("sedck "), words["sedck"], "fish: sedck")
-        for name in ("sedck-explain", "sedck-fmt", "sedck-sed"):
+        for name in ("sedck-explain", "sedck-fmt", "sedck-known", "sedck-sed"):
             expect({word for word in asked(name + " --") if word.startswith("--")}, words[name], "fish: " + name)
         for option, due in values.items():
             expect(asked("sedck-explain %s " % option), due, "fish: the values of " + option)
@@ -101,7 +110,7 @@ def check_fish(words, values):
 
 def main():
     words, values = words_of_programs(*map(os.path.abspath, sys.argv[1:3]))
-    if not all(words.values()) or set(values) != {"--format", "--level", "--deny", "--as", "--assume-set"}:
+    if not all(words.values()) or set(values) != {"--format", "--level", "--deny", "--allow", "--as", "--assume-set"}:
         print("completions: the programs say no words that can be read: %s %s" % (words, values))
         return 1
     if shutil.which("bash"):

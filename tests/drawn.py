@@ -4,6 +4,7 @@ import random
 import re
 import subprocess
 import tempfile
+from collections.abc import Callable, Iterable, Iterator
 from concurrent.futures import ThreadPoolExecutor
 
 INPUTS = 100
@@ -36,7 +37,7 @@ def characters(script):
     return found * 4 + [character + character[-1] for character in found] + [byte for character in found for byte in character]
 
 
-def inputs(name, script, locale="C"):
+def inputs(name: str, script: str, locale: str = "C") -> list[str]:
     """Inputs for a script, the same in each run of the tests."""
     chooser, pieces = random.Random(name + script), parts(script)
     if locale != "C":
@@ -60,7 +61,8 @@ done
 """ % MOST_ENDLESS
 
 
-def differing(name, first, second, excluded=None, locale="C"):
+def differing(name: str, first: str, second: str, excluded: Callable[[str], bool] | None = None,
+              locale: str = "C") -> tuple[tuple[str, str, str] | None, int | None]:
     """An input of which two scripts make different outputs, with these, or None; and how many inputs were compared, or None where the
     first script is refused or runs for ever. The excluded inputs are left out, and those for which it doesn't end within two seconds."""
     with tempfile.TemporaryDirectory(prefix="sedck-drawn-") as folder:
@@ -85,7 +87,7 @@ def differing(name, first, second, excluded=None, locale="C"):
         return None, None if was_stopped else len(places)
 
 
-def compare(pairs):
+def compare(pairs: Iterable[tuple]) -> Iterator[str]:
     """What is wrong with pairs of scripts: a name, both, which inputs are excluded, or None, and perhaps a locale."""
     with ThreadPoolExecutor(os.cpu_count() or 1) as pool:
         found = list(pool.map(lambda pair: differing(*pair), pairs))

@@ -1,6 +1,9 @@
 """What `--deny` makes of scripts, the warnings that it counts, and texts that are no scripts of sed."""
 import itertools
 import json
+import re
+
+from explain_tools import Tools
 
 DENIALS = ("reads", "writes", "warnings", "unbounded", "growing", "slow", "references")
 EXTENDED, OPTIONS, BRACE = "looks-extended", "options-in-first-line", "brace-behind-label"
@@ -149,6 +152,63 @@ def check_denials(tools):
             tools.same("%r, %s" % (script, subset), tools.explain("--format", "json", "--deny", ",".join(subset), "d.sed"), plain)
 
 
+# A script, and its warnings: line, column and code, worked out by hand.
+WARNED = [
+    (b"s/\xc3\xa9*/x/\ni text\n", [(1, 3, "locale"), (2, 1, "one-line-text")]),
+    (b"i text\nr /etc/motd\nw ../o\n", [(1, 1, "one-line-text"), (2, 1, "absolute-name"), (3, 1, "upward-name")]),
+    (b"s/[0-9]+/x/\ns/[\\t]//\n", [(1, 8, "looks-extended"), (2, 4, "backslash-in-list")]),
+    (b"y/a-z/A-Z/\n", [(1, 1, "range-in-y")]),
+    (b"p\n", []),
+]
+
+
+def check_codes(tools):
+    """Each warning that is denied by its code, alone and after it was allowed, with and without all others: in whatever order."""
+    codes = sorted({code for _, warned in WARNED for _, _, code in warned})
+    sets = ([], ["locale"], ["one-line-text", "absolute-name"], codes)
+    for script, warned in WARNED:
+        tools.write("d.sed", script)
+        for number, denied in enumerate(([], ["warnings"], *([code] for code in codes), codes[:2], codes[2:])):
+            for allowed in sets:
+                words = [[word for code in denied for word in ("--deny", code)], ["--allow=" + ",".join(allowed)] if allowed else []]
+                words = sum(words if number % 2 else words[::-1], [])
+                status, report, _ = tools.explain("--format", "json", *words, "d.sed")
+                findings = [(finding["level"], finding["position"]["line"], finding["position"]["column"], finding["code"]) for finding in json.loads(report)["findings"]]
+                due = [("error", *place, "denied-warnings") for *place, code in warned if ("warnings" in denied or code in denied) and code not in allowed]
+                due += [("warning", *row) for row in warned]
+                tools.same("%r, %s" % (script, words), (status, sorted(row for row in findings if row[0] != "note")), (1 if "denied-warnings" in sum(due, ()) else 0, sorted(due)))
+
+
+def check_comments(tools):
+    """A comment silences what isn't denied, and nothing else: what the caller allows is the script's to ignore."""
+    tools.write("d.sed", b"# sedck: ignore one-line-text absolute-name\ni text\nw /x\n")
+    for words, status, shown in (([], 0, []), (["--deny", "one-line-text"], 1, ["one-line-text"]), (["--deny", "locale"], 0, []),
+                                 (["--deny", "warnings"], 1, ["one-line-text", "absolute-name"]),
+                                 (["--deny", "warnings", "--allow", "one-line-text"], 1, ["absolute-name"]),
+                                 (["--deny", "warnings", "--allow", "one-line-text,absolute-name"], 0, []), (["--allow", "one-line-text"], 0, [])):
+        made, report, _ = tools.explain("--format", "json", *words, "d.sed")
+        found = [finding["code"] for finding in json.loads(report)["findings"] if finding["level"] == "warning"]
+        tools.same("comments under %s" % words, (made, sorted(found)), (status, sorted(shown)))
+
+
+def check_words(tools):
+    """Codes that can be denied are those that can be allowed; each that is unknown is refused with a list of them."""
+    tools.write("d.sed", b"p\n")
+    said = [tools.explain(option, "none", "d.sed") for option in ("--deny", "--allow")]
+    listed = [re.search(rb"\[possible values: ([^\]]*)\]", errors_said)[1].decode().split(", ") for _, _, errors_said in said]
+    tools.same("statuses of unknown codes", [(status, report) for status, report, _ in said], [(3, b"")] * 2)
+    tools.same("codes that are listed", listed[0], [*DENIALS, *listed[1]])
+    for code in listed[1]:
+        tools.same(code, tools.explain("--format", "gcc", "--deny", code, "--allow", code, "d.sed"), (0, b"", b""))
+    for words in (["--allow", "warnings"], ["--allow", "reads"], ["--allow", "loop-idle"], ["--deny", "no-bound"], ["--deny", "known-value"], ["--allow", "locale,"],
+                  ["--allow", ""], ["--allow"], ["--deny", "Locale"]):
+        status, report, errors_said = tools.explain(*words, "d.sed")
+        tools.same("refused %r" % words, (status, report, errors_said.startswith(b"sedck-explain: ")), (3, b"", True))
+    # Of a call the warning of what is overwritten is one of them.
+    for words, status in ((["--deny", "in-place"], 1), (["--deny", "warnings"], 1), (["--deny", "warnings", "--allow", "in-place"], 0), (["--deny", "locale"], 0)):
+        tools.same("a call under %s" % words, tools.explain("--format", "gcc", *words, "--sed", "--", "-i", "p", "f")[0], status)
+
+
 def check_slow(tools):
     """What `--deny slow` makes of slow scripts."""
     for script, slow in SLOW:
@@ -223,9 +283,12 @@ def check_no_scripts(tools):
         tools.holds("hint of %r" % text, "docs/RECIPES.md" in finding["hint"])
 
 
-def check(tools):
+def check(tools: Tools) -> None:
     """Compares statuses, findings and texts."""
     check_denials(tools)
+    check_codes(tools)
+    check_comments(tools)
+    check_words(tools)
     check_slow(tools)
     check_references(tools)
     check_bytes(tools)

@@ -1,6 +1,8 @@
 """Where findings end, in which order they are, and comments in a script that ignore warnings and notes."""
 import json
 
+from explain_tools import Tools
+
 # A script, and what each of its findings is about: the code, and the bytes from the position to the end.
 RANGES = [
     (b"k\n", [("unknown-command", b"k")]),
@@ -68,7 +70,8 @@ RANGES = [
     (b"# sedck: one-line-text\np\n", [("unknown-code", b"one-line-text")]),
     (b"#sedck:ignore\np\n", [("unknown-code", b"ignore")]),
     (b"p # sedck: ignore one-line-text\n", [("unknown-code", b"ignore")]),
-    (b"# sedck:\np\n", [("unknown-code", b"")]),
+    (b"# sedck:\np\n", [("unknown-code", b"# sedck:")]),
+    (b"p #sedck: \t\n", [("unknown-code", b"#sedck: \t")]),
     (b"# sedckx: allow a\n# see sedck: allow b\np\n", []),
     (b"p\n $!a hello \np\n", [("one-line-text", b"a hello")]),
     (b"s/a/b/\n#now\n", [("silencing-comment", b"#n")]),
@@ -226,7 +229,7 @@ def check_numbers(tools):
         tools.same("bytes of %r" % script, finding["steps"][0]["message"].split(": ")[-1], due)
 
 
-def check(tools):
+def check(tools: Tools) -> None:
     """Compares ranges, orders, and what is left of findings."""
     check_numbers(tools)
     check_ranges(tools)

@@ -4,6 +4,7 @@ import os
 import subprocess
 import tempfile
 
+from explain_tools import Tools
 from pages import is_gnu
 
 CODE = "names-itself"
@@ -89,7 +90,7 @@ def check_runs(tools):
                 tools.same("%s: sed runs on by it, and ends by a copy" % write, [runs_on(folder, path, script) for path in ("self.sed", "copy.sed")], [True, False])
 
 
-def check(tools):
+def check(tools: Tools) -> None:
     """Compares which scripts are warned of, and what a sed makes of some."""
     check_rows(tools)
     check_folders(tools)

@@ -268,7 +268,7 @@ def check_paths(tools):
             tools.holds("path of a call, %s" % form, calls.startswith(b"./::error::x.sh:1:") and not re.search(rb"(?m)^\s*::", calls))
 
 
-def check(tools, count):
+def check(tools: Tools, count: int) -> None:
     """Compares the reports on the examples and on drawn scripts with what `sedck` says of them."""
     scripts = list(example_scripts()) + drawn_scripts(count)
     names = [tools.write("%d.sed" % at, script) for at, script in enumerate(scripts)]

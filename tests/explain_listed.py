@@ -2,8 +2,8 @@
 import json
 import re
 
-from explain_texts import ENDLESS, ROUND
-from explain_tools import with_pages
+from explain_texts import CERTAIN, ENDLESS, ROUND
+from explain_tools import Tools, with_pages
 
 LEVELS = ("error", "warning", "note")
 
@@ -80,7 +80,8 @@ def check_long_loops(tools):
         parts = [steps] if left_out == 0 else [steps[:1], steps[-2:]]
         gap = "%s steps left out\n" % format(left_out, ",")
         width = max(len("%d:1" % line) for part in parts for line, _, _ in part)
-        head = "v.sed:1:1: error: %s [loop-idle]\n" % ENDLESS
+        # A long loop isn't run.
+        head = "v.sed:1:1: error: %s [loop-idle]\n" % (ENDLESS if count <= 30 else CERTAIN)
         rows = ["".join("       %*s  %s  %s\n" % (width, "%d:1" % line, source, words) for line, source, words in part) for part in parts]
         text = head + "   1 | :a\n     | ^^\n" + ("       ... " + gap).join(rows) + "     = hint: %s\n" % ROUND
         text = with_pages(text) + "v.sed: loop: a run may never end\n  reads: no file\n  writes: no file\n"
@@ -126,7 +127,7 @@ def check_long_commands(tools):
     tools.same("a long command", (status, [line.split("`")[1] for line in notes]), (1, ["s/x/" + "y" * 36 + "..."] * 2))
 
 
-def check(tools):
+def check(tools: Tools) -> None:
     """Compares what is listed."""
     check_levels(tools)
     check_long_loops(tools)

@@ -8,7 +8,7 @@ import subprocess
 
 from explain_json import drawn_scripts, example_scripts, reports
 from explain_texts import REFUSED_CERTIFICATES, PRINT, WITH_CERTIFICATE
-from explain_tools import VERSION, is_seen, letters, page_due, shown_line, shown_unicode
+from explain_tools import VERSION, Tools, is_seen, letters, page_due, shown_line, shown_unicode
 
 VOID = {"meta", "br", "hr", "link", "img", "input"}
 ADDRESSES = ("href", "src", "srcset", "action", "data", "poster", "xlink:href")
@@ -393,7 +393,7 @@ def hold_rows(tools, what, script, box, places):
         tools.holds("line of %s, %s" % (what, place), shown and shown in line)
 
 
-def check(tools):
+def check(tools: Tools) -> bool:
     """Compares pages and graphs of chosen scripts, of the examples and of drawn ones. Answers whether Graphviz read the graphs."""
     dot = shutil.which("dot")
     scripts = SCRIPTS + list(example_scripts()) + drawn_scripts(60)

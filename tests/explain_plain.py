@@ -2,6 +2,8 @@
 import os
 import sys
 
+from explain_tools import Tools
+
 sys.path.insert(0, os.path.join(os.path.dirname(os.path.abspath(__file__)), "seds"))
 from seds_draw import Grammar  # noqa: E402
 
@@ -37,6 +39,11 @@ COMMENTED = [
     # A first line `#n` makes a script quiet, and this one isn't.
     (b"p #n\n", b"# n\np\n", b"p\n"),
     (b"#n\n#n\np;#n", b"#n\n#n\n#n\np\n", b"#n\np\n"),
+    # To GNU sed and ssed a text is quiet that begins with `#n`, whatever is after it: no other comment comes to stand there.
+    (b"p;#no\n", b"# no\np\n", b"p\n"),
+    (b" #nice\np\n", b"# nice\np\n", b"p\n"),
+    (b"\n#n x\n#no\np\n", b"# n x\n#no\np\n", b"p\n"),
+    (b"#no\n#no\np\n", b"#no\n#no\np\n", b"p\n"),
     (b"{{p;}\n\n}#a\n#b \r\n", b"{\n  {\n    p\n  }\n#a\n}\n#b \r\n".replace(b"\n#a", b"\n  #a"), b"{\n  {\n    p\n  }\n}\n"),
     (b"a\\\n# text\n# c\\\n$!d # x\\", b"a\\\n# text\n# c\\\n# x\\\n$!d\n", b"a\\\n# text\n$!d\n"),
     (b"/[#]/s/#/[#]/w #f\n/a/y,#,b, # y", b"/[#]/s/#/[#]/w #f\n# y\n/a/y/#/b/\n", b"/[#]/s/#/[#]/w #f\n/a/y/#/b/\n"),
@@ -109,7 +116,7 @@ def unspelled():
     return b"p\n s*[]%s[\\\\^-]a\\{0,\\}*/,;!@#%%~_*\n" % named
 
 
-def check(tools, count):
+def check(tools: Tools, count: int) -> None:
     tools.write("one.sed", b"p\n")
     tools.write("two.sed", b"s/a/b/\nx\n")
     tools.write("empty.cert", b"")

@@ -4,7 +4,7 @@ The places are those that docs/FAULTS.md has for each fault, counted by hand, as
 """
 import json
 
-from explain_tools import line_of, page_due, shown_line
+from explain_tools import Tools, line_of, page_due, shown_line
 
 NO_VERB = "expected a sed command"
 NO_ADDRESS = "expected an address"
@@ -207,7 +207,7 @@ def gcc_due(name, row):
     return "%serror: %s [%s]\n" % (at, message, code) + ("%snote: hint: %s\n" % (at, hint) if hint else "")
 
 
-def check(tools):
+def check(tools: Tools) -> None:
     """Compares both reports on each script."""
     for script, *row in REFUSED:
         what = repr(script[:40])

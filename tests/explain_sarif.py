@@ -7,7 +7,7 @@ import urllib.parse
 from explain_json import drawn_scripts, example_scripts, reports
 from explain_pages import SCRIPTS
 from explain_texts import WITH_CERTIFICATE
-from explain_tools import VERSION, letters, page_due
+from explain_tools import VERSION, Tools, letters, page_due
 
 SCHEMA = "https://json.schemastore.org/sarif-2.1.0.json"
 REGION = ["startLine", "startColumn", "endLine", "endColumn", "byteOffset", "byteLength"]
@@ -151,7 +151,7 @@ def check_unreadable(tools):
         tools.same("rules of %r" % words, run["tool"]["driver"]["rules"], [])
 
 
-def check(tools, count):
+def check(tools: Tools, count: int) -> None:
     """Compares the logs of chosen scripts, of the examples and of drawn ones."""
     scripts = SCRIPTS + list(example_scripts()) + drawn_scripts(count)
     names = [tools.write("sarif-%d.sed" % at, script) for at, script in enumerate(scripts)]

@@ -6,6 +6,7 @@ import socket
 import subprocess
 
 from explain_texts import NEXT_LINE
+from explain_tools import Tools
 from refusals import NEXT_LINE_RANKS
 
 # a script, and the status and the report for editors
@@ -41,7 +42,7 @@ def written_in_part(tools, words, script, room):
         return done.returncode, report.read(), done.stderr
 
 
-def check(tools):
+def check(tools: Tools) -> None:
     tools.write("streams.cert", NEXT_LINE_RANKS.encode())
     tools.same("with its certificate", tools.explain(*CERTIFIED, given=NEXT_LINE), (0, b"", b""))
     for script, status, report in REPORTS:

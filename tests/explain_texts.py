@@ -1,12 +1,15 @@
 """Whole reports in text and for editors: loops, certificates, accepted scripts, names, and bytes that a terminal wouldn't show."""
 import re
 
-from explain_tools import line_of, place, shown_line, with_pages
+from explain_tools import Tools, line_of, place, shown_line, with_pages
 from refusals import both, certificate
 
 IDLE = "this loop reads no line and never shortens the pattern space: it may run forever"
-ENDLESS = "this loop reads no line and never shortens the pattern space: it never ends once it is entered"
+CERTAIN = "this loop reads no line and never shortens the pattern space: it never ends once it is entered"
+ENDLESS = CERTAIN + ", and the script never ends on the line `x`"
+ON_TWO = "this loop reads no line and never shortens the pattern space: the script never ends on the lines `x` and `x`"
 GROWING = "this loop reads no line and may lengthen the pattern space each time: it may run forever"
+ON_ONE = "this loop reads no line and may lengthen the pattern space each time: the script never ends on the line `x`"
 ROUND = ("make each round read a line, with `n`, `N` or `d`, or shorten the pattern space; or write the commands out a fixed number "
          "of times")
 ONCE = ("write one `s` with the flag `g`, and then `t c` and `:c`, since the loop leaves the flag of `t` unset: it does the same, since "
@@ -67,9 +70,9 @@ s.sed:3:2: note: `t a` branches, since something was replaced
 s.sed:1:1: note: `:a` and so on
 s.sed:1:1: note: hint: {ONCE}
 """),
-    # an address may select a line or not, so that the loop may pass by the `n`
+    # an address may select a line or not, so that the loop may pass by the `n`: on the second line it does
     (b"p\n:a\n1{\nn\n}\nb a\n", 1, f"""\
-s.sed:2:1: error: {IDLE} [loop-idle]
+s.sed:2:1: error: {ON_TWO} [loop-idle]
    2 | :a
      | ^^
        2:1  :a   goes on
@@ -78,7 +81,7 @@ s.sed:2:1: error: {IDLE} [loop-idle]
        2:1  :a   and so on
      = hint: {ROUND}
 {LOOP}""", f"""\
-s.sed:2:1: error: {IDLE} [loop-idle]
+s.sed:2:1: error: {ON_TWO} [loop-idle]
 s.sed:2:1: note: `:a` goes on
 s.sed:3:2: note: `1{{` the block is skipped
 s.sed:6:1: note: `b a` branches
@@ -164,7 +167,7 @@ s.sed:2:1: note: `s/\\(a\\)b/\\1cc/` and so on
 s.sed:2:1: note: hint: {OFTEN}
 """),
     (b"G\nD\n", 1, f"""\
-s.sed:1:1: error: {GROWING} [loop-growing]
+s.sed:1:1: error: {ON_ONE} [loop-growing]
    1 | G
      | ^
        1:1  G  may lengthen the pattern space with the contents of the hold space
@@ -172,7 +175,7 @@ s.sed:1:1: error: {GROWING} [loop-growing]
        1:1  G  and so on
      = hint: {ADDED}
 {LOOP}""", f"""\
-s.sed:1:1: error: {GROWING} [loop-growing]
+s.sed:1:1: error: {ON_ONE} [loop-growing]
 s.sed:1:1: note: `G` may lengthen the pattern space with the contents of the hold space
 s.sed:2:1: note: `D` deletes up to the first newline, and starts again without reading a line
 s.sed:1:1: note: `G` and so on
@@ -560,7 +563,7 @@ def check_long_lines(tools):
         tools.same("line %r" % script, lines[1:3], ["   1 | " + shown, "     | " + " " * before + "^" * (width or [1])[0]])
 
 
-def check(tools):
+def check(tools: Tools) -> None:
     """Compares whole reports."""
     cases = [(script, None, *due) for script, *due in ALONE] + WITH_CERTIFICATE
     for script, text, status, *reports in cases:

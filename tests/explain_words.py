@@ -5,7 +5,7 @@ import pty
 import subprocess
 
 from explain_texts import NEXT_LINE, NEXT_LINE_TEXT
-from explain_tools import VERSION
+from explain_tools import VERSION, Tools
 
 ACCEPTED = "%s: accepted: every run ends\n  steps: at most 4 a line, plus 1; for 1,000 lines of 80 bytes at most 4,001\n  memory: each space at most as long as the input\n  reads: no file\n  writes: no file\n"
 UNKNOWN = "%s:1:3: error: this label isn't defined, and the script has none [unknown-label]\n   1 | b z\n     |   ^\n     = see: docs/FAULTS.md#unknown-label\n"
@@ -90,7 +90,9 @@ def check_scripts(tools):
     tools.same("control characters", tools.explain("a\x1b[31m\nb"), (4, b"", b"sedck-explain: cannot read a?[31m?b: no such file\n"))
     tools.same("a control character of two bytes", tools.explain("a\u009bb"), (4, b"", b"sedck-explain: cannot read a?b: no such file\n"))
     tools.same("a name that isn't UTF-8", tools.explain(b"u\xe9\xff.sed", "s.sed"),
-               (4, one + b"2 scripts: 1 accepted, 1 not readable\n", b"sedck-explain: cannot read u??.sed: its name is not UTF-8\n"))
+               (4, one + b"2 scripts: 1 accepted, 1 not readable\n", b"sedck-explain: cannot read u??.sed: its name is not UTF-8; give the file as standard input\n"))
+    tools.same("the same of a call", tools.explain("--sed", "--", "-f", b"u\xe9.sed"),
+               (4, b"", b"sedck-explain: cannot read a file of -f: its name is not UTF-8; give the file as standard input\n"))
     tools.same("an empty name", tools.explain(""), (4, b"", b"sedck-explain: cannot read : no such file\n"))
 
 
@@ -135,7 +137,7 @@ def check_unreadable(tools):
     for path, words, shown, reason in (
             ("gone.sed", ["gone.sed"], "gone.sed", ": no such file"), ("folder", ["folder"], "folder", ": it is a directory"),
             ("s.sed", ["--cert", "gone.cert", "s.sed"], "gone.cert", ": no such file"), ("a\nb", ["a\nb"], "a?b", ": no such file"),
-            ("u\0.sed", [b"u\xe9.sed"], "u?.sed", ": its name is not UTF-8"), ("\u202ex", ["\u202ex"], "?x", ": no such file")):
+            ("u\0.sed", [b"u\xe9.sed"], "u?.sed", ": its name is not UTF-8; give the file as standard input"), ("\u202ex", ["\u202ex"], "?x", ": no such file")):
         message = "cannot read " + shown + reason
         status, report, errors = tools.explain("--format", "json", *words)
         tools.same("unreadable %r" % path, (status, errors), (4, ("sedck-explain: %s\n" % message).encode()))
@@ -219,7 +221,7 @@ def check_colours(tools):
             tools.same("terminal %s %s" % (form, name), at_terminal(tools, words), tools.explain(*words)[1])
 
 
-def check(tools):
+def check(tools: Tools) -> None:
     """Runs the program with words of each kind."""
     tools.write("s.sed", NEXT_LINE)
     tools.write("-h.sed", NEXT_LINE)

@@ -45,7 +45,7 @@ def of_rows(value):
             yield from of_rows(one)
 
 
-def all_scripts():
+def all_scripts() -> list[str]:
     """The scripts that the tests have, each once, in order."""
     found = []
     for path in sorted(glob.glob(str(TOP / "tests" / "rows" / "*.json"))):
@@ -72,6 +72,7 @@ LOOPS = [
     "s/a/b/;ta;:c;s/x/y/;tc;b;:a;s/z/w/\n", "s/a/b/;tc\n:c\ns/x/yz/\ntc\n", "/q/bc\ns/^/-/\n:c\ns/xy/ab/\ntc\ns/b/!/\n", ":a;s/x/y/;tb;:b;ta\n", ":a;s/x/&/;s/y/z/;ta\n", ":a;s/x/x/;s/y/y/;ta\n",
     ":a;s/x/&/;y/x/z/;ta\n", ":a;x;s/x/&/;ta\n", ":a;1!ba\n", ":a;1,/x/ba\n", ":a;/x/,/y/ba\n", "$!d;:a;s/b/c/;ta;ba\n", ":a;s/\\(a\\)*b*//;ta\n", ":a;s/x\\{0,3\\}/z/;ta\n",
     ":a;$!{n;ba};s/a/bb/;ba\n", ":a;N;$!ba;:c;s/a/b/;tc\n", ":a;s/^\\.*a*$/&/;ta\n", ":a;s/\\./../;ta\n", ":a;s/a\\.b/cd/;ta\n",
+    ":a;s/b/c/;ta;ba\n", "/x/{;:a;s/b/c/;tc;ba;:c;/y/!ba;p;ba;}\nd\n", ":a;s/b/c/;ta;/x/ba\n", ":a;s/b/c/;tc;ba;:c;p\n", ":a;s/b/c/;ta;$d;ba\n",
 ]
 
 
@@ -89,7 +90,7 @@ def run(folder, script, given):
     return Path(folder, "out").read_bytes()
 
 
-def explained(explain, script):
+def explained(explain: str, script: str) -> dict:
     with tempfile.TemporaryDirectory(prefix="sedck-followed-") as folder:
         path = os.path.join(folder, "script.sed")
         with open(path, "w", encoding="latin-1", newline="") as file:
@@ -266,6 +267,7 @@ CERTAIN = [
     ":a\nba\n", ":a;$!N;ba\n", ":a;p;ba\n", ":a;n;$!ba;:b;bb\n", ":a;s/x/y/;ba\n", ":a;s/x/yy/;ba\n", ":a;s/x/x/;ta\n", ":a;s/x/&/;ta\n", ":a;s/x*/y/;ta\n",
     ":a;s/^x*//;ta\n", ":a;s/^ *//;ta\n", ":a;G;ba\n", ":a;$!{N;ba};:b;$bb\n", "/x/!b;:a;ba\n", ":a;$!b;s/x/x/g;ta\n", ":a;s/x/x/2;ta\n",
     ":a;$bb;N;:b;ba\n", ":a;s/\\(a\\)*b*//;ta\n", ":a;s/x\\{0,3\\}/z/;ta\n", ":a;$!{n;ba};s/a/bb/;ba\n", ":a;s/^\\.*a*$/&/;ta\n",
+    "$!d;:a;s/b/c/;ta;ba\n", ":a;s/b/c/;ta;ba\n", "/x/{;:a;s/b/c/;tc;ba;:c;/y/!ba;p;ba;}\nd\n",
 ]
 
 if __name__ == "__main__":

@@ -177,6 +177,7 @@ COMMANDS = [
         ("ax\n", "xb\n", "b\nxa\n"), wrong=("s/a/b/\n/x/t go\nb end\n:go\ns/b/c/\n:end\n",)),
     Row("z", "/b/z\n", "for `z` write `s/.*//`", "/b/s/.*//\n", ("a\nb\n", "ab\n", "\n")),
     Row("Q", "/c/Q\n", "for `/x/Q` write `/x/,$d`", "/c/,$d\n", ("a\nc\nb\n", "c\n", "a\n"), wrong=("/c/d\n", "/c/q\n")),
+    Row("Q with a status", "/c/Q5\n", "`/x/,$d`; no command of POSIX gives an exit status", "/c/,$d\n", ("a\nc\nb\n", "c\n", "a\n"), wrong=("/c/d\n", "/c/q\n")),
     Row("Q with !", "/x/!Q\n", "for `/x/!Q`", "/x/!{\n:end\n$d\nN\ns/.*\\n//\nb end\n}\n", ("x\nx\nb\nx\n", "b\nx\n", "x\n"), wrong=("/x/,$d\n", "/x/!d\n")),
     Row("v", "v 4.2\ns/a/b/\n", "leave it out", "s/a/b/\n", ("a\n", "b\n", "aa\n")),
     Row("status", "/x/q5\n", "leave them out", "/x/q\n", FOUND),

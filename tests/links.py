@@ -2,7 +2,7 @@
 """Checks links, versions, edits and crates in the documents: python3 tests/links.py, in any folder.
 
 Each link to a file of the repository must lead to one, and to a heading of it where it names one, also those to pages of docs/ that
-the code has as texts; each page is linked from docs/README.md; the manual pages have the version of the first entry of CHANGELOG.md; each
+the code has as texts; a link from a name in code to a file of Rattle leads to one that declares this name; each page is linked from docs/README.md; the manual pages have the version of the first entry of CHANGELOG.md; each
 edit says what is wrong and which function of its crate promises otherwise, and docs/PROVED.md lists those that the gate tries, as
 tools/edits.py does; CONTRIBUTING.md has a line for each crate of crates.txt, with the crates right below it, and each file of a crate's
 src begins with what it is for. The status is 0 only where all of this holds.
@@ -38,6 +38,16 @@ def links(page):
         if "://" not in target:
             name, _, head = target.partition("#")
             yield target, (page.parent / name).resolve() if name else page, head
+
+
+def undeclared(page: Path):
+    """The names in code that lead to a file of Rattle in which no function and no type has that name."""
+    for words, target in re.findall(r"\[(`[\w:]+`(?:, `[\w:]+`)*)\]\(([^)\s]+\.rt)\)", page.read_text()):
+        file = page.parent / target
+        code = file.read_text() if file.exists() else ""
+        for name in re.findall(r"`(?:\w+::)*(\w+)`", words):
+            if not re.search(r"\b(?:fn|struct|enum|trait)\s+%s\b" % name, code):
+                yield "%s: %s declares no %s" % (page.relative_to(TOP), target, name)
 
 
 def right_below(below):
@@ -79,6 +89,7 @@ def faults():
                 yield "%s: no file %s" % (page.relative_to(TOP), target)
             elif head and head not in anchors(file):
                 yield "%s: no heading %s" % (page.relative_to(TOP), target)
+        yield from undeclared(page)
     for source in sorted(TOP.glob("crates/*/src/**/*.rt")):
         for name, head in re.findall(r'"([A-Z]+\.md)#([^"\s]+)"', source.read_text()):
             page = TOP / "docs" / name

@@ -1,10 +1,10 @@
 #!/usr/bin/env python3
 """Runs scripts and their plain spelling by GNU sed in several locales: python3 tests/locales.py build/sedck-explain
 
-A list or a class has other characters in other locales, and the plain spelling must have the same ones: GNU sed prints the same by both, with
-the same status. The locales are those of this machine, and some that `localedef` makes. In some locale one of the texts is to be another
-one than in the locale C, which shows that they tell. Without GNU sed, or without a locale of UTF-8, the outputs aren't compared, which is
-said. The status is 0 only where all is as it is due.
+A list or a class has other characters in other locales, and the plain spelling must have the same ones. A comment must not come to stand where
+GNU sed takes it for the order to print nothing. So GNU sed prints the same by both texts, with the same status. The locales are those of this
+machine, and some that `localedef` makes. In some locale one of the texts is to be another one than in the locale C, which shows that they
+tell. Without GNU sed, or without a locale of UTF-8, the outputs aren't compared, which is said. The status is 0 only where all is as it is due.
 """
 import os
 import subprocess
@@ -25,6 +25,8 @@ ROWS = [
     ("s,[a\\,b]\\{2\\},<&>,g", "aáb,a,"), ("/[a-k]/,\\%[[:punct:]\\%]%s/[^[:alnum:]]/_/g", "ž ²\n%é «\nk"), ("s/\\([a-z]*\\)[[:upper:]]\\1/<&>/", "éÉé zZz"), ("y/abc/xyz/;s/[x-z]/_/g", "ýáxaž"),
     ("s/[\u00e4-\u00fc]/_/g;s/[а-я]/-/g", "äöüß жЖё"),
 ]
+# Scripts with comments that begin with an `n`, to which GNU sed pays attention at the very start of a text.
+COMMENTED = [("p;#no\n", "a"), (" #now\ns/a/b/", "a"), ("#now\ns/a/b/", "a"), ("\n#n\np", "a"), ("#n\n#n\np", "a"), ("{p;}#n", "a")]
 
 
 def run(words, given, locale):
@@ -45,7 +47,7 @@ def main():
     with tempfile.TemporaryDirectory(prefix="sedck-locales-") as folder:
         locales = [one for one in seds_ways.locales_found(folder) if one.charmap == "UTF-8"]
         told = set()
-        for number, (script, lines) in enumerate(ROWS):
+        for number, (script, lines) in enumerate(ROWS + COMMENTED):
             before, after, given = Path(folder, "before.sed"), Path(folder, "after.sed"), lines.encode() + b"\n"
             before.write_bytes(script.encode() + b"\n")
             made = subprocess.run([explain, "--format", "sed", before], capture_output=True)
@@ -65,7 +67,7 @@ def main():
         print("locales: " + line)
     if not wrong:
         names = ", ".join(locale.name for locale in locales)
-        print("locales: %d scripts and their plain spellings do the same in C%s" % (len(ROWS), ", " + names if names else "; no locale of UTF-8 is here")
+        print("locales: %d scripts and their plain spellings do the same in C%s" % (len(ROWS + COMMENTED), ", " + names if names else "; no locale of UTF-8 is here")
               if compared else "locales: not compared, since this machine lacks GNU sed")
     return 1 if wrong else 0
 

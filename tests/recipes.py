@@ -45,7 +45,7 @@ class LeftOut(Exception):
 
 
 class Scratch:
-    """A folder with the programs sedck, sedck-explain, sedck-fmt and sedck-sed on the path."""
+    """A folder with the programs sedck, sedck-explain, sedck-fmt, sedck-known and sedck-sed on the path."""
     def __init__(self, sedck, explain):
         self.sedck, self.explain = sedck, explain
 
@@ -57,7 +57,7 @@ class Scratch:
         shutil.copy(self.sedck, os.path.join(self.whole.name, "bin", "sedck"))
         shutil.copy(self.explain, os.path.join(self.whole.name, "bin", "sedck-explain"))
         os.makedirs(os.path.join(self.whole.name, "libexec", "sedck"))
-        for name in ("sedck-fmt", "sedck-sed"):
+        for name in ("sedck-fmt", "sedck-known", "sedck-sed"):
             shutil.copy(os.path.join(TOP, "wrapper", name), os.path.join(self.whole.name, "bin"))
         shutil.copy(os.path.join(TOP, "wrapper", "sed"), os.path.join(self.whole.name, "libexec", "sedck"))
         self.environment = {"PATH": os.path.join(self.whole.name, "bin") + ":" + os.environ["PATH"], "HOME": self.whole.name, "LC_ALL": "C"}
@@ -175,6 +175,7 @@ def stranger(scratch):
     holds("more than 1,000,000 bytes" in scratch.run(0, "sh", "-c", text % 999996), "a longer input is run")
     os.remove(os.path.join(scratch.folder, "join.sed"))
     os.remove(os.path.join(scratch.folder, "spam.sed"))
+    stranger_memory(scratch)
     os.mkfifo(os.path.join(scratch.folder, "pipe"))
     scratch.run(125, "sh", "-c", "sh run-stranger.sh pipe < mail")
     scratch.write("secret", "s/a/b/\nthe secret\n")
@@ -185,6 +186,58 @@ def stranger(scratch):
     scratch.run(124, "sh", "-c", "sleep 2 | TMPDIR=$PWD/tmp timeout 1 sh run-stranger.sh good.sed")
     holds(os.listdir(os.path.join(scratch.folder, "tmp")) == [], "the copy is left over where a clock ends the run")
     holds(sorted(os.listdir(scratch.folder)) == ["bad.sed", "good.sed", "link.sed", "mail", "pipe", "run-stranger.sh", "secret", "tmp"], "a file is left over")
+
+
+# Stand-ins. systemd-run keeps its words and runs those after its options; mkdir makes what the kernel has in a control group; rmdir keeps it.
+SYSTEMD_RUN = """#!/bin/sh
+printf '%s ' "$@" >> words; echo "" >> words
+[ "$1" = "$BUS" ] || exit 1
+shift 8
+exec "$@"
+"""
+MKDIR = """#!/bin/sh
+case $1 in */groups/*) : > words && /bin/mkdir "$1" && cd "$1" && touch memory.max memory.swap.max cgroup.procs ;; *) exec /bin/mkdir "$@" ;; esac
+"""
+RMDIR = """#!/bin/sh
+cat "$1/memory.max" "$1/memory.swap.max" "$1/cgroup.procs" > words && rm -r "$1"
+"""
+
+
+def stranger_memory(scratch):
+    """Each way in which the policy limits memory, the first two by stand-ins: the same is printed, and the limit is set."""
+    whole = scratch.text("run-stranger.sh")
+    os.makedirs(os.path.join(scratch.folder, "stand-ins"))
+    asked = "--scope --quiet --no-ask-password -p MemoryMax=500M -p MemorySwapMax=0"
+    run = "PATH=$PWD/stand-ins:$PATH BUS=%s sh run-stranger.sh good.sed < mail"
+    for bus in ("--user", "--system"):
+        scratch.write("stand-ins/systemd-run", SYSTEMD_RUN.replace("words", os.path.join(scratch.folder, "words")))
+        os.chmod(os.path.join(scratch.folder, "stand-ins/systemd-run"), 0o755)
+        holds(scratch.run(0, "sh", "-c", run % bus) == "b\nxb\n", "other texts in a scope")
+        rows = scratch.text("words").splitlines()
+        holds(rows[-2:] == ["%s %s true " % (bus, asked), "%s %s sed --sandbox -f plain " % (bus, asked)], "the scope is asked for with %s" % rows)
+        os.remove(os.path.join(scratch.folder, "words"))
+    # A folder of cgroup v2, which has the process that runs sed. One that can't limit memory goes, and sed has fewer addresses.
+    scratch.write("run-stranger.sh", whole.replace("/sys/fs/cgroup$(sed -n 's/^0:://p' /proc/self/cgroup 2> /dev/null)", scratch.folder + "/groups"))
+    os.makedirs(os.path.join(scratch.folder, "groups"))
+    holds(scratch.run(0, "sh", "-c", run % "none") == "b\nxb\n", "other texts without a control group")
+    holds(os.listdir(os.path.join(scratch.folder, "groups")) == [], "a folder that can't limit memory is left over")
+    for name, text in (("mkdir", MKDIR), ("rmdir", RMDIR)):
+        scratch.write("stand-ins/" + name, text.replace("words", os.path.join(scratch.folder, "words")))
+        os.chmod(os.path.join(scratch.folder, "stand-ins", name), 0o755)
+    holds(scratch.run(0, "sh", "-c", run % "none") == "b\nxb\n", "other texts in a folder of cgroup v2")
+    limit, swap, process = scratch.text("words").splitlines()
+    holds((limit, swap, process.isdigit()) == ("500M", "0", True), "the folder has %s, %s and %s" % (limit, swap, process))
+    # Only without a control group are addresses limited.
+    scratch.write("stand-ins/sed", "#!/bin/sh\nulimit -v\n")
+    os.chmod(os.path.join(scratch.folder, "stand-ins/sed"), 0o755)
+    holds(scratch.run(0, "sh", "-c", run % "none") != "500000\n", "addresses are limited in a control group")
+    for name in ("mkdir", "rmdir"):
+        os.remove(os.path.join(scratch.folder, "stand-ins", name))
+    holds(scratch.run(0, "sh", "-c", run % "none") == "500000\n", "addresses aren't limited where there is no control group")
+    scratch.write("run-stranger.sh", whole)
+    for folder in ("stand-ins", "groups"):
+        shutil.rmtree(os.path.join(scratch.folder, folder))
+    os.remove(os.path.join(scratch.folder, "words"))
 
 
 def vim(scratch):
@@ -314,7 +367,8 @@ def pre_commit(scratch):
     used = yaml.safe_load(block("A hook", "yaml"))["repos"][0]["hooks"]
     holds(all(hook["id"] in hooks for hook in used), "the page shows a hook that isn't there")
     asked = [name for name in ("a.sed", "b.sin", "c.sed.in", "d.in", "sed.txt") if re.search(used[0]["files"], name)]
-    holds(asked == ["a.sed", "b.sin", "c.sed.in"], "the page asks of the files %s" % asked)
+    # A template is no script yet.
+    holds(asked == ["a.sed", "b.sin"], "the page asks of the files %s" % asked)
     pairs(scratch)
     names = sorted("scripts/" + name for name in os.listdir(os.path.join(scratch.folder, "scripts")))
     loops = (["endless-print", "lost-label"], ["new", "odd-lines"])

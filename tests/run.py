@@ -26,6 +26,7 @@ rows matchers.py {sedck} {explain}
 explain-tests explain.py {explain} {sedck}
 explain-tests hints.py {explain} {sedck}
 explain-tests followed.py {explain}
+explain-tests endless.py {explain}
 explain-tests fixes.py {explain}
 explain-tests parts.py {probe}
 explain-tests locales.py {explain}
@@ -37,6 +38,7 @@ calls-tests calls_in_files.py {explain}
 calls-tests attacks.py {explain}
 wrapper-tests wrapper.py {explain}
 wrapper-tests formatter.py {explain}
+wrapper-tests known.py {explain}
 page-tests page.py {all}
 library-tests library.py {library} {sedck} {refuse}
 integration-tests language_server.py {explain}

@@ -1,7 +1,8 @@
 #!/bin/sh
 # Reports that can't be written: each command's output goes to a full device, and to a pipe that nobody reads, once with
 # SIGPIPE as the shell has it and once with SIGPIPE ignored. The program ignores SIGPIPE itself, so it must end with status 4
-# and its line on standard error each time, and must not be killed. The same of sedck-explain in each format.
+# and its line on standard error each time, and must not be killed. The same of sedck-explain in each format, but without a line
+# where nobody reads.
 #
 # usage: streams.sh SEDCK SEDCK_EXPLAIN
 set -u
@@ -43,7 +44,7 @@ unread() {
     "$program" "$@" >&4 2> "$folder/errors"
     echo $? > "$folder/status"
     exec 4>&-
-    wanted 4 "$name: cannot write" "$* to a pipe that nobody reads$note"
+    wanted 4 "$unread_line" "$* to a pipe that nobody reads$note"
 }
 
 each() {
@@ -76,10 +77,12 @@ each_format() {
 # both WAY: each command of both programs, with standard output of this kind
 both() {
     name=sedck
+    unread_line='sedck: cannot write'
     each "$1"
     sedck=$program
     program=$explain
     name=sedck-explain
+    unread_line=
     each_format "$1"
     program=$sedck
 }
@@ -90,6 +93,12 @@ both unread
 trap '' PIPE
 note=', SIGPIPE ignored'
 both unread
+
+# A reader that goes after the first line: a report of some 200 kB is longer than what a pipe takes.
+awk 'BEGIN { for (i = 0; i < 2000; i++) print "w /x" i }' > "$folder/long"
+{ "$explain" --format gcc "$folder/long"; echo $? > "$folder/status"; } 2> "$folder/errors" | head -n 1 > "$folder/first"
+wanted 4 "" "a long report of which only a line is read"
+[ "$(cut -d : -f 2-4 "$folder/first")" = '1:1: warning' ] || { echo "FAILED: the first line: $(cat "$folder/first")"; failures=$((failures + 1)); }
 
 # Streams that can't fail: a file that accepts the report, and a full device to which a refusal writes nothing.
 "$program" files "$folder/script" > "$folder/report" 2> "$folder/errors"

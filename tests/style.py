@@ -1,8 +1,8 @@
 #!/usr/bin/env python3
 """Checks how the Python is written: python3 tests/style.py, in any folder.
 
-A function has at most 40 lines, a file begins with what it is for, and an import names one module. A function that another file imports by
-its name has annotations. Each program of tests/ is in the table of tests/run.py. What `ruff check .` looks at is in ruff.toml. The status
+A function has at most 40 lines, a file begins with what it is for, and an import names one module. A function that another file imports, or
+uses by the name of its module, has annotations. Each program of tests/ is in the table of tests/run.py. What `ruff check .` looks at is in ruff.toml. The status
 is 0 only where no file of tests, tools, bench, library and wrapper has a fault.
 """
 import ast
@@ -27,9 +27,17 @@ def files() -> Iterator[Path]:
 
 
 def imported(paths: list[Path]) -> set[tuple[str, str]]:
-    """The module and the name of each function that a file imports from another one."""
-    nodes = [node for path in paths for node in ast.walk(ast.parse(path.read_text())) if isinstance(node, ast.ImportFrom)]
-    return {(node.module or "", name.name) for node in nodes for name in node.names}
+    """The module and the name of each function that a file imports from another one, or names after its module."""
+    found = set()
+    for path in paths:
+        nodes = list(ast.walk(ast.parse(path.read_text())))
+        modules = {name.asname or name.name: name.name for node in nodes if isinstance(node, ast.Import) for name in node.names}
+        for node in nodes:
+            if isinstance(node, ast.ImportFrom):
+                found |= {(node.module or "", name.name) for name in node.names}
+            elif isinstance(node, ast.Attribute) and isinstance(node.value, ast.Name) and node.value.id in modules:
+                found.add((modules[node.value.id], node.attr))
+    return found
 
 
 def faults(path: Path, public: set[tuple[str, str]]) -> Iterator[str]:
@@ -40,7 +48,7 @@ def faults(path: Path, public: set[tuple[str, str]]) -> Iterator[str]:
     for node in tree.body:
         if isinstance(node, ast.FunctionDef) and (path.stem, node.name) in public:
             if node.returns is None or any(argument.annotation is None for argument in node.args.args):
-                yield "line %d: the function %s is imported and has no annotations" % (node.lineno, node.name)
+                yield "line %d: another file uses the function %s, which has no annotations" % (node.lineno, node.name)
     for node in ast.walk(tree):
         if isinstance(node, ast.Import) and len(node.names) > 1:
             yield "line %d: it imports several modules" % node.lineno

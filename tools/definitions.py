@@ -370,17 +370,17 @@ script.Spelling commands.Items script.Resolution commands.Parts commands.Bracket
 expressions.Shape expressions.Brackets expressions.WellFormed expressions.Misjudged text.Classes text.Runs text.Text text.Bytes
 cert.Ranked flow.Flow flow.Nodes commands.References bre.Rests
 cert.Certificate cert.Text cert.Versions cert.VersionOne
-cert.Everywhere flow.WideRun bre.WideMatch script.ByteSafe
+cert.Everywhere flow.WideRun bre.WideMatch flow.CharacterRun flow.Characters script.ByteSafe
 cert.Rejections
 cert.Bounds cert.SpaceLimit cert.Limits cert.StepLimit flow.Spaces
-text.Cursors model.Spots model.States
+text.Cursors model.Spots model.States endless.Endless
 search.Found search.Obstacle search.Rows search.NodeSet flow.VersionOne flow.LiteralKinds search.VersionOne
 commands.Locations plain.WrittenLists plain.Plain locales.Written locales.Locales locales.Laws
 commands.ReadItems commands.Labels commands.Blocks
 commands.Faults expressions.Faults cert.Faults
 commands.FaultWords expressions.FaultWords cert.FaultText cli.Lines
 flow.Words engines.Reports engines.Engines cli.Statuses cli.Causes c.Answers engines.Faults cert.Streams engines.Inputs engines.Opened
-explanation.Answers explanation.Status explanation.Denial explanation.Explanations explanation.Errors errors.Errors formats.Plain explain_cli.Explained explain_cli.Spelled explain_cli.Statuses calls_in_files.Lines explain_cli.CallStatus explain_cli.Readings explain_cli.Requests explain_cli.Answers report.Positions report.Shown report.Codes report.Levels report.Files report.Reported advice.Slow advice.References advice.Locale advice.Ignored advice.Added report.Html report.Ascii
+explanation.Answers explanation.Status errors.Denials explanation.Denial explanation.Explanations explanation.Errors errors.Errors formats.Plain explain_cli.Explained explain_cli.Spelled explain_cli.Statuses calls_in_files.Lines explain_cli.CallStatus explain_cli.Readings explain_cli.Requests explain_cli.Answers report.Positions report.Shown report.Codes report.Levels report.Files report.Reported advice.Slow advice.References advice.Locale advice.Ignored advice.Added report.Html report.Ascii
 explanation.Called calls_in_files.Judged calls_in_files.Placed calls_in_files.Scanned origin.Traced origin.Texts call.Words call.Options call.Calls call.Origins call.Scripts
 formats.Names
 bre.Lengths script.Shortest script.Invariant
@@ -411,7 +411,7 @@ PARTS = [
         ("Reports and statuses", [("sedck_engines", "*", None), ("sedck_cli", "*", None), ("sedck_c", "*", None), ("sedck_cert", "write_cert", None)]),
         ("What is explained", [("sedck_explanation", "*", None), ("sedck_report", "*", None), ("sedck_errors", "*", None), ("sedck_advice", "*", None),
          ("sedck_explain_cli", "*", None), ("sedck_formats", "*", None), ("sedck_calls_in_files", "*", None)]),
-        ("The model, decided", [("sedck_model", "*", None)]),
+        ("The model, decided", [("sedck_model", "*", None), ("sedck_endless", "*", None)]),
         ("Certificates of version 1", [("sedck_cert", "read_cert_one", None), ("sedck_cert", "upgrade*", None), ("sedck_cert", "CertOne*", None),
          ("sedck_flow", "edges_were_there", None), ("sedck_flow", "kinds_agree", None), ("sedck_flow", "literal_kinds_stay", None), ("sedck_search", "obstacles_were_there", None)]),
         ("The parts, and laws", [(crate, "*", None) for crate in CRATES]),
@@ -593,7 +593,7 @@ def group(book, text, seen, contracts_of, alone):
     sizes = {one: len(book.types[one][1].splitlines()) for one in new_types}
     if new_types and not alone:
         names = ", ".join(f"`{module.split('.')[1]}::{name}` ({sizes[(module, name)]})" for module, name in new_types)
-        shown += f"\n\nTypes of the code: {names}."
+        shown += f"\n\nTypes of the code are, each with its lines: {names}."
     return shown, size(new) + sum(sizes.values())
 
 

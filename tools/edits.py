@@ -13,6 +13,7 @@ their heads, and with --proved it puts those that the gate tries into docs/PROVE
 """
 import re
 import sys
+from collections.abc import Iterator
 from pathlib import Path
 
 TOP = Path(__file__).resolve().parent.parent
@@ -24,7 +25,7 @@ class Unfit(Exception):
     """Why an edit can't be applied."""
 
 
-def edited(crate, edit):
+def edited(crate: Path, edit: Path) -> dict[str, str]:
     """The texts of the files that an edit changes, by their paths in the crate."""
     texts, path, old = {}, "", None
     for line in edit.read_text().splitlines():
@@ -46,7 +47,7 @@ def edited(crate, edit):
     return texts
 
 
-def faults(top=TOP):
+def faults(top: Path = TOP) -> Iterator[str]:
     """What is wrong with the edits of all crates."""
     for folder in FOLDERS:
         for edit in sorted(top.glob("crates/*/%s/*" % folder)):
@@ -85,14 +86,14 @@ class Head:
         return None
 
 
-def heads(top=TOP):
+def heads(top: Path = TOP) -> list[Head]:
     """The heads of all edits, by crate in the order of crates.txt, and by the function that promises otherwise."""
     names = re.findall(r"^(\w+)[^:#\n]*:", (top / "crates.txt").read_text(), re.M)
     found = [Head(edit) for folder in FOLDERS for edit in top.glob("crates/*/%s/*.edit" % folder)]
     return sorted(found, key=lambda head: (names.index(head.crate), head.promised.split(",")[0], not head.is_tried, head.name))
 
 
-def head_faults(top=TOP):
+def head_faults(top: Path = TOP) -> Iterator[str]:
     """Which edits have no head, or one that names what isn't there."""
     words = {}
     for head in heads(top):
@@ -104,7 +105,7 @@ def head_faults(top=TOP):
             yield "%s: %s" % (head.path.relative_to(top), fault)
 
 
-def table():
+def table() -> str:
     """All edits: the crate, the file, what is wrong, which function promises otherwise, and where the prover stops."""
     rows = ["| crate | edit | what is wrong | promised by | refused in |", "|---|---|---|---|---|"]
     for head in heads():
@@ -113,7 +114,7 @@ def table():
     return "\n".join(rows) + "\n"
 
 
-def tried():
+def tried() -> str:
     """The table in docs/PROVED.md of the edits that the gate tries: a row for each function."""
     rows = {}
     for head in heads():
@@ -123,7 +124,7 @@ def tried():
         "| `%s` | `%s` | %s |\n" % (crate, function, ", ".join(names)) for (crate, function), names in rows.items())
 
 
-def put_into_proved():
+def put_into_proved() -> int:
     """Puts that table into docs/PROVED.md, in place of what is there."""
     page = TOP / "docs" / "PROVED.md"
     text, found = re.subn(r"(?m)^(## Wrong bodies that the gate sees refused\n\n.*\n\n)(?:[|].*\n)*", lambda match: match[1] + tried(), page.read_text())
@@ -131,7 +132,7 @@ def put_into_proved():
     return 0 if found == 1 else 1
 
 
-def main():
+def main() -> int:
     if sys.argv[1:] == ["--proved"]:
         return put_into_proved()
     if sys.argv[1:] == ["--table"]:

@@ -122,7 +122,7 @@ class Costs:
         return self.proofs.get(name, 0.0), once_more, (self.firsts.get(name, 0.0) - once_more + sum(others)) if bodies else 0.0
 
 
-def table(costs, names, bodies):
+def table(costs: Costs, names: list[str], bodies: dict[str, int]) -> str:
     """The table of BENCH: a row for each crate, first those with wrong bodies, and what all took in seconds and in units."""
     rows = {name: costs.row(name, bodies[name]) for name in names}
     whole, unit = sum(sum(row) for row in rows.values()), rows.get(UNIT, (0.0,))[0]

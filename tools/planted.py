@@ -29,16 +29,16 @@ LEDGER = TOP / "planted.sums"
 REFUSED = re.compile(r"^rt: must-fail \w+/(\S+)\.edit: refused, as it must be(?!.*names what the edit took away)", re.M)
 
 
-def planted(name):
+def planted(name: str) -> list[Path]:
     return sorted((TOP / "crates" / name / "planted").glob("*.edit"))
 
 
-def crates():
+def crates() -> list[str]:
     """The crates that have planted edits."""
     return sorted(path.parent.name for path in TOP.glob("crates/*/planted") if planted(path.parent.name))
 
 
-def sum_of(name):
+def sum_of(name: str) -> str:
     """A checksum of what decides whether a crate's planted edits are refused: its code, its definitions, and they themselves."""
     whole = hashlib.sha256()
     for part in ("src", "specs", "planted"):
@@ -52,12 +52,12 @@ def sum_of(name):
     return whole.hexdigest()
 
 
-def ledger():
+def ledger() -> dict[str, str]:
     lines = LEDGER.read_text().splitlines() if LEDGER.exists() else []
     return {name: known for known, name in (line.split("  ") for line in lines)}
 
 
-def behind():
+def behind() -> list[str]:
     """The crates whose planted edits weren't tried since their code, definitions or edits changed."""
     known = ledger()
     return [name for name in crates() if known.get(name) != sum_of(name)]

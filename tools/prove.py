@@ -22,6 +22,7 @@ import sys
 import tempfile
 import threading
 import time
+from collections.abc import Iterator
 from concurrent.futures import FIRST_COMPLETED, ThreadPoolExecutor, wait
 from pathlib import Path
 
@@ -52,7 +53,7 @@ def ordered(needs: dict[str, list[str]], names: list[str], done: tuple = ()) -> 
     return order
 
 
-def work_of(name):
+def work_of(name: str) -> int:
     """How much there is to prove in a crate: the bytes of its code and proofs."""
     return sum(path.stat().st_size for part in PARTS for path in (TOP / "crates" / name / part).rglob("*") if path.is_file())
 
@@ -67,7 +68,7 @@ def chains(needs, order):
     return longest
 
 
-def lanes():
+def lanes() -> int:
     """How many processes may work at a time."""
     memory = os.sysconf("SC_PHYS_PAGES") * os.sysconf("SC_PAGE_SIZE")
     return max(1, min(len(os.sched_getaffinity(0)), memory // MEMORY_EACH))
@@ -96,7 +97,7 @@ def held(folder):
         os.close(lock)
 
 
-def fill(room, name, below):
+def fill(room: Path, name: str, below: list[str]) -> None:
     """Fills the tree in which a crate is proved, with it and the crates below it alone."""
     room.mkdir()
     shutil.copy(TOP / "HANDLES", room)
@@ -110,7 +111,7 @@ def fill(room, name, below):
     share(TOP / "examples", room / "examples")
 
 
-def called(words, folder):
+def called(words: list[str], folder: Path) -> tuple[int, str]:
     """The exit status of a command in this folder, and what it printed. It is ended where this is stopped."""
     with subprocess.Popen(words, cwd=folder, stdin=subprocess.DEVNULL, stdout=subprocess.PIPE, stderr=subprocess.STDOUT, encoding="utf-8",
                           errors="replace") as child:
@@ -215,7 +216,7 @@ def stop(number, _):
 
 
 @contextlib.contextmanager
-def trees(prefix):
+def trees(prefix: str) -> Iterator[Path]:
     """A folder in `build` for the trees in which crates are proved. It is removed also where this is stopped, since the gate refuses code
     outside of the crates; what a run left that was killed is removed before the next one."""
     for number in (signal.SIGTERM, signal.SIGHUP):

@@ -1,0 +1,95 @@
+#!/usr/bin/env python3
+"""Runs scripts on the lines on which they are said never to end: python3 tests/endless.py build/sedck-explain [COUNT [SEED]]
+
+Each script that the tests have, and COUNT drawn loops (300), are explained. Where a loop's message says that the script never ends on some
+lines, GNU sed must run on these lines until it is stopped. Of each script in `ROWS` it must be said, or must not be said. The status is 0
+only where everything is as it should be.
+"""
+import os
+import random
+import re
+import subprocess
+import sys
+import tempfile
+from concurrent.futures import ThreadPoolExecutor
+
+from followed import all_scripts, explained
+
+SAID = re.compile(r"the script never ends on the lines? (`[^`]*`(?: and `[^`]*`)?)$")
+# A script, and whether there are short lines on which it never ends, by reading it.
+ROWS = [
+    (":a\nba\n", True), (":a\np\nba\n", True), (":a;s/x/x/;ta\n", True), (":a;s/b*/b/;ta\n", True), ("/x/!{:a\nba\n}\n", True), ("/^foo$/{:a\nba\n}\n", True),
+    (":a;x;ba\n", True), ("G;:a;s/x/&/;ta\n", True), ("$!d;:a;ba\n", True), ("1d;:a;ba\n", True), (":a;y/ab/ba/;ba\n", True), ("2{:a\nba\n}\n", True),
+    (":a;s/ab/ba/;s/ba/ab/;ta\n", True), (":a;s/\\(a\\)\\(b\\)*/\\1\\2/;ta\n", True), (":a\n/^$/ba\n", True), (":a\n/[0-9][0-9]*$/ba\n", True),
+    ("h;:a;G;s/\\n.*//;ta\n", True), (":a;s/^x/x/;ta\n", True), (":a;s/x$/x/;ta\n", True), (":a;s/x/x/2;ta\n", False),
+    # Autoconf's loop over the numbers of lines, shortened.
+    (":loop\ns/^\\([^;]*\\)[$]LINENO\\([^a-z]\\)/\\1$LINENO\\2/\ntloop\n", True),
+    # By bytes no `x` is matched, and in UTF-8 each is, so that the script ends there.
+    ("/x\u00c3\u00a9*/!{:a\nba\n}\n", False),
+    # GNU sed ends the first one on the line `x`, and what is known of ranges is nothing. The others end on every input, or always grow.
+    (":a;1,/x/ba\n", False), ("/a/,/b/{:a\nba\n}\n", False),
+    (":a;s/x/y/;ta\n", False), (":a;s/^.\\{1,9\\}$/ &/;ta\n", False), (":a;s/^ *x/x/2;ta\n", False), (":a;s/x/xx/;ta\n", False), (":a;G;ba\n", False),
+    (":a;s/ab/ba/;ta\n", False), ("/a/{/b/!{/a/!{:a\nba\n}\n}\n}\n", False), ("1!{$!{1{:a\nba\n}\n}\n}\n", False),
+]
+
+
+def said_of(explain, script):
+    """The lines on which the script is said never to end, or None."""
+    for finding in explained(explain, script).get("findings", []):
+        match = SAID.search(finding["message"])
+        if match:
+            return re.findall(r"`([^`]*)`", match[1])
+    return None
+
+
+def ends(script, lines):
+    """Whether GNU sed comes to an end on the lines, within a second and a limit on what it prints."""
+    with tempfile.TemporaryDirectory(prefix="sedck-endless-") as folder:
+        path = os.path.join(folder, "loop.sed")
+        with open(path, "w", encoding="latin-1", newline="") as file:
+            file.write(script)
+        with open(os.path.join(folder, "out"), "wb") as out:
+            words = ["sh", "-c", 'ulimit -f 2000; exec timeout 1 sed -f "$1"', "sh", path]
+            given = "".join(line + "\n" for line in lines).encode()
+            status = subprocess.run(words, cwd=folder, input=given, stdout=out, stderr=subprocess.PIPE, timeout=30, check=False,
+                                    env={"PATH": os.environ["PATH"], "LC_ALL": "C"}).returncode
+    # 124 of `timeout`; the others are what the limit on its output ends with.
+    return status not in (124, 153, -25, 4)
+
+
+def drawn_loop(rng):
+    """A loop of a few commands that read nothing."""
+    def expression():
+        return "".join(rng.choice(["a", "b", "x", ".", "a*", "x*", "[ab]", "\\(a\\)", "\\(b*\\)"]) for _ in range(rng.randint(1, 3)))
+
+    def command():
+        where = rng.choice(["", "", "", "$", "1", "$!", "/%s/" % expression(), "/%s/!" % expression()])
+        what = rng.choice(["s/%s/%s/" % (expression(), rng.choice(["", "a", "b", "x", "&", "ab"])), "x", "G", "h", "H", "y/ab/ba/", "p", "g", "D", "ta", "N"])
+        return where + what
+
+    body = [command() for _ in range(rng.randint(1, 4))]
+    before = [command() for _ in range(rng.randint(0, 2))]
+    return "\n".join([*[one for one in before if not one.endswith("ta")], ":a", *body, rng.choice(["ba", "ta", "$!ba", "/x/ba"])]) + "\n"
+
+
+def main():
+    explain = sys.argv[1]
+    count = int(sys.argv[2]) if len(sys.argv) > 2 else 300
+    rng = random.Random(int(sys.argv[3]) if len(sys.argv) > 3 else 1)
+    scripts = list(dict.fromkeys(all_scripts() + [row[0] for row in ROWS] + [drawn_loop(rng) for _ in range(count)]))
+    with ThreadPoolExecutor(os.cpu_count()) as pool:
+        said = dict(zip(scripts, pool.map(lambda script: said_of(explain, script), scripts)))
+        found = [(script, lines) for script, lines in said.items() if lines is not None]
+        ended = list(pool.map(lambda run: ends(*run), found))
+    faults = ["%r: GNU sed ends on %r" % (*run, ) for run, is_over in zip(found, ended) if is_over]
+    faults += ["%r: %s" % (script, "no lines are named" if due else "lines are named: %r" % said[script]) for script, due in ROWS if (said[script] is not None) != due]
+    for fault in faults:
+        print("endless: " + fault)
+    print("endless: %d scripts, %d of them with lines on which they never end, %d failures" % (len(scripts), len(found), len(faults)))
+    if not found:
+        return 1
+    return 1 if faults else 0
+
+
+if __name__ == "__main__":
+    sys.exit(main())
