@@ -311,6 +311,12 @@ long getdents64(int slot, byte *to, size n)
     return failed(BAD_DESCRIPTOR);
 }
 
+long readlink(const byte *path, byte *to, size n)
+{
+    (void)path, (void)to, (void)n;
+    return failed(NO_ENTRY);
+}
+
 int statx(int folder, const byte *path, int flags, int mask, void *to)
 {
     (void)folder, (void)path, (void)flags, (void)mask, (void)to;

@@ -96,7 +96,10 @@ def check_installing(whole, folder):
     for _ in range(2):
         status, said = run(["sh", str(whole / "install.sh")], folder, PREFIX="/opt/own sedck", DESTDIR=str(to))
         expect(status == 0, "install.sh ends with %d: %s" % (status, said))
-        expect(hashlib.sha256((whole / "bin/sedck").read_bytes()).hexdigest() in said, "install.sh doesn't name the checker's sum: %s" % said)
+        checker = hashlib.sha256((whole / "bin/sedck").read_bytes()).hexdigest()
+        expect(checker in said, "install.sh doesn't name the checker's sum: %s" % said)
+        said = run([str(to / "opt/own sedck/bin/sedck-explain"), "--version"], folder)[1]
+        expect(said.splitlines()[1:] == [checker + "  sedck"], "the version doesn't name the checker's sum: %s" % said)
     seen = {str(path.relative_to(to / "opt/own sedck")) for path in to.rglob("*") if path.is_file()}
     due = {str(path.relative_to(whole)) for part in ("bin", "include", "lib", "libexec", "share") for path in (whole / part).rglob("*") if path.is_file()}
     expect(seen == due and len(due) > 40, "install.sh installs other files: %s" % sorted(seen ^ due))

@@ -137,7 +137,7 @@ fi
 (cd "$documents" && python3 tests/links.py) >&2 || fail "a link leads nowhere, or a page or a version is missing"
 (cd "$documents" && python3 tests/sentences.py) >&2 || fail "a page has a long sentence, or a paragraph with many semicolons"
 version=$(awk '/^## [0-9]/ { print $2; exit }' "$documents/CHANGELOG.md")
-[ "$(../build/sedck-explain --version)" = "sedck-explain $version" ] || fail "sedck-explain isn't of version $version, as CHANGELOG.md"
+[ "$(../build/sedck-explain --version | head -n 1)" = "sedck-explain $version" ] || fail "sedck-explain isn't of version $version, as CHANGELOG.md"
 # The Makefile, the hooks and the steps of the recipes.
 (cd "$documents" && python3 tests/recipes.py build/sedck build/sedck-explain) >&2 || fail "a recipe of docs/RECIPES.md doesn't do what it should"
 # The table of edges, what the pages say of faults, and the scripts of the pages on faults and loops.

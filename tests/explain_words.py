@@ -1,8 +1,11 @@
 """The command line of `sedck-explain`: its words, its files and standard input, statuses, standard error, and colours."""
+import hashlib
 import json
 import os
 import pty
+import shutil
 import subprocess
+from pathlib import Path
 
 from explain_texts import NEXT_LINE, NEXT_LINE_TEXT
 from explain_tools import VERSION, Tools
@@ -27,9 +30,7 @@ def check_refused_words(tools):
 
 
 def check_help(tools):
-    """The help, which names what can be given, and the version."""
-    for words in (["--version"], ["-V"]):
-        tools.same("version", tools.explain(*words), (0, b"sedck-explain %s\n" % VERSION.encode(), b""))
+    """The help, which names what can be given."""
     for words in (["--help", "s.sed"], ["-h", "s.sed"], ["-h.sed"], ["s.sed", "-V.sed"], ["--format", "gcc", "-h.sed", "s.sed"], ["--version", "--help"]):
         status, report, errors = tools.explain(*words)
         tools.same("help beside other words: %s" % words, (status, report, errors), (3, b"", b"sedck-explain: --help and --version stand alone\n"))
@@ -39,6 +40,36 @@ def check_help(tools):
         for part in (*FORMATS, "--format", "--level", "--cert", "--deny", "--locale", "--stdin-filename", "--help", "--version", "SCRIPT", "standard input", "0 accepted", "4 a file"):
             tools.holds("help has %s" % part, part.encode() in report)
         tools.same("lines of more than 80 columns", [line for line in report.splitlines() if len(line) > 80], [])
+
+
+def check_version(tools):
+    """The version, and the sum of the checker beside the program, where there is one; the first two sums are those of FIPS 180-4."""
+    line = b"sedck-explain %s\n" % VERSION.encode()
+    folder = Path(tools.folder) / "installed"
+    folder.mkdir()
+    program, checker = folder / "sedck-explain", folder / "sedck"
+    shutil.copy(tools.explain_path, program)
+    whole = Path(tools.explain_path).read_bytes()
+    for text, due in ((None, b""), (b"abc", b"ba7816bf8f01cfea414140de5dae2223b00361a396177a9cb410ff61f20015ad  sedck\n"),
+                      (b"", b"e3b0c44298fc1c149afbf4c8996fb92427ae41e4649b934ca495991b7852b855  sedck\n"),
+                      (whole, hashlib.sha256(whole).hexdigest().encode() + b"  sedck\n")):
+        if text is not None:
+            checker.write_bytes(text)
+        for words in (["--version"], ["-V"]):
+            tools.same("version beside %r" % (text and text[:9]), tools.run(str(program), words), (0, line + due, b""))
+    (folder / "link").symlink_to(program)
+    tools.same("version by a link", tools.run(str(folder / "link"), ["-V"])[1], line + due)
+    tools.same("version on a full device", full_device(program), (4, b"sedck-explain: cannot write\n"))
+    checker.unlink()
+    checker.mkdir()
+    tools.same("version beside a folder", tools.run(str(program), ["-V"]), (0, line, b""))
+
+
+def full_device(program):
+    """The status and standard error where the version can't be written."""
+    with open("/dev/full", "wb") as full:
+        done = subprocess.run([program, "--version"], stdout=full, stderr=subprocess.PIPE, check=False)
+    return done.returncode, done.stderr
 
 
 def check_repeated(tools):
@@ -231,6 +262,7 @@ def check(tools: Tools) -> None:
     os.mkdir(tools.path("folder"))
     check_refused_words(tools)
     check_help(tools)
+    check_version(tools)
     check_repeated(tools)
     check_waiting(tools)
     check_scripts(tools)

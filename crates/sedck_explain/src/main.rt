@@ -1,11 +1,13 @@
 //! The program `sedck-explain`: its arguments, its standard streams and its exit status. All else is in `sedck_explain_cli`.
 #![tactic(auto)]
 
+mod checker;
 mod quiet;
 
+use crate::checker::write_checker;
 use crate::quiet::{Muted, Watched};
 use sedck_cert::streams::{FromWrite, write_all};
-use sedck_explain_cli::{Words, arguments, flushed, out_of_memory, program};
+use sedck_explain_cli::{Status, Words, arguments, flushed, out_of_memory, program, unwritten};
 use std::cell::Cell;
 use std::env;
 use std::env::VarError;
@@ -28,7 +30,15 @@ fn main(rt: HostRuntime) -> ExitCode {
                 // Whoever started it by mistake sees what it waits for; if this can't be written, it reads all the same.
                 let _ = write_all(&mut err, WAITING);
             }
-            program(&rt, &words, colour, &mut out, &mut err)
+            let status = program(&rt, &words, colour, &mut out, &mut err);
+            if status == Status::Accepted
+                && asks_for_version(&words)
+                && write_checker(&rt, &mut out).is_err()
+            {
+                unwritten(&mut err)
+            } else {
+                status
+            }
         }
         Err(_) => out_of_memory(&mut err),
     };
@@ -38,6 +48,14 @@ fn main(rt: HostRuntime) -> ExitCode {
 /// Whether no word is given.
 fn is_empty(words: &Words) -> bool {
     words.own.is_empty() && words.call.is_none()
+}
+
+/// Whether the version is all that is asked for.
+fn asks_for_version(words: &Words) -> bool {
+    match words.own.as_slice() {
+        [word] => words.call.is_none() && (word.as_str() == "-V" || word.as_str() == "--version"),
+        _ => false,
+    }
 }
 
 /// Whether the user hasn't asked for no colours (no-color.org): `NO_COLOR` is empty or isn't set.

@@ -25,7 +25,7 @@ pub use explaining::{Named, Reporter, explain_alone, explain_with};
 pub use format::{Format, NAMES, Style};
 pub use plain::{spell, spell_script};
 pub use request::{Request, request_of};
-pub use sedck_calls_in_files::out_of_memory;
+pub use sedck_calls_in_files::{out_of_memory, unwritten};
 pub use sedck_explanation::{Denied, Level, Status};
 pub use session::Session;
 pub use words::{Words, arguments};
