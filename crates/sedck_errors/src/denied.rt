@@ -81,9 +81,10 @@ pub fn with_denials(
     has: Deniable,
 ) -> Result<Vec<Finding>, AllocError>
     // There is an error where something is denied and there, or was one before; all warnings are kept.
-    ensures errors { IfOk result (λ all. has_error all.items ≡ ((denied.reads && is_there has.entry.reads.now) || (denied.writes && is_there has.entry.writes.now)
-        || (denied.unbounded && is_unbounded has.entry.limits) || (denied.growing && is_growing has.entry.limits) || warns_of (denies denied.warnings) findings.items || (denied.slow && is_some has.entry.slow)
-        || (denied.references && is_there has.entry.references.now) || has_error findings.items)) }
+    ensures errors { IfOk result (λ all. has_error all.items ≡ ((denied.reads && is_there has.entry.reads.now)
+        || (denied.writes && is_there has.entry.writes.now) || (denied.unbounded && is_unbounded has.entry.limits)
+        || (denied.growing && is_growing has.entry.limits) || warns_of (denies denied.warnings) findings.items
+        || (denied.slow && is_some has.entry.slow) || (denied.references && is_there has.entry.references.now) || has_error findings.items)) }
     ensures warnings { IfOk result (λ all. has_warning all.items ≡ has_warning findings.items) }
     ensures denied { IfOk result (λ all. warns_of (denies denied.warnings) all.items ≡ warns_of (denies denied.warnings) findings.items) }
     ensures locale { IfOk result (λ all. has_locale all.items ≡ has_locale findings.items) }
