@@ -146,10 +146,11 @@ def check_judging(steps, folder, tree, path):
     (tree / "good.sed").write_text(GOOD)
     (tree / ".git" / "hidden.sed").write_text(LOOP)
     (tree / "run.sh").write_text("sed 's/a/b/' in\nsed \"$x\" in\n")
+    of_calls = [("run.sh", "unknowable", "warning", 2, 1, 2)]
     words = {"paths": ".\n", "deny": "", "sarif": "../sedck.sarif"}
     status, said = step(steps, "Write the log", tree, path, **words)
     run_of = json.loads((folder / "sedck.sarif").read_text())["runs"]
-    expect(status == 0 and len(run_of) == 1 and run_of[0]["results"] == [], "the log of a good script: %d: %s %s" % (status, said, run_of))
+    expect(status == 0 and len(run_of) == 1 and places_of(run_of[0]) == of_calls, "the log of a good script: %d: %s %s" % (status, said, run_of))
     status, said = step(steps, "Judge scripts and calls", tree, path, **words)
     expect(status == 0, "a tree of which something isn't known gives %d: %s" % (status, said))
     (tree / "deep" / "loop.sed").write_text(LOOP)
@@ -160,6 +161,7 @@ def check_judging(steps, folder, tree, path):
     rules = [rule["id"] for rule in log["runs"][0]["tool"]["driver"]["rules"]]
     seen = {(one["locations"][0]["physicalLocation"]["artifactLocation"]["uri"], one["ruleId"], rules[one["ruleIndex"]], one["locations"][0]["physicalLocation"]["region"]["startLine"])
             for one in log["runs"][0]["results"] if one["level"] == "error"}
+    check_calls(steps, folder, path)
     due = {("deep/loop.sed", "loop-idle", 1), ("deep/fault%20one.sed", "bad-escape", 2), ("deep/fault%20two.sed", "unclosed-bracket", 1)}
     expect(seen == {(file, code, code, line) for file, code, line in due}, "the results are %s" % seen)
     expect(len(log["runs"]) == 1 and len(set(rules)) == len(rules), "the rules are %s" % rules)
@@ -173,6 +175,31 @@ def check_judging(steps, folder, tree, path):
     status, said = step(steps, "Write the log", tree, path, **{**words, "paths": "deep/none\n"})
     run_of = json.loads((folder / "sedck.sarif").read_text())["runs"]
     expect(status == 0 and run_of[0]["results"] == [], "a folder without scripts gives %d: %s" % (status, said))
+
+
+def places_of(run_of):
+    """The path, the rule, the level, and the line and columns of each result."""
+    rules = [rule["id"] for rule in run_of["tool"]["driver"]["rules"]]
+    expect(all(rules[one["ruleIndex"]] == one["ruleId"] for one in run_of["results"]), "the rules are %s" % rules)
+    found = [(one, one["locations"][0]["physicalLocation"]) for one in run_of["results"]]
+    return [(place["artifactLocation"]["uri"], one["ruleId"], one["level"], place["region"]["startLine"], place["region"]["startColumn"], place["region"]["endColumn"])
+            for one, place in found]
+
+
+def check_calls(steps, folder, path):
+    """The log has what is found of calls, with the steps of a loop and columns that count characters, and a file that can't be read."""
+    whole = folder / "calls"
+    whole.mkdir()
+    (whole / "a b.sh").write_text("echo '\u00e9'; sed ':a;ba' in\n")
+    words = {"paths": "a b.sh\nnone\n", "deny": "", "sarif": "../sedck.sarif"}
+    status, said = step(steps, "Write the log", whole, path, **words)
+    run_of = json.loads((folder / "sedck.sarif").read_text())["runs"][0]
+    due = [("a%20b.sh", "loop-idle", "error", 1, 16, 18), ("a%20b.sh", "label-to-the-line-end", "note", 1, 18, 21)]
+    expect(status == 0 and places_of(run_of) == due, "the log of a call: %d: %s %s" % (status, said, places_of(run_of)))
+    flow = run_of["results"][0]["codeFlows"][0]["threadFlows"][0]["locations"]
+    expect([one["location"]["physicalLocation"]["region"]["startColumn"] for one in flow] == [16, 19, 16], "the steps of a call are %s" % flow)
+    notes = [note for one in run_of["invocations"] for note in one["toolExecutionNotifications"]]
+    expect([note["locations"][0]["physicalLocation"]["artifactLocation"]["uri"] for note in notes] == ["none"], "what can't be read is %s" % notes)
 
 
 # ---- Editors
