@@ -127,9 +127,21 @@ def check_long_commands(tools):
     tools.same("a long command", (status, [line.split("`")[1] for line in notes]), (1, ["s/x/" + "y" * 36 + "..."] * 2))
 
 
+def check_commands_of_steps(tools):
+    """A step shows its command alone, with its addresses: of a script, of a call, and of a call in a file."""
+    for script, due in ((":a;/x;y/!ba", [":a", "/x;y/!ba", ":a"]), ("p;:b;1,3{$!bb\n}\n", [":b", "1,3{", "$!bb", ":b"]), ("# a;b\n:a\n s/;/x/ ; ba", [":a", "s/;/x/", "ba", ":a"])):
+        tools.write("v.sed", script.encode())
+        tools.write("v.sh", ("echo ';' ; sed -n '%s' in # x;y\n" % script).encode())
+        for words in (["v.sed"], ["--calls", "v.sh"], ["--sed", "--", "-n", script]):
+            status, report, _ = tools.explain("--format", "gcc", *words)
+            seen = re.findall(r": note: `(.*?)` ", report.decode())
+            tools.same("commands of %r, %s" % (script, words[0]), (status, seen), (1, due))
+
+
 def check(tools: Tools) -> None:
     """Compares what is listed."""
     check_levels(tools)
     check_long_loops(tools)
     check_what_matters(tools)
     check_long_commands(tools)
+    check_commands_of_steps(tools)

@@ -1,7 +1,7 @@
 //! One line for each finding, as compilers print them, for editors and continuous integration.
 
 use crate::letters::Letters;
-use crate::lines::{Shown, command_line, shown_of};
+use crate::lines::{Shown, command_line, commands_of, shown_of};
 use crate::listed::{is_listed, listed_steps};
 use crate::names::Names;
 use crate::words::{prefix, push_headline, push_left_out};
@@ -21,7 +21,8 @@ pub fn gcc_report(
     least: Level,
 ) -> Result<Vec<u8>, AllocError> {
     let mut out = Written::new(alloc);
-    let shown = shown_of(names, explanation, Letters::Ascii);
+    let commands = commands_of(alloc, explanation)?;
+    let shown = shown_of(names, explanation, &commands, Letters::Ascii);
     for finding in &explanation.findings {
         if is_listed(finding, least) {
             let place = prefix(alloc, names, finding.position)?;

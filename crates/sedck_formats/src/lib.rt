@@ -33,7 +33,7 @@ pub use counts::{Counts, ScriptCounts, assumed_line};
 pub use gcc::gcc_report;
 pub use json_line::{json_call, json_counts, json_place, json_report, json_unreadable};
 pub use letters::{Letters, line_in, mark_len};
-pub use lines::{LinePart, Shown, command_line, excerpt, length_of, shown_of};
+pub use lines::{LinePart, Shown, command_line, commands_of, excerpt, length_of, shown_of};
 pub use listed::{Stretch, is_listed, listed_steps};
 pub use names::{Names, PartName, Place};
 pub use plain::plain_report;

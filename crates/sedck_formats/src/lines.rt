@@ -3,9 +3,8 @@
 use crate::letters::{Letters, line_in, width_of};
 use crate::names::Names;
 use sedck_explanation::{Explanation, Finding, Position};
-use sedck_parts::{Place, Reading};
 use sedck_report::line_len;
-use sedck_script::Script;
+use sedck_script::{Location, Script, ScriptFault, locate};
 use std::alloc::{AllocError, Global};
 
 /// What stands for a part of a line that is left out.
@@ -16,23 +15,42 @@ const CUT: &str = "...";
 pub struct Shown<'a> {
     pub names: Names<'a>,
     pub text: &'a [u8],
-    /// Where its commands are.
+    /// Where its commands are in the text.
     pub positions: &'a [Position],
+    /// The script's own text: the text may be that of a file with a call.
+    pub source: &'a [u8],
+    /// Where its commands are in its own text.
+    pub commands: &'a [Location],
     /// The script, where it isn't refused.
     pub script: Option<&'a Script<'a>>,
     pub letters: Letters,
 }
 
-/// The script of what is explained, by these names.
+/// Where the commands of what is explained are in the script's own text; none where it is refused.
+pub fn commands_of(alloc: Global, explanation: &Explanation) -> Result<Vec<Location>, AllocError> {
+    if explanation.script.is_none() {
+        return Ok(Vec::new(alloc));
+    }
+    match locate(alloc, explanation.source) {
+        Ok(located) => Ok(located.locations),
+        Err(ScriptFault::OutOfMemory) => Err(AllocError),
+        Err(_) => Ok(Vec::new(alloc)),
+    }
+}
+
+/// The script of what is explained, by these names, with the places of its commands.
 pub fn shown_of<'a>(
     names: Names<'a>,
     explanation: &'a Explanation<'a>,
+    commands: &'a [Location],
     letters: Letters,
 ) -> Shown<'a> {
     Shown {
         names,
         text: explanation.text,
         positions: &explanation.positions,
+        source: explanation.source,
+        commands,
         script: explanation.script.as_ref(),
         letters,
     }
@@ -98,66 +116,18 @@ pub fn command_line(
     command: u16,
     limit: usize,
 ) -> Result<String, AllocError> {
-    let command = usize::from(command);
-    let Some(position) = shown.positions.get(command) else {
+    let Some(location) = shown.commands.get(usize::from(command)) else {
         return Ok(String::new(alloc));
     };
-    let before = command
-        .checked_sub(1)
-        .and_then(|before| shown.positions.get(before));
-    let from = before.map_or(0, |before| before.offset);
-    let start = start_of(shown.text, from, position.offset);
-    let end = position
-        .offset
-        .saturating_add(command_len(behind(shown.text, *position, limit)));
-    let bytes = shown.text.get(start..end).unwrap_or(&[]).trim_ascii();
+    let start = location.start.min(location.verb);
+    let whole = shown.source.get(start..location.end).unwrap_or(&[]);
+    let behind = location.verb.saturating_sub(start).saturating_add(limit);
+    let part = whole.get(..behind.saturating_add(1)).unwrap_or(whole);
+    let bytes = part[..line_len(part)].trim_ascii();
     let part = fitting_start(shown.letters, bytes, limit);
     let line = line_in(alloc, shown.letters, part)?;
     let back = cut_where(part.len() < bytes.len());
     format!(in alloc; "{line}{back}")
-}
-
-/// Where the command begins that has its verb at `verb`: behind what ends the one before it, whose verb is at `from`.
-fn start_of(text: &[u8], from: usize, verb: usize) -> usize {
-    let mut reading = Reading::SCRIPT;
-    let mut start = from;
-    for (index, byte) in text.get(from..verb).unwrap_or(&[]).iter().enumerate() {
-        let before = reading;
-        reading = reading.after(*byte);
-        if is_separator(before, reading, *byte) {
-            start = from.saturating_add(index).saturating_add(1);
-        }
-    }
-    start
-}
-
-/// The length of the command with its verb at the front, to what ends it in its line.
-fn command_len(line: &[u8]) -> usize {
-    let mut reading = Reading::SCRIPT;
-    for (index, byte) in line.iter().enumerate() {
-        let before = reading;
-        reading = reading.after(*byte);
-        if index > 0 && (reading.place == Place::Comment || is_separator(before, reading, *byte)) {
-            return index;
-        }
-        if *byte == b'{' && index == 0 {
-            return 1;
-        }
-    }
-    line.len()
-}
-
-/// Whether the byte between these readers separates commands.
-fn is_separator(before: Reading, behind: Reading, byte: u8) -> bool {
-    behind.place == Place::Command
-        && match byte {
-            b'\n' => true,
-            b';' | b'{' | b'}' => matches!(
-                before.place,
-                Place::Command | Place::Flags | Place::LabelBegin | Place::Label | Place::LabelEnd
-            ),
-            _ => false,
-        }
 }
 
 /// What precedes the position in its line.

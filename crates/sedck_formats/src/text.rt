@@ -2,7 +2,7 @@
 
 use crate::codes::page_of;
 use crate::letters::Letters;
-use crate::lines::{Shown, command_line, excerpt, length_of, shown_of};
+use crate::lines::{Shown, command_line, commands_of, excerpt, length_of, shown_of};
 use crate::listed::{is_listed, listed_steps};
 use crate::names::Names;
 use crate::summary::push_summary;
@@ -56,7 +56,8 @@ fn push_findings(
     least: Level,
     colour: bool,
 ) -> Result<(), AllocError> {
-    let shown = shown_of(names, explanation, Letters::Ascii);
+    let commands = commands_of(out.alloc(), explanation)?;
+    let shown = shown_of(names, explanation, &commands, Letters::Ascii);
     let mut pages: Vec<&str> = Vec::new(out.alloc());
     for finding in &explanation.findings {
         if is_listed(finding, least) {

@@ -6,8 +6,8 @@ use crate::runs::{Runs, runs_of};
 use sedck_explanation::{Explanation, Finding, Position};
 use sedck_flow::{Kind, Node};
 use sedck_formats::{
-    Letters, Names, Shown, Written, answer_word, command_line, excerpt, length_of, place_words,
-    shown_of,
+    Letters, Names, Shown, Written, answer_word, command_line, commands_of, excerpt, length_of,
+    place_words, shown_of,
 };
 use std::alloc::{AllocError, Global};
 
@@ -43,7 +43,8 @@ pub fn dot_report(
     let flow = flow_of(alloc, explanation)?;
     let arrows = arrows_of(alloc, &flow)?;
     let runs = runs_of(alloc, &arrows, explanation.positions.len())?;
-    let shown = shown_of(names, explanation, Letters::Ascii);
+    let commands = commands_of(alloc, explanation)?;
+    let shown = shown_of(names, explanation, &commands, Letters::Ascii);
     let mut out = Written::new(alloc);
     push_head(&mut out, names, explanation);
     if explanation.script.is_some() {

@@ -6,7 +6,7 @@ use crate::page_style::STYLE;
 use crate::tables::{push_files, push_jumps, push_ranks};
 use crate::top::push_top;
 use sedck_explanation::{Explanation, Level};
-use sedck_formats::{Letters, Names, VERSION, Written, answer_word, shown_of};
+use sedck_formats::{Letters, Names, VERSION, Written, answer_word, commands_of, shown_of};
 use std::alloc::{AllocError, Global};
 
 /// What precedes the title: no script and nothing from elsewhere is loaded.
@@ -30,7 +30,8 @@ pub fn html_report(
     explanation: &Explanation,
     least: Level,
 ) -> Result<Vec<u8>, AllocError> {
-    let shown = shown_of(names, explanation, Letters::Unicode);
+    let commands = commands_of(alloc, explanation)?;
+    let shown = shown_of(names, explanation, &commands, Letters::Unicode);
     let jumps = jumps_of(alloc, explanation)?;
     let mut out = Written::new(alloc);
     push_head(&mut out, names.whole(), answer_word(explanation));
