@@ -21,8 +21,9 @@ MARK = "the file begins with a byte order mark: save it without one"
 ANY_ADDRESS = "an address is a line number, `$`, or an expression between delimiters"
 ANY_FLAG = ("does the text have the delimiter? Then use another one, as in `s,a/b,c,`; the flags are `g`, `p`, a number, and `w` with a file "
             "name, each once")
-SKIPPED = "for `0~3d` write `n`, `n` and `d`; for `1~2d` write `$d`, `N` and `s/.*\\n//`; for `2~3d` put an `n` before these"
-STEPS = "for `0~3p` write `n`, `n` and `p`; for `2~5p` write `n`, `p`, `n`, `n` and `n`"
+SKIPPED = ("for `0~3d` alone in a script write `n`, `n` and `d`; for `1~2d` write `$d`, `N` and `s/.*\\n//`; for `2~3d` put an `n` before these, "
+           "and for `1~3d` after them")
+STEPS = "for `0~3p` alone in a script write `n`, `n` and `p`; for `2~5p` write `n`, `p`, `n`, `n` and `n`"
 GNU = "this extension of GNU sed has no equivalent in POSIX: do it outside the script"
 BYTE = "write the byte itself"
 WORD = ("match what is next to the word, with a command for each case: `/^WORD$/`, `/^WORD[^[:alnum:]_]/`, `/[^[:alnum:]_]WORD$/` and "
@@ -71,7 +72,13 @@ REFUSED = [
     (b"\xef\xbb\xbfp\n", 1, 1, "unknown-command", NO_VERB, MARK),
     (b"1p\n/x/\r\n", 2, 4, "unknown-command", NO_VERB, RETURN),
     (b"1,+2p\n", 1, 3, "bad-address", NO_ADDRESS, "for `6,+2` write `6,8`"),
-    (b"/a/,~4p\n", 1, 5, "bad-address", NO_ADDRESS, "for `addr,~n` count the lines with `n` or `N`"),
+    (b"/a/,~4p\n", 1, 5, "bad-address", NO_ADDRESS, GNU),
+    (b"1p;5,~4p\n", 1, 6, "bad-address", NO_ADDRESS, "for `5,~4` write `5,8`"),
+    (b"/a/,2~4p\n", 1, 6, "unknown-command", NO_VERB, None),
+    (b"0~4,5p\n", 1, 1, "bad-address", NO_ADDRESS, None),
+    (b"p;10~11!d\n", 1, 5, "unknown-command", NO_VERB,
+     "for `0~3!d` alone in a script write `$d`, `N`, `$d`, `N` and `s/.*\\n//`; for `1~3!d` write `n`, `$!N` and `d`"),
+    (b"12~11!d\n", 1, 3, "unknown-command", NO_VERB, None),
     (b"p\n0~3d\n", 2, 1, "bad-address", NO_ADDRESS, SKIPPED),
     (b"0,/x/s/x/y/\n", 1, 1, "bad-address", NO_ADDRESS,
      "for `0,/x/s/a/b/` alone in a script write `/x/{`, `s/a/b/`, `:rest`, `n`, `b rest`, `}` and once more `s/a/b/` on lines of their own, "

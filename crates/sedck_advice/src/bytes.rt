@@ -15,3 +15,10 @@ pub(crate) fn without_blanks(text: &[u8]) -> &[u8] {
     let start = text.iter().position(|byte| !is_blank(*byte));
     text.get(start.unwrap_or(text.len())..).unwrap_or(&[])
 }
+
+/// The byte after digits and blanks.
+pub(crate) fn verb_in(text: &[u8]) -> Option<u8> {
+    text.iter()
+        .find(|byte| !is_blank(**byte) && !byte.is_ascii_digit())
+        .copied()
+}

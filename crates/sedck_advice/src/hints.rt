@@ -1,8 +1,9 @@
 //! What to write in place of what is refused.
 
-use crate::bytes::{is_blank, without_blanks};
+use crate::bytes::{verb_in, without_blanks};
 use crate::escapes::escape_hint;
 use crate::misjudged::{is_misjudged, misjudged_hint};
+use crate::multiples::multiples_hint;
 use crate::spot::{Spot, behind_part};
 use sedck_bre::ReFault;
 use sedck_parts::{Place, Reading};
@@ -70,7 +71,7 @@ fn command_hint(spot: Spot) -> Option<&'static str> {
         return Some("a command is missing after the address");
     };
     match *first {
-        b'~' => Some(multiples_hint(spot.behind())),
+        b'~' => multiples_hint(spot.before, spot.behind()),
         b'\\' if spot.rest.get(1) == Some(&b'!') => Some("`!` needs no backslash here"),
         b'$' if spot.previous() == Some(b'$') => Some(
             "in a makefile `$$` becomes one `$`: write one, or check the script that the shell passes on",
@@ -93,6 +94,9 @@ fn quit_hint(spot: Spot) -> &'static str {
     }
 }
 
+const OUTSIDE: &str =
+    "this extension of GNU sed has no equivalent in POSIX: do it outside the script";
+
 /// By the byte in place of a verb.
 fn verb_hint(verb: u8) -> Option<&'static str> {
     match verb {
@@ -114,44 +118,31 @@ fn verb_hint(verb: u8) -> Option<&'static str> {
     }
 }
 
-/// By what follows the `~`.
-fn multiples_hint(behind: &[u8]) -> &'static str {
-    match verb_in(behind) {
-        Some(b'd') =>
-            "for `0~3d` write `n`, `n` and `d`; for `1~2d` write `$d`, `N` and `s/.*\\n//`; for `2~3d` put an `n` before these",
-        _ => "for `0~3p` write `n`, `n` and `p`; for `2~5p` write `n`, `p`, `n`, `n` and `n`",
-    }
-}
-
-/// The byte after digits and blanks.
-fn verb_in(text: &[u8]) -> Option<u8> {
-    text.iter()
-        .find(|byte| !is_blank(**byte) && !byte.is_ascii_digit())
-        .copied()
-}
-
 fn address_hint(spot: Spot) -> Option<&'static str> {
     match spot.rest.first() {
-        Some(b'0') => Some(zero_hint(spot.rest)),
+        Some(b'0') => zero_hint(spot.rest),
         Some(b'1'..=b'9') => Some("a line number is at most 4,294,967,295"),
         Some(b'+') => Some(following_hint(spot)),
-        Some(b'~') => Some("for `addr,~n` count the lines with `n` or `N`"),
+        Some(b'~') if follows_number(spot) => Some("for `5,~4` write `5,8`"),
+        Some(b'~') => Some(OUTSIDE),
         _ => Some("an address is a line number, `$`, or an expression between delimiters"),
     }
 }
 
 /// By what follows the `0`.
-fn zero_hint(rest: &[u8]) -> &'static str {
+fn zero_hint(rest: &[u8]) -> Option<&'static str> {
     if let Some(behind) = rest.strip_prefix(b"0~") {
-        return multiples_hint(behind);
+        return multiples_hint(b"0", behind);
     }
     if let Some(behind) = rest.strip_prefix(b"0,/") {
-        return first_match_hint(behind_part(behind, b'/'));
+        return Some(first_match_hint(behind_part(behind, b'/')));
     }
     if rest.starts_with(b"0r") {
-        return "`0r` is an extension of GNU sed: put the file before the input, as in `cat FILE - | sed ..`";
+        return Some(
+            "`0r` is an extension of GNU sed: put the file before the input, as in `cat FILE - | sed ..`",
+        );
     }
-    "lines are counted from 1"
+    Some("lines are counted from 1")
 }
 
 /// By what follows `0,/x/`.
@@ -166,11 +157,16 @@ fn first_match_hint(behind: &[u8]) -> &'static str {
     }
 }
 
+/// Whether a line number and a comma precede the fault.
+fn follows_number(spot: Spot) -> bool {
+    let start = spot.before.strip_suffix(b",").unwrap_or(&[]);
+    matches!(start.last(), Some(b'0'..=b'9'))
+}
+
 /// By what is around the `+`.
 fn following_hint(spot: Spot) -> &'static str {
     let behind = spot.behind();
-    let start = spot.before.strip_suffix(b",").unwrap_or(&[]);
-    if matches!(start.last(), Some(b'0'..=b'9')) {
+    if follows_number(spot) {
         return "for `6,+2` write `6,8`";
     }
     if behind.starts_with(b"0") && matches!(behind.get(1), Some(next) if !next.is_ascii_digit()) {
@@ -178,6 +174,8 @@ fn following_hint(spot: Spot) -> &'static str {
     }
     match verb_in(behind) {
         Some(b'd') => "for `/x/,+2d` write `/x/{`, `$!N`, `$!N`, `d` and `}` on lines of their own",
+        Some(b'!') =>
+            "for `/x/,+2!d` alone in a script write `/x/{`, `n`, `n`, `b`, `}` and `d` on lines of their own",
         _ =>
             "for `/x/,+2p` alone in a script write `/x/{`, `p`, `n`, `p`, `n`, `p` and `}` on lines of their own; for `d` write `$!N` twice and one `d`",
     }

@@ -22,6 +22,7 @@ mod locale;
 mod looks;
 mod mends;
 mod misjudged;
+mod multiples;
 mod names;
 mod paths;
 mod references;
