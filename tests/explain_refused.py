@@ -32,11 +32,13 @@ GROUPS = ("no escape of POSIX means an end of a word: match the byte next to it 
           "other numbers, and `&` has that byte too")
 ENDS = "for the ends of the pattern space write `^` and `$`"
 OTHER_BYTE = "write the character without the backslash, or in a bracket list, as in `[%]`"
+NO_BRACKET = "a list ends with a `]`; for the bracket itself write `\\[`"
 BRACKET = ("a delimiter in a bracket list ends the expression: use another one, as in `s,[/],x,` or `\\,[/],p`; in `[\\/]` some seds keep the "
            "backslash")
 REVERSED = "the ends of the range are the wrong way round: the one with the lower byte comes first, as in `[a-z]`"
 LONGER = "write a longer repetition as two, as in `a\\{255\\}a\\{45\\}`"
 GROUP = "a group is written `\\(` and `\\)`; literal parentheses are `(` and `)`"
+CLOSED = "a group is written `\\(` and `\\)`, and it is closed before a reference to it"
 EACH = "for `/a\\|b/p` write `/a/b do`, `/b/b do`, `b on`, `:do`, `p` and `:on` on lines of their own"
 AGAIN = "a group may be repeated again, as in `\\(a\\{2\\}\\)*`"
 DELIMITED = "end each part with the delimiter, on the same line: `s/a/b/`; a newline, a backslash or a byte above 127 can't be the delimiter"
@@ -159,6 +161,7 @@ REFUSED = [
     (b"/\\x41/p\n", 1, 2, "bad-escape", NO_ESCAPE, BYTE),
     (b"/\\q/p\n", 1, 2, "bad-escape", NO_ESCAPE, OTHER_BYTE),
     (b"s/[/]/x/\n", 1, 3, "unclosed-bracket", "the bracket list isn't closed before the delimiter", BRACKET),
+    (b"s/a[b/x/\ns/]//\n", 1, 4, "unclosed-bracket", "the bracket list isn't closed before the delimiter", NO_BRACKET),
     (b"s/[z-a]/x/\n", 1, 4, "bad-bracket", "invalid range, class or hyphen in a bracket list, or an element that seds read differently", REVERSED),
     (b"s/[^[:cntrl:]\x01-\xff]/x/\n", 1, 3, "empty-set", "the bracket list matches nothing", None),
     (b"s/\\(a/x/\n", 1, 3, "unclosed-group", "this group isn't closed", GROUP),
@@ -168,9 +171,9 @@ REFUSED = [
     (b"s/\\{2\\}/x/\n", 1, 3, "nothing-to-repeat", "there is nothing before this interval to repeat",
      "for a literal brace write `{`; else put what is to be repeated before it"),
     (b"s/a*\\{2\\}/x/\n", 1, 5, "double-repeat", "this is already repeated, and can't be repeated again", AGAIN),
-    (b"s/\\1/x/\n", 1, 3, "bad-reference", "no group with this number is closed before this reference", None),
-    (b"s/\\(a\\1\\)/x/\n", 1, 6, "bad-reference", "no group with this number is closed before this reference", None),
-    (b"s/\\(a\\)\\2\\(b\\)/x/\n", 1, 8, "bad-reference", "no group with this number is closed before this reference", None),
+    (b"s/\\1/x/\n", 1, 3, "bad-reference", "no group with this number is closed before this reference", CLOSED),
+    (b"s/\\(a\\1\\)/x/\n", 1, 6, "bad-reference", "no group with this number is closed before this reference", CLOSED),
+    (b"s/\\(a\\)\\2\\(b\\)/x/\n", 1, 8, "bad-reference", "no group with this number is closed before this reference", CLOSED),
     (b"s/\\(a\\)*\\(b\\)\\2/x/\n", 1, 14, "bad-reference", REFERENCE, NO_GROUP),
     (b"s,\\(\\(\\,\\)\\2\\)\\1,x,\n", 1, 11, "bad-reference", REFERENCE, NO_GROUP),
     (b"/x/,/[\\(]\\(a*\\)\\1*/p\n", 1, 16, "bad-reference", REFERENCE, NO_GROUP),

@@ -197,6 +197,9 @@ fn expression_hint(fault: ReFault, spot: Spot) -> Option<&'static str> {
         ReFault::UnclosedGroup { .. } | ReFault::UnopenedGroup { .. } => {
             Some("a group is written `\\(` and `\\)`; literal parentheses are `(` and `)`")
         }
+        ReFault::BadReference { .. } => Some(
+            "a group is written `\\(` and `\\)`, and it is closed before a reference to it",
+        ),
         _ => None,
     }
 }
@@ -224,12 +227,21 @@ fn begins_class(bytes: &[u8]) -> bool {
     bytes.starts_with(b"[") && matches!(bytes.get(1), Some(b'.' | b':' | b'='))
 }
 
-/// Where a list isn't closed: the delimiter ends it, or it has the beginning of a class or a symbol.
+/// Where a list isn't closed: nothing on its line ends it, the delimiter does, or it has the beginning of a class or a symbol.
 fn unclosed_hint(spot: Spot) -> &'static str {
+    if !has_bracket(spot.rest) {
+        return "a list ends with a `]`; for the bracket itself write `\\[`";
+    }
     if has_open_class(spot) {
         return "in a bracket list `[.`, `[=` and `[:` begin a symbol or a class: put the `[` last, as in `[].*[]`";
     }
     "a delimiter in a bracket list ends the expression: use another one, as in `s,[/],x,` or `\\,[/],p`; in `[\\/]` some seds keep the backslash"
+}
+
+/// Whether a `]` is on the line.
+fn has_bracket(rest: &[u8]) -> bool {
+    let line = rest.split(|byte| *byte == b'\n').next().unwrap_or(rest);
+    line.contains(&b']')
 }
 
 /// By an invalid element.
