@@ -162,6 +162,7 @@ REFUSED = [
     (b"/\\q/p\n", 1, 2, "bad-escape", NO_ESCAPE, OTHER_BYTE),
     (b"s/[/]/x/\n", 1, 3, "unclosed-bracket", "the bracket list isn't closed before the delimiter", BRACKET),
     (b"s/a[b/x/\ns/]//\n", 1, 4, "unclosed-bracket", "the bracket list isn't closed before the delimiter", NO_BRACKET),
+    (b"/a[[:<:]]/p\n", 1, 4, "bad-bracket", "invalid range, class or hyphen in a bracket list, or an element that seds read differently", WORD),
     (b"s/[z-a]/x/\n", 1, 4, "bad-bracket", "invalid range, class or hyphen in a bracket list, or an element that seds read differently", REVERSED),
     (b"s/[^[:cntrl:]\x01-\xff]/x/\n", 1, 3, "empty-set", "the bracket list matches nothing", None),
     (b"s/\\(a/x/\n", 1, 3, "unclosed-group", "this group isn't closed", GROUP),

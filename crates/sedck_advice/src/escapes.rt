@@ -109,15 +109,14 @@ fn group_bar_hint(spot: Spot) -> &'static str {
 }
 
 /// Whether the expression is that of an `s`.
-fn is_replaced(spot: Spot) -> bool {
+pub(crate) fn is_replaced(spot: Spot) -> bool {
     matches!(spot.purpose(), Purpose::Replaces | Purpose::ReplacesAll)
 }
 
 /// For `\b`, `\<` and `\>`.
 fn word_hint(spot: Spot) -> &'static str {
     if !is_replaced(spot) {
-        return "match what is next to the word, with a command for each case: `/^WORD$/`, `/^WORD[^[:alnum:]_]/`, `/[^[:alnum:]_]WORD$/` and \
-            `/[^[:alnum:]_]WORD[^[:alnum:]_]/`";
+        return NEXT_TO_WORD;
     }
     let begins = has_one_end(spot) && spot.begins();
     let ends = has_one_end(spot) && spot.rest.get(2) == Some(&spot.delimiter());
@@ -140,7 +139,11 @@ fn word_hint(spot: Spot) -> &'static str {
     }
 }
 
-const GROUPS: &str =
+pub(crate) const NEXT_TO_WORD: &str =
+    "match what is next to the word, with a command for each case: `/^WORD$/`, `/^WORD[^[:alnum:]_]/`, `/[^[:alnum:]_]WORD$/` and \
+        `/[^[:alnum:]_]WORD[^[:alnum:]_]/`";
+
+pub(crate) const GROUPS: &str =
     "no escape of POSIX means an end of a word: match the byte next to it as a group of its own, after which the groups of WORD have other numbers, \
         and `&` has that byte too";
 
@@ -165,7 +168,7 @@ fn inner_hint(spot: Spot) -> &'static str {
 
 /// What of a match an `s` copies, which a group of a mend changes.
 #[derive(Clone, Copy)]
-enum Copies {
+pub(crate) enum Copies {
     Nothing,
     /// `&`.
     Whole,
@@ -173,7 +176,7 @@ enum Copies {
     Groups,
 }
 
-fn copies_in(spot: Spot) -> Copies {
+pub(crate) fn copies_in(spot: Spot) -> Copies {
     let behind = behind_part(spot.rest, spot.delimiter());
     let length = spot.rest.len().saturating_sub(behind.len());
     let expression = spot.rest.get(..length).unwrap_or(&[]);

@@ -1,6 +1,7 @@
 //! What to write in place of what is refused.
 
 use crate::bytes::{verb_in, without_blanks};
+use crate::edges::{edge_hint, is_edge};
 use crate::escapes::escape_hint;
 use crate::misjudged::{is_misjudged, misjudged_hint};
 use crate::multiples::multiples_hint;
@@ -188,6 +189,7 @@ fn expression_hint(fault: ReFault, spot: Spot) -> Option<&'static str> {
     match fault {
         ReFault::BadEscape { .. } => Some(escape_hint(spot)),
         ReFault::UnclosedBracket { .. } => Some(unclosed_hint(spot)),
+        ReFault::BadBracket { .. } if is_edge(spot.rest) => Some(edge_hint(spot)),
         ReFault::BadBracket { .. } => Some(element_hint(spot.rest)),
         ReFault::BadInterval { .. } => Some(interval_hint(spot)),
         ReFault::NothingToRepeat { .. } => Some(

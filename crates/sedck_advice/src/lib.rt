@@ -11,6 +11,7 @@ mod bytes;
 mod characters;
 mod comments;
 mod doubts;
+mod edges;
 mod escapes;
 mod extended;
 mod foreign;
