@@ -39,6 +39,7 @@ REVERSED = "the ends of the range are the wrong way round: the one with the lowe
 LONGER = "write a longer repetition as two, as in `a\\{255\\}a\\{45\\}`"
 GROUP = "a group is written `\\(` and `\\)`; literal parentheses are `(` and `)`"
 CLOSED = "a group is written `\\(` and `\\)`, and it is closed before a reference to it"
+QUOTED = "`'\\''` is how the shell writes one `'` in its quotes: write `'`"
 EACH = "for `/a\\|b/p` write `/a/b do`, `/b/b do`, `b on`, `:do`, `p` and `:on` on lines of their own"
 AGAIN = "a group may be repeated again, as in `\\(a\\{2\\}\\)*`"
 DELIMITED = "end each part with the delimiter, on the same line: `s/a/b/`; a newline, a backslash or a byte above 127 can't be the delimiter"
@@ -67,7 +68,16 @@ REFUSED = [
     (b"F\n", 1, 1, "unknown-command", NO_VERB, GNU),
     (b"p;R x\n", 1, 3, "unknown-command", NO_VERB, GNU),
     (b"p;v\n", 1, 3, "unknown-command", NO_VERB, "`v` requires a version of GNU sed: leave it out"),
-    (b"W x\n", 1, 1, "unknown-command", NO_VERB, GNU),
+    (b"W x\n", 1, 1, "unknown-command", NO_VERB,
+     "for `W out` write `h`, `s/\\n.*//`, `w out` and `g`, if nothing needs the hold space; the `s` sets the flag that `t` tests"),
+    (b":b\nT\nb b\n", 2, 1, "unknown-command", NO_VERB, "for `T end`, `b again` and `:end` write `t again`"),
+    (b"p\n Q", 2, 2, "unknown-command", NO_VERB,
+     "for `/x/Q` write `/x/,$d`; for `Q` without an address, as in a block, write `:end`, `$d`, `N`, `s/.*\\n//` and `b end` on lines of their own"),
+    (b"p;Q1\n", 1, 3, "unknown-command", NO_VERB,
+     "for `/x/Q` write `/x/,$d`; for `Q` without an address, as in a block, write `:end`, `$d`, `N`, `s/.*\\n//` and `b end` on lines of their own; "
+     "the status is then 0, since no command of POSIX gives another one"),
+    (b"/x/M!p\n", 1, 4, "unknown-command", NO_VERB,
+     "`^` and `$` match only at the ends of the pattern space: match `\\n` instead; where that is one line leave `M` out"),
     (b"k\n", 1, 1, "unknown-command", NO_VERB, None),
     (b"-n p\n", 1, 1, "unknown-command", NO_VERB, "an option of sed is no part of a script: give it to sed itself"),
     (b"p;1", 1, 4, "unknown-command", NO_VERB, "a command is missing after the address"),
@@ -99,7 +109,9 @@ REFUSED = [
     (b"s/a/\\q/\n", 1, 5, "bad-replacement", NO_PART, "write the character without the backslash"),
     (b"s/a/b/I\n", 1, 7, "bad-flag", NO_FLAG, "for `s/hello/x/I` write `s/[hH][eE][lL][lL][oO]/x/`"),
     (b"s/a/b/e\n", 1, 7, "bad-flag", NO_FLAG, "POSIX sed can't run other programs: do it outside the script"),
-    (b"s/a/b/gM\n", 1, 8, "bad-flag", NO_FLAG, "`^` and `$` match only at the ends of the pattern space: match `\\n` instead"),
+    (b"s/a/b/gM\n", 1, 8, "bad-flag", NO_FLAG,
+     "`^` and `$` match only at the ends of the pattern space: match `\\n` instead; where that is one line leave `M` out"),
+    (b"s/a/b/'\n", 1, 7, "bad-flag", NO_FLAG, "quotes belong to the shell: leave them out of the script"),
     (b"s/a/b/0\n", 1, 7, "bad-flag", NO_FLAG, "matches are counted from 1"),
     (b"s/a/b/4294967296\n", 1, 7, "bad-flag", NO_FLAG, "give only one number among the flags, of at most 4,294,967,295"),
     (b"s/a/b/gg\n", 1, 8, "bad-flag", NO_FLAG, ANY_FLAG),
@@ -158,6 +170,7 @@ REFUSED = [
     (b"s/\\Ba/x/g\n", 1, 3, "bad-escape", NO_ESCAPE, GROUPS),
     (b"/\\`a/p\n", 1, 2, "bad-escape", NO_ESCAPE, ENDS),
     (b"/a\\'/p\n", 1, 3, "bad-escape", NO_ESCAPE, ENDS),
+    (b"/a'\\''/p\n", 1, 4, "bad-escape", NO_ESCAPE, QUOTED),
     (b"/\\x41/p\n", 1, 2, "bad-escape", NO_ESCAPE, BYTE),
     (b"/\\q/p\n", 1, 2, "bad-escape", NO_ESCAPE, OTHER_BYTE),
     (b"s/[/]/x/\n", 1, 3, "unclosed-bracket", "the bracket list isn't closed before the delimiter", BRACKET),

@@ -13,7 +13,8 @@ from refusals import NEXT_LINE_RANKS
 REPORTS = [
     (NEXT_LINE, 0, b""),
     (b"p;q9", 2, b"f:1:4: error: unexpected text after a command [extra-text]\n"
-     b"f:1:4: note: hint: an exit status of `q` and a width of `l` are extensions of GNU sed: leave them out\n"),
+     b"f:1:4: note: hint: an exit status of `q` is an extension of GNU sed: without it the status is 0, so look for the line outside the script, as "
+     b"with `grep`\n"),
     (b"b z", 2, b"f:1:3: error: this label isn't defined, and the script has none [unknown-label]\n"),
     (b"w /x", 0, b"f:1:1: warning: this writes \"/x\": it is an absolute path [absolute-name]\n"),
 ]

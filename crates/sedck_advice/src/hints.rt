@@ -15,6 +15,9 @@ pub fn script_hint(fault: ScriptFault, spot: Spot) -> Option<&'static str> {
     if let Some(hint) = file_hint(spot.rest) {
         return Some(hint);
     }
+    if spot.rest.starts_with(b"\\''") && spot.before.ends_with(b"'") {
+        return Some("`'\\''` is how the shell writes one `'` in its quotes: write `'`");
+    }
     match fault {
         ScriptFault::UnknownCommand { .. } => command_hint(spot),
         ScriptFault::BadAddress { .. } => address_hint(spot),
@@ -78,25 +81,63 @@ fn command_hint(spot: Spot) -> Option<&'static str> {
             "in a makefile `$$` becomes one `$`: write one, or check the script that the shell passes on",
         ),
         b'Q' => Some(quit_hint(spot)),
+        b'T' if is_turned_test(spot) => Some("for `T end`, `b again` and `:end` write `t again`"),
         verb => verb_hint(verb),
     }
 }
 
 /// In place of `Q`, which may have an exit status.
 fn quit_hint(spot: Spot) -> &'static str {
-    let is_negated = spot.previous() == Some(b'!');
     let has_status = matches!(without_blanks(spot.behind()).first(), Some(b'0'..=b'9'));
-    match (is_negated, has_status) {
-        (false, false) => "for `/x/Q` write `/x/,$d`",
-        (false, true) =>
-            "for `/x/Q` write `/x/,$d`; no command of POSIX gives an exit status: look for the line outside the script, as with `grep`",
-        (true, _) =>
+    match (spot.previous(), has_status) {
+        (Some(b'!'), false) =>
             "for `/x/!Q` write `/x/!{`, `:end`, `$d`, `N`, `s/.*\\n//`, `b end` and `}` on lines of their own",
+        (Some(b'!'), true) =>
+            "for `/x/!Q` write `/x/!{`, `:end`, `$d`, `N`, `s/.*\\n//`, `b end` and `}` on lines of their own; the status is then 0, since no \
+                command of POSIX gives another one",
+        (None | Some(b'{' | b'}' | b';' | b'\n'), false) =>
+            "for `/x/Q` write `/x/,$d`; for `Q` without an address, as in a block, write `:end`, `$d`, `N`, `s/.*\\n//` and `b end` on lines of their own",
+        (None | Some(b'{' | b'}' | b';' | b'\n'), true) =>
+            "for `/x/Q` write `/x/,$d`; for `Q` without an address, as in a block, write `:end`, `$d`, `N`, `s/.*\\n//` and `b end` on lines of their \
+                own; the status is then 0, since no command of POSIX gives another one",
+        (_, false) => "for `/x/Q` write `/x/,$d`",
+        (_, true) =>
+            "for `/x/Q` write `/x/,$d`; no command of POSIX gives an exit status: look for the line outside the script, as with `grep`",
     }
 }
 
 const OUTSIDE: &str =
     "this extension of GNU sed has no equivalent in POSIX: do it outside the script";
+
+const LINES: &str =
+    "`^` and `$` match only at the ends of the pattern space: match `\\n` instead; where that is one line leave `M` out";
+
+const QUOTES: &str = "quotes belong to the shell: leave them out of the script";
+
+/// Whether the `T` and the `b` behind it are one `t`: neither has an address, and the `T` leads right behind the `b`.
+fn is_turned_test(spot: Spot) -> bool {
+    let mut commands = spot.rest.split(ends_command);
+    let test = commands.next().unwrap_or(&[]);
+    let branch = without_blanks(commands.next().unwrap_or(&[]));
+    let label = without_blanks(commands.next().unwrap_or(&[]));
+    let more = commands.next();
+    let wanted = without_blanks(test.get(1..).unwrap_or(&[]));
+    let found = match label.strip_prefix(b":") {
+        Some(found) => without_blanks(found),
+        None => label,
+    };
+    let is_behind = found == wanted && (!wanted.is_empty() || more.is_none());
+    has_no_address(spot) && branch.starts_with(b"b") && is_behind
+}
+
+fn ends_command(byte: &u8) -> bool {
+    matches!(*byte, b';' | b'\n')
+}
+
+/// Whether nothing is before the command in its line or block, or only another command.
+fn has_no_address(spot: Spot) -> bool {
+    matches!(spot.previous(), None | Some(b'{' | b'}' | b';' | b'\n'))
+}
 
 /// By the byte in place of a verb.
 fn verb_hint(verb: u8) -> Option<&'static str> {
@@ -106,12 +147,14 @@ fn verb_hint(verb: u8) -> Option<&'static str> {
         ),
         b'z' => Some("for `z` write `s/.*//`, which sets the flag that `t` tests"),
         b'I' => Some("for `/hello/I` write `/[hH][eE][lL][lL][oO]/`"),
+        b'M' => Some(LINES),
         b'e' => Some("POSIX sed can't run other programs: do it outside the script"),
         b'v' => Some("`v` requires a version of GNU sed: leave it out"),
-        b'F' | b'R' | b'W' => Some(
-            "this extension of GNU sed has no equivalent in POSIX: do it outside the script",
+        b'W' => Some(
+            "for `W out` write `h`, `s/\\n.*//`, `w out` and `g`, if nothing needs the hold space; the `s` sets the flag that `t` tests",
         ),
-        b'"' | b'\'' => Some("quotes belong to the shell: leave them out of the script"),
+        b'F' | b'R' => Some(OUTSIDE),
+        b'"' | b'\'' => Some(QUOTES),
         b',' => Some("a command has at most two addresses"),
         b'-' => Some("an option of sed is no part of a script: give it to sed itself"),
         b'\n' | b';' | b'}' => Some("a command is missing after the address"),
@@ -365,9 +408,8 @@ fn flag_hint(rest: &[u8]) -> Option<&'static str> {
     match rest.first() {
         Some(b'I' | b'i') => Some("for `s/hello/x/I` write `s/[hH][eE][lL][lL][oO]/x/`"),
         Some(b'e') => Some("POSIX sed can't run other programs: do it outside the script"),
-        Some(b'm' | b'M') => Some(
-            "`^` and `$` match only at the ends of the pattern space: match `\\n` instead",
-        ),
+        Some(b'm' | b'M') => Some(LINES),
+        Some(b'"' | b'\'') => Some(QUOTES),
         Some(b'0') => Some("matches are counted from 1"),
         Some(b'1'..=b'9') => Some("give only one number among the flags, of at most 4,294,967,295"),
         _ => Some(
@@ -441,7 +483,9 @@ fn end_hint(spot: Spot) -> &'static str {
             "`y` takes no flags, and always replaces every character: leave it out",
         (Place::Label | Place::LabelEnd, _) =>
             "a label can't contain blanks: write `:two_words`, and the same after `b` and `t`; a command follows a `;` or a newline",
-        (_, Some(b'0'..=b'9')) if matches!(spot.previous(), Some(b'q' | b'l' | b'L')) => {
+        (_, Some(b'0'..=b'9')) if spot.previous() == Some(b'q') =>
+            "an exit status of `q` is an extension of GNU sed: without it the status is 0, so look for the line outside the script, as with `grep`",
+        (_, Some(b'0'..=b'9')) if matches!(spot.previous(), Some(b'l' | b'L')) => {
             "an exit status of `q` and a width of `l` are extensions of GNU sed: leave them out"
         }
         _ => "end each command with a newline or a `;`",
