@@ -228,6 +228,7 @@ COMMANDS = [
         due=("its\n", "its\n", "it\n"), wrong=("s/it'$'s/its/\n",)),
     Row("dollar of make", "$$s/,$$//\n", "in a makefile `$$`", "$s/,$//\n", ("a,\nb,\n", "a\n", ",\n"), due=("a,\nb\n", "a\n", "\n")),
     Row("text with a backslash", "1a\\\\-x\n", "write `a\\`, a newline and the text", "1a\\\n-x\n", ("a\nb\n", "\n", "x\n")),
+    Row("text with a backslash before the line", "1i\\\\-x\n", "write `i\\`, a newline and the text", "1i\\\n-x\n", ("a\nb\n", "\n", "x\n")),
     Row("label of two words", "s/a/b/\nt\n:two words\ns/b/c/\n", "a label can't contain blanks", "s/a/b/\nt\n:two_words\ns/b/c/\n",
         ("a\n", "b\n", "aa\n"), due=("b\n", "c\n", "ba\n")),
     Row("branch to two words", "s/a/b/\nt two words\ns/b/c/\n:two words\n", "a label can't contain blanks", "s/a/b/\nt two_words\ns/b/c/\n:two_words\n",

@@ -441,12 +441,23 @@ pub fn has_escaped_text(rest: &[u8]) -> bool {
 fn text_hint(rest: &[u8]) -> &'static str {
     let text = without_blanks(rest.get(1..).unwrap_or(&[]));
     let Some(behind) = text.strip_prefix(b"\\") else {
-        return "write `a\\` and the text on the next line";
+        return match rest.first() {
+            Some(b'c') => "write `c\\` and the text on the next line",
+            Some(b'i') => "write `i\\` and the text on the next line",
+            _ => "write `a\\` and the text on the next line",
+        };
     };
     if behind.strip_prefix(b"\n").unwrap_or(behind).is_empty() {
         return "`$a\\` adds a missing last newline, but only in GNU sed: add it before sed; for a text write `a\\` and the text on the next line";
     }
-    "seds differ on a text that begins with a backslash: write `a\\`, a newline and the text"
+    match rest.first() {
+        Some(b'c') =>
+            "seds differ on a text that begins with a backslash: write `c\\`, a newline and the text",
+        Some(b'i') =>
+            "seds differ on a text that begins with a backslash: write `i\\`, a newline and the text",
+        _ =>
+            "seds differ on a text that begins with a backslash: write `a\\`, a newline and the text",
+    }
 }
 
 /// Whether braces are next, after blanks or none, and a comment right after them.

@@ -169,9 +169,18 @@ fn text_look(text: &[u8], location: Location) -> Option<Look> {
         end: None,
         code: Code::OneLineText,
         message,
-        hint: "write `a\\`, a newline and the text",
+        hint: standing_text(text.get(location.verb)),
         fix: None,
     })
+}
+
+/// How the text of this verb is written on a line of its own.
+fn standing_text(verb: Option<&u8>) -> &'static str {
+    match verb {
+        Some(b'c') => "write `c\\`, a newline and the text",
+        Some(b'i') => "write `i\\`, a newline and the text",
+        _ => "write `a\\`, a newline and the text",
+    }
 }
 
 /// What is said of a sign of an extended expression.
