@@ -1,5 +1,6 @@
 //! What to write in place of an escape of an expression that is refused.
 
+use crate::bytes::without_blanks;
 use crate::spot::{Purpose, Spot, behind_part};
 use sedck_parts::Reading;
 
@@ -96,16 +97,60 @@ fn bar_hint(spot: Spot) -> &'static str {
 
 /// For `\|` in a group.
 fn group_bar_hint(spot: Spot) -> &'static str {
-    if is_replaced(spot) && spot.inside().ends_with(b"\\(^") {
+    let is_first = is_replaced(spot) && spot.inside().ends_with(b"\\(^");
+    if is_first && is_tested(spot) {
+        return tested_start_hint(spot);
+    }
+    if is_first {
         return "for `s/\\(^\\|,\\)a/\\1b/` write `s/^/\\n/`, `s/\\([\\n,]\\)a/\\1b/` and `s/^\\n//`, if the pattern space is one line and doesn't \
             begin with both, a match of `a` and one of `,a`; a list such as `[^0-9]` has the newline already; the first `s` sets the flag that `t` tests";
     }
-    if is_replaced(spot) && spot.rest.starts_with(b"\\|$\\)") {
+    let is_last = is_replaced(spot) && spot.rest.starts_with(b"\\|$\\)");
+    if is_last && is_tested(spot) {
+        return tested_end_hint(spot);
+    }
+    if is_last {
         return "for `s/a\\(,\\|$\\)/b\\1/` write `s/$/\\n/`, `s/a\\([\\n,]\\)/b\\1/` and `s/\\n$//`, if the pattern space is one line; a list such as \
             `[^0-9]` has the newline already; the first `s` sets the flag that `t` tests";
     }
     "write `\\([ab]\\)` for `\\(a\\|b\\)`, `\\(64\\)\\{0,1\\}` for `\\(\\|64\\)` and `\\(\\.[ch]\\)` for `\\(\\.c\\|\\.h\\)`; otherwise write one \
         command for each alternative, if no line has a match of two of them"
+}
+
+/// For `\(^\|` before a `t`, whose flag an `s` more would set.
+fn tested_start_hint(spot: Spot) -> &'static str {
+    if follows_label(spot) && replacement_of(spot).starts_with(b"\\1") {
+        return "for `s/\\(^\\|,\\)a/\\1b/` in a loop write `s/^/\\n/` before the loop, `s/\\([\\n,]\\)a/\\1b/` in it and `s/^\\n//` after it, if the \
+            pattern space is one line and doesn't begin with both, a match of `a` and one of `,a`; a list such as `[^0-9]` has the newline already; the \
+            last `s` sets the flag that `t` tests";
+    }
+    "for `s/\\(^\\|,\\)a/b/` and `t end` write `s/^a/b/`, `t end`, `s/,a/b/` and `t end`, if the pattern space doesn't begin with both, a match of `a` and \
+        one of `,a`"
+}
+
+/// For `\|$\)` before a `t`.
+fn tested_end_hint(spot: Spot) -> &'static str {
+    if follows_label(spot) && replacement_of(spot).ends_with(b"\\1") {
+        return "for `s/a\\(,\\|$\\)/b\\1/` in a loop write `s/$/\\n/` before the loop, `s/a\\([\\n,]\\)/b\\1/` in it and `s/\\n$//` after it, if the \
+            pattern space is one line; a list such as `[^0-9]` has the newline already; the last `s` sets the flag that `t` tests";
+    }
+    "for `s/a\\(,\\|$\\)/b/` and `t end` write `s/a,/b/`, `t end`, `s/a$/b/` and `t end`, if no match of one overlaps one of the other"
+}
+
+/// Whether a label precedes the fault, so that the `t` behind it may lead back.
+fn follows_label(spot: Spot) -> bool {
+    spot.before
+        .split(|byte| matches!(*byte, b';' | b'\n'))
+        .any(|command| without_blanks(command).starts_with(b":"))
+}
+
+/// Whether a `t` comes right after the `s` whose expression has the fault.
+fn is_tested(spot: Spot) -> bool {
+    let behind = behind_part(spot.rest, spot.delimiter());
+    let flags = behind_part(behind, spot.delimiter());
+    let end = flags.iter().position(|byte| matches!(*byte, b';' | b'\n'));
+    let start = end.unwrap_or(flags.len()).saturating_add(1);
+    without_blanks(flags.get(start..).unwrap_or(&[])).starts_with(b"t")
 }
 
 /// Whether the expression is that of an `s`.
