@@ -10,7 +10,7 @@ use crate::steps::{position_of, step, target_step};
 use sedck_cert::{Cert, Limits, first_growth};
 use sedck_flow::{Edge, Kind, Node};
 use sedck_report::{Code, Finding, Level, Position, Step};
-use sedck_script::{Part, Pattern, Script, Substitution, Verb};
+use sedck_script::{Address, Part, Pattern, Script, Substitution, Verb};
 use sedck_search::{Form, Walk};
 use std::alloc::{AllocError, Global};
 
@@ -105,8 +105,11 @@ fn loop_hint(script: &Script, walk: &Walk) -> &'static str {
         return test_hint(script, walk);
     }
     match walk.form {
-        Form::Growing if restarts(script, walk) => restart_hint(script, walk),
         Form::Growing => "repeat the command as often as it may be needed, without the loop",
+        Form::Idle
+            if has_verb(script, walk, VerbForm::Substituting) && has_condition(script, walk) =>
+            "if the `s` has the expression that leads back, as in `s/x/y/` and `/x/b a`, write `t a` in place of that branch; else make each round read \
+                a line, or write the commands out a fixed number of times",
         Form::Idle =>
             "make each round read a line, with `n`, `N` or `d`, or shorten the pattern space; or write the commands out a fixed number of times",
     }
@@ -123,6 +126,10 @@ fn reading_hint(script: &Script, walk: &Walk) -> &'static str {
 
 /// How loops are repaired in which `D` starts again without a line, and something was added before.
 fn restart_hint(script: &Script, walk: &Walk) -> &'static str {
+    if has_verb(script, walk, VerbForm::Padding) {
+        return "`D` starts again without reading a line: if the `s` splits a line, let it put in all newlines at once: for `s/X/&\\n/`, `P` and `D` write \
+            `s/X/&\\n/g`, and then `s/\\n$//` if the end of a line isn't to be split";
+    }
     if has_verb(script, walk, VerbForm::Substituting) {
         return "`D` starts again without reading a line: if the `s` splits a line, let it put in all newlines at once, as docs/MENDING.md folds \
             lines; else write `d` for `D`, if nothing after the newline is needed";
@@ -151,6 +158,9 @@ fn growth_hint(script: &Script, walk: &Walk) -> Option<&'static str> {
             "each round may copy what it matches, so don't write it out many times: the pattern space could double each time; move bytes instead of \
                 copying them, as docs/MENDING.md reverses a line",
         );
+    }
+    if restarts(script, walk) && !has_verb(script, walk, VerbForm::Testing) {
+        return Some(restart_hint(script, walk));
     }
     if has_verb(script, walk, VerbForm::Padding) {
         return Some(
@@ -219,6 +229,19 @@ fn test_hint(script: &Script, walk: &Walk) -> &'static str {
         _ =>
             "repeat the command as often as it may be needed, and then write `t c` and `:c`, since the loop leaves the flag of `t` unset",
     }
+}
+
+/// Whether an address decides on a branch of the loop.
+fn has_condition(script: &Script, walk: &Walk) -> bool {
+    for node in &walk.nodes {
+        if let Some(command) = script.commands().get(usize::from(node.at)) {
+            let is_plain = matches!(command.address, Address::None);
+            if !is_plain && matches!(command.verb, Verb::Branch(_) | Verb::Block(_)) {
+                return true;
+            }
+        }
+    }
+    false
 }
 
 /// Whether a branch that isn't part of the loop leads to one of its labels.
