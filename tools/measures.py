@@ -47,7 +47,8 @@ def functions(path):
     """Name, parameters and lines of the body of each function in the file."""
     text = re.sub(r"(?m)^\s*//.*$", "", path.read_text())
     text = re.sub(r"b?'(?:\\.|[^\\'])'", "0", text)
-    text = re.sub(r'b?"(?:\\.|[^"\\])*"', '""', text)
+    # A backslash also joins a line of a string with the next one.
+    text = re.sub(r'b?"(?:\\[\s\S]|[^"\\])*"', '""', text)
     for match in FUNCTION.finditer(text):
         start = text.index("(", match.end())
         end = opened(text, start, "()")
