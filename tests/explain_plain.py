@@ -44,6 +44,11 @@ COMMENTED = [
     (b" #nice\np\n", b"# nice\np\n", b"p\n"),
     (b"\n#n x\n#no\np\n", b"# n x\n#no\np\n", b"p\n"),
     (b"#no\n#no\np\n", b"#no\n#no\np\n", b"p\n"),
+    # A file that begins with `#!` is run with the options that are there: no other comment comes to stand there.
+    (b"p #!/bin/sed -Ef\n", b"# !/bin/sed -Ef\np\n", b"p\n"),
+    (b"\n#!/bin/sed -nf\n#!\np\n", b"# !/bin/sed -nf\n#!\np\n", b"p\n"),
+    (b"#!/bin/sed -f\n#!\n{ #!\np;}\n", b"#!/bin/sed -f\n#!\n#!\n{\n  p\n}\n", b"{\n  p\n}\n"),
+    (b"#n\n#!/bin/sed -f\np\n", b"#n\n#!/bin/sed -f\np\n", b"#n\np\n"),
     (b"{{p;}\n\n}#a\n#b \r\n", b"{\n  {\n    p\n  }\n#a\n}\n#b \r\n".replace(b"\n#a", b"\n  #a"), b"{\n  {\n    p\n  }\n}\n"),
     (b"a\\\n# text\n# c\\\n$!d # x\\", b"a\\\n# text\n# c\\\n# x\\\n$!d\n", b"a\\\n# text\n$!d\n"),
     (b"/[#]/s/#/[#]/w #f\n/a/y,#,b, # y", b"/[#]/s/#/[#]/w #f\n# y\n/a/y/#/b/\n", b"/[#]/s/#/[#]/w #f\n/a/y/#/b/\n"),

@@ -126,15 +126,16 @@ impl Page {
         Ok(between.saturating_add(comment.len()))
     }
 
-    /// Adds the comment, on a line of its own. One that begins with `n`, and comes first only here, gets a blank: to GNU sed and ssed a
-    /// text that begins so is quiet.
+    /// Adds the comment, on a line of its own. One that begins with `n` or `!`, and comes first only here, gets a blank: to GNU sed and
+    /// ssed a text that begins with `#n` is quiet, and a file that begins with `#!` is run by the program, and with the options, that it names.
     fn add_comment(&mut self, comment: &[u8]) -> Result<(), AllocError> {
         if self.comments == Comments::LeftOut {
             return Ok(());
         }
         self.part()?;
         self.indent()?;
-        if self.out.is_empty() && !self.is_first && comment.starts_with(b"#n") {
+        let is_told = comment.starts_with(b"#n") || comment.starts_with(b"#!");
+        if self.out.is_empty() && !self.is_first && is_told {
             self.out.extend_from_slice(b"# ")?;
             self.out.extend_from_slice(comment.get(1..).unwrap_or(&[]))?;
         } else {
