@@ -28,10 +28,3 @@ cut_pair d a b text n i j all after (p.ends h) = absurd (n (sym h ∙ i))
 cut_pair d a b text n i j all after (p.byte f g h x) = absurd (g i)
 cut_pair d a b text n i j all after (p.escaped f g h x) = absurd (j g)
 cut_pair d a b text n i j all after (p.pair {expression = e} f g h x) = (e, ap (λ c. c ∷ b ∷ e) f, x)
-
--- at its delimiter an expression ends
-pub cut_end : (d b : ℕ) (text all after : List ℕ) → d ≢ 92 → b ≡ d → DelimitedExpression d (b ∷ text) all after → (all ≡ []) × (after ≡ text)
-cut_end d b text all after n i (p.ends h) = (refl, refl)
-cut_end d b text all after n i (p.byte f g h x) = absurd (f i)
-cut_end d b text all after n i (p.escaped f g h x) = absurd (n (sym i ∙ f))
-cut_end d b text all after n i (p.pair f g h x) = absurd (n (sym i ∙ f))

@@ -1,6 +1,9 @@
 -- Sets of four words are the same where their bytes are.
-use Rattle.std.proofs.Common.{◌≡◌, ℕ, suc, zero, ◌+◌, ◌*◌, ◌/◌, ◌%◌, ◌<◌, Bool, true, false, List, refl, sym, ap, ◌∙◌, subst, arith}
-use Rattle.std.specs.Prelude.{◌==◌, slice_index}
+use Rattle.std.proofs.Common.{◌≡◌, ℕ, suc, zero, ◌+◌, ◌*◌, ◌/◌, ◌%◌, ◌<◌, Bool, true, List, refl, sym, ap, ◌∙◌, subst, arith}
+use Rattle.std.specs.Prelude.{◌==◌, ◌↔◌, nat_eq, slice_index}
+use Rattle.std.specs.Cmp.{IsEquivalence}
+use Rattle.std.specs.Cmp.Lexicographic.{pointwise, same_text}
+use Rattle.std.proofs.lemmas.Cmp.{nat_list_eq_equiv}
 use Rattle.std.specs.Int.{bit_at}
 use Rattle.std.proofs.lemmas.Bool.{false≢true}
 use Rattle.std.proofs.lemmas.Grind.{same_number_lists}
@@ -9,8 +12,6 @@ use Rattle.sedck_bre.specs.Tree.{is_in}
 use Rattle.sedck_bre.specs.View.{has_bit, bytes_in}
 use Rattle.sedck_expressions.specs.Private.Sets.{AreWords}
 use Rattle.sedck_expressions.proofs.BracketSets.{in_where}
-use Rattle.sedck_plain.specs.Private.SameTrees.{same_numbers}
-use Rattle.sedck_plain.proofs.SameTreeLemmas.{numbers-same, numbers-itself}
 
 bit_same : (x y : ℕ) → x < 2 → y < 2 → (x == 1) ≡ (y == 1) → x ≡ y
 bit_same zero zero l m h = refl
@@ -39,15 +40,7 @@ words_same : (v w : List ℕ) → AreWords v → AreWords w → bytes_in v ≡ b
 words_same v w f g h = same_number_lists v w (f.0 ∙ sym g.0) (λ k l. word_same v w f g h k (omega (arith, f.0)))
 
 -- so a test of the words is one of the bytes
-pub sets_tested : (v w : List ℕ) → AreWords v → AreWords w → same_numbers v w ≡ same_numbers (bytes_in v) (bytes_in w)
-sets_tested v w f g = go (same_numbers v w) (same_numbers (bytes_in v) (bytes_in w)) refl refl
-  where
-    go : (a b : Bool) → same_numbers v w ≡ a → same_numbers (bytes_in v) (bytes_in w) ≡ b → a ≡ b
-    go true true d e = refl
-    go false false d e = refl
-    go true false d e =
-        let itself = numbers-itself (bytes_in v) in
-        absurd (false≢true (sym e ∙ (ap (λ u. same_numbers (bytes_in v) (bytes_in u)) (sym (numbers-same v w d)) ∙ itself)))
-    go false true d e =
-        let same = words_same v w f g (numbers-same (bytes_in v) (bytes_in w) e) in
-        absurd (false≢true (sym d ∙ (ap (λ u. same_numbers v u) (sym same) ∙ numbers-itself v)))
+pub sets_decided : (v w : List ℕ) (b : Bool) → AreWords v → AreWords w → b ≡ pointwise nat_eq v w → (b ≡ true) ↔ (bytes_in v ≡ bytes_in w)
+sets_decided v w b f g e =
+    let same : IsEquivalence (pointwise nat_eq) = nat_list_eq_equiv in
+    ((λ h. ap bytes_in (same_text v w (sym h ∙ e))), (λ h. e ∙ (ap (pointwise nat_eq v) (sym (words_same v w f g h)) ∙ same.refl v)))

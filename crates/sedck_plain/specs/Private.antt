@@ -1,5 +1,3 @@
 -- What functions inside the crate promise each other: no contract of an exported function reaches it.
-pub mod SameTrees
-pub mod SameScripts
 pub mod Refusals
 pub mod Cutting

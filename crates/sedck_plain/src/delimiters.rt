@@ -1,65 +1,38 @@
 //! Delimiters: the first of a list that is in none of the parts, so that no part has an escaped one.
 
-use std::alloc::AllocError;
+use sedck_script::Part;
 
-/// The delimiters, from the one that is looked at first.
-const DELIMITERS: &[u8; 13] = b"/,:|#%@!~=_;\"";
+/// The delimiters, from the one that is looked at first: signs, then the rest of ASCII, control characters last.
+const DELIMITERS: &[u8; 124] =
+    b"/,:|#%@!~=_;\"$&'()*+-.0123456789<>?ABCDEFGHIJKLMNOPQRSTUVWXYZ[]^`abcdefghijklmnopqrstuvwxyz{}\x01\x02\x03\x04\x05\x06\x07\x08\t\x0b\x0c\r\x0e\x0f\x10\x11\x12\x13\x14\x15\x16\x17\x18\x19\x1a\x1b\x1c\x1d\x1e\x1f ";
 
 /// Those that may be inside a part after a backslash, and are read alike there by all seds.
 const ESCAPABLE: &[u8; 9] = b"/,;!@#%~_";
 
-/// A delimiter that is in neither text. Without one, the parts have to escape one that isn't among the bytes that can't be
-/// escaped.
-pub(crate) fn delimiter(first: &[u8], second: &[u8], fixed: &[u8]) -> u8 {
-    match free(first, second) {
-        Some(byte) => byte,
-        None => escapable(fixed),
-    }
-}
-
-fn is_free(first: &[u8], second: &[u8], byte: u8) -> bool {
-    !first.contains(&byte) && !second.contains(&byte)
-}
-
-/// The first byte that is in neither text: one of the list, or else another one of ASCII, a control character last.
-fn free(first: &[u8], second: &[u8]) -> Option<u8> {
+/// A delimiter that is in neither text and in no text of the replacement. Without one, the parts have to escape one that isn't among the
+/// bytes that can't be escaped: those of longer texts.
+pub(crate) fn delimiter(first: &[u8], second: &[u8], parts: &[Part]) -> u8 {
     for byte in DELIMITERS {
-        if is_free(first, second, *byte) {
-            return Some(*byte);
+        if !first.contains(byte) && !second.contains(byte) && !is_in_texts(parts, *byte, 1) {
+            return *byte;
         }
     }
-    match free_among(first, second, 33, 127) {
-        Some(byte) => Some(byte),
-        None => free_among(first, second, 1, 33),
-    }
-}
-
-/// The first byte from `start` to before `end` that can be a delimiter and is in neither text.
-fn free_among(first: &[u8], second: &[u8], start: u8, end: u8) -> Option<u8> {
-    for byte in start..end {
-        if byte != b'\\' && byte != b'\n' && is_free(first, second, byte) {
-            return Some(byte);
-        }
-    }
-    None
-}
-
-fn escapable(fixed: &[u8]) -> u8 {
     for byte in ESCAPABLE {
-        if !fixed.contains(byte) {
+        if !is_in_texts(parts, *byte, 2) {
             return *byte;
         }
     }
     b'/'
 }
 
-/// Adds the text with a backslash before each delimiter, and the delimiter that ends it.
-pub(crate) fn push_part(out: &mut Vec<u8>, text: &[u8], delimiter: u8) -> Result<(), AllocError> {
-    for byte in text {
-        if *byte == delimiter {
-            out.push(b'\\')?;
+/// Whether the byte is in a text of the replacement that is this long at least.
+fn is_in_texts(parts: &[Part], byte: u8, least: usize) -> bool {
+    for part in parts {
+        if let Part::Text(text) = part {
+            if text.len() >= least && text.contains(&byte) {
+                return true;
+            }
         }
-        out.push(*byte)?;
     }
-    Ok(out.push(delimiter)?)
+    false
 }

@@ -2,95 +2,66 @@
 //! form.
 
 use crate::lists::Lists;
+use crate::printed::Printed;
 use sedck_bre::Bre;
-use std::alloc::{AllocError, Global};
 
 /// Adds the expression.
 #[cycle(spelling)]
-pub(crate) fn push_tree(
-    tree: &Bre,
-    lists: &mut Lists,
-    out: &mut Vec<u8>,
-) -> Result<(), AllocError> {
+pub(crate) fn push_tree(tree: &Bre, lists: &mut Lists, out: &mut Printed) {
     match tree {
         Bre::Byte(byte) => push_byte(out, *byte),
-        Bre::Any => Ok(out.push(b'.')?),
+        Bre::Any => out.push(b"."),
         Bre::Set(_) => lists.push_next(out),
-        Bre::Start => Ok(out.push(b'^')?),
-        Bre::End => Ok(out.push(b'$')?),
-        Bre::Maybe(byte) => Ok(out.push(*byte)?),
+        Bre::Start => out.push(b"^"),
+        Bre::End => out.push(b"$"),
+        Bre::Maybe(byte) => out.push(&[*byte]),
         Bre::Group(_, body) => {
-            out.extend_from_slice(b"\\(")?;
-            push_tree(body, lists, out)?;
-            out.extend_from_slice(b"\\)")
+            out.push(b"\\(");
+            push_tree(body, lists, out);
+            out.push(b"\\)");
         }
         Bre::Ref(k) => {
-            out.push(b'\\')?;
-            push_number(lists.alloc, out, u32::from(*k))
+            out.push(b"\\");
+            out.push_number(u32::from(*k));
         }
         Bre::Seq(items) => push_trees(items, lists, out),
         Bre::Repeat { body, least, most } => {
-            push_tree(body, lists, out)?;
-            push_count(lists.alloc, out, *least, *most)
+            push_tree(body, lists, out);
+            push_count(out, *least, *most);
         }
     }
 }
 
 /// Adds the items, one after another.
 #[cycle(spelling)]
-fn push_trees(items: &[Bre], lists: &mut Lists, out: &mut Vec<u8>) -> Result<(), AllocError> {
+fn push_trees(items: &[Bre], lists: &mut Lists, out: &mut Printed) {
     for item in items {
-        push_tree(item, lists, out)?;
+        push_tree(item, lists, out);
     }
-    Ok(())
 }
 
 /// Adds a byte that stands for itself.
-fn push_byte(out: &mut Vec<u8>, byte: u8) -> Result<(), AllocError> {
+fn push_byte(out: &mut Printed, byte: u8) {
     match byte {
-        b'.' | b'[' | b'\\' | b'*' | b'^' | b'$' => out.extend_from_slice(&[b'\\', byte]),
-        b'\n' => out.extend_from_slice(b"\\n"),
-        _ => Ok(out.push(byte)?),
+        b'.' | b'[' | b'\\' | b'*' | b'^' | b'$' => out.push(&[b'\\', byte]),
+        b'\n' => out.push(b"\\n"),
+        _ => out.push(&[byte]),
     }
 }
 
-/// Adds a sign of repetition.
-fn push_count(
-    alloc: Global,
-    out: &mut Vec<u8>,
-    least: u8,
-    most: Option<u8>,
-) -> Result<(), AllocError> {
+/// Adds a sign of repetition. An upper bound is there where it isn't the lower one.
+fn push_count(out: &mut Printed, least: u8, most: Option<u8>) {
     if least == 0 && most.is_none() {
-        return Ok(out.push(b'*')?);
+        out.push(b"*");
+        return;
     }
-    out.extend_from_slice(b"\\{")?;
-    push_number(alloc, out, u32::from(least))?;
-    push_most(alloc, out, least, most)?;
-    out.extend_from_slice(b"\\}")
-}
-
-/// Adds the upper bound of a repetition, where it isn't the lower one.
-fn push_most(
-    alloc: Global,
-    out: &mut Vec<u8>,
-    least: u8,
-    most: Option<u8>,
-) -> Result<(), AllocError> {
-    match most {
-        None => Ok(out.push(b',')?),
-        Some(most) => {
-            if most == least {
-                return Ok(());
-            }
-            out.push(b',')?;
-            push_number(alloc, out, u32::from(most))
+    out.push(b"\\{");
+    out.push_number(u32::from(least));
+    if most != Some(least) {
+        out.push(b",");
+        if let Some(most) = most {
+            out.push_number(u32::from(most));
         }
     }
-}
-
-/// Adds the number in decimal.
-pub(crate) fn push_number(alloc: Global, out: &mut Vec<u8>, n: u32) -> Result<(), AllocError> {
-    let digits = format!(in alloc; "{n}")?;
-    out.extend_from_slice(digits.as_bytes())
+    out.push(b"\\}");
 }

@@ -1,8 +1,9 @@
 //! Scripts: a command on each line, what is in a block further to the right, and perhaps the comments.
 
-use crate::commands::{is_open, push_command};
+use crate::commands::{is_open, push_addresses, push_taken};
 use crate::lists::Lists;
-use sedck_script::{Located, Location, Verb};
+use crate::printed::Printed;
+use sedck_script::{Command, Located, Location, Verb};
 use std::alloc::{AllocError, Global};
 
 /// Whether a script is printed with its comments.
@@ -17,7 +18,7 @@ pub enum Comments {
 /// What is printed so far.
 #[derive(Drop)]
 struct Page {
-    out: Vec<u8>,
+    out: Printed,
     comments: Comments,
     /// How many blocks are open.
     depth: usize,
@@ -36,7 +37,7 @@ pub(crate) fn laid_out(
     comments: Comments,
 ) -> Result<(Vec<u8>, Vec<Location>), AllocError> {
     let mut page = Page {
-        out: Vec::new(alloc),
+        out: Printed::new(alloc),
         comments,
         depth: 0,
         is_parted: false,
@@ -44,127 +45,135 @@ pub(crate) fn laid_out(
     };
     let commands = located.script.commands();
     let mut locations = Vec::new(alloc);
-    let mut begin = page.begin(located.script.quiet())?;
+    let mut begin = page.begin(located.script.quiet());
     for ((command, location), own) in commands.iter().zip(&located.locations).zip(lists) {
-        page.add_between(text.get(begin..location.start).unwrap_or(&[]))?;
-        let behind = text.get(location.end..).unwrap_or(&[]);
-        begin = location.end.saturating_add(page.add_own_comment(behind)?);
-        page.part()?;
-        page.indent()?;
-        let mut lists = Lists::new(alloc, own);
-        let start = page.out.len();
-        let verb = push_command(&mut lists, &mut page.out, commands, command)?;
-        let end = page.out.len();
-        locations.push(Location { start, verb, end })?;
-        page.out.push(b'\n')?;
-        if let Verb::Block(_) = command.verb {
-            page.depth = page.depth.saturating_add(1);
-        }
+        page.add_between(text.get(begin..location.start).unwrap_or(&[]));
+        begin = page.add_comment_behind(text, location.end);
+        let letter = text.get(location.verb).copied().unwrap_or(b'#');
+        locations.push(page.add_command(commands, command, letter, own))?;
     }
-    page.add_between(text.get(begin..).unwrap_or(&[]))?;
+    page.add_between(text.get(begin..).unwrap_or(&[]));
     if let Some(command) = commands.last() {
         if is_open(command) {
-            page.out.pop();
+            page.out.bytes.pop();
         }
     }
-    Ok((page.out, locations))
+    Ok((page.out.finish()?, locations))
 }
 
 impl Page {
     /// Adds the first line of a quiet script. Answers where its text goes on.
-    fn begin(&mut self, is_quiet: bool) -> Result<usize, AllocError> {
+    fn begin(&mut self, is_quiet: bool) -> usize {
         if !is_quiet {
-            return Ok(0);
+            return 0;
         }
-        self.out.extend_from_slice(b"#n\n")?;
-        Ok(2)
+        self.out.push(b"#n\n");
+        2
+    }
+
+    /// Adds one of the commands, whose verb has this letter and which has these lists. Answers where it is.
+    fn add_command(
+        &mut self,
+        commands: &[Command],
+        command: &Command,
+        letter: u8,
+        lists: &[u8],
+    ) -> Location {
+        self.part();
+        self.indent();
+        let mut lists = Lists::new(lists);
+        let start = self.out.bytes.len();
+        push_addresses(&mut lists, &mut self.out, command);
+        let verb = self.out.bytes.len();
+        self.out.push(&[letter]);
+        push_taken(&mut lists, &mut self.out, commands, &command.verb);
+        let end = self.out.bytes.len();
+        self.out.push(b"\n");
+        if let Verb::Block(_) = command.verb {
+            self.depth = self.depth.saturating_add(1);
+        }
+        Location { start, verb, end }
     }
 
     /// Adds what the script has between two commands, before the first one or behind the last one: the ends of blocks, and comments.
-    fn add_between(&mut self, text: &[u8]) -> Result<(), AllocError> {
+    fn add_between(&mut self, text: &[u8]) {
         let mut newlines = 0usize;
         let mut next = 0usize;
         for (index, byte) in text.iter().enumerate() {
             if index < next {
                 continue;
             }
-            let rest = text.get(index..).unwrap_or(&[]);
             match *byte {
                 b'\n' => newlines = newlines.saturating_add(1),
                 b'#' => {
-                    let comment = comment_of(rest);
                     self.is_parted = newlines > 1;
-                    self.add_comment(comment)?;
-                    next = index.saturating_add(comment.len());
                     newlines = 0;
+                    next = self.add_comment_behind(text, index);
                 }
                 b'}' => {
-                    let own = self.add_own_comment(rest.get(1..).unwrap_or(&[]))?;
-                    next = index.saturating_add(own).saturating_add(1);
-                    self.close()?;
                     newlines = 0;
+                    next = self.add_comment_behind(text, index.saturating_add(1));
+                    self.close();
                 }
                 _ => {}
             }
         }
         self.is_parted = newlines > 1;
-        Ok(())
     }
 
-    /// Adds the comment on the line on which a command or a `}` ends before this text. Answers how far in the text it goes.
-    fn add_own_comment(&mut self, behind: &[u8]) -> Result<usize, AllocError> {
+    /// Adds the comment on the line on which a command or a `}` ends at this offset of the text. Answers where the text goes on.
+    fn add_comment_behind(&mut self, text: &[u8], end: usize) -> usize {
+        let behind = text.get(end..).unwrap_or(&[]);
         let between = behind
             .iter()
             .take_while(|byte| matches!(**byte, b' ' | b'\t' | b';'))
             .count();
         let rest = behind.get(between..).unwrap_or(&[]);
         if !rest.starts_with(b"#") {
-            return Ok(0);
+            return end;
         }
         let comment = comment_of(rest);
-        self.add_comment(comment)?;
-        Ok(between.saturating_add(comment.len()))
+        self.add_comment(comment);
+        end.saturating_add(between).saturating_add(comment.len())
     }
 
     /// Adds the comment, on a line of its own. One that begins with `n` or `!`, and comes first only here, gets a blank: to GNU sed and
     /// ssed a text that begins with `#n` is quiet, and a file that begins with `#!` is run by the program, and with the options, that it names.
-    fn add_comment(&mut self, comment: &[u8]) -> Result<(), AllocError> {
+    fn add_comment(&mut self, comment: &[u8]) {
         if self.comments == Comments::LeftOut {
-            return Ok(());
+            return;
         }
-        self.part()?;
-        self.indent()?;
+        self.part();
+        self.indent();
         let is_told = comment.starts_with(b"#n") || comment.starts_with(b"#!");
-        if self.out.is_empty() && !self.is_first && is_told {
-            self.out.extend_from_slice(b"# ")?;
-            self.out.extend_from_slice(comment.get(1..).unwrap_or(&[]))?;
+        if self.out.bytes.is_empty() && !self.is_first && is_told {
+            self.out.push(b"# ");
+            self.out.push(comment.get(1..).unwrap_or(&[]));
         } else {
-            self.out.extend_from_slice(comment)?;
+            self.out.push(comment);
         }
-        Ok(self.out.push(b'\n')?)
+        self.out.push(b"\n");
     }
 
     /// Adds the empty line before what is next, if there is one.
-    fn part(&mut self) -> Result<(), AllocError> {
-        if self.is_parted && self.comments == Comments::Kept && !self.out.is_empty() {
-            self.out.push(b'\n')?;
+    fn part(&mut self) {
+        if self.is_parted && self.comments == Comments::Kept && !self.out.bytes.is_empty() {
+            self.out.push(b"\n");
         }
         self.is_parted = false;
-        Ok(())
     }
 
     /// Closes the innermost block.
-    fn close(&mut self) -> Result<(), AllocError> {
+    fn close(&mut self) {
         self.depth = self.depth.saturating_sub(1);
-        self.indent()?;
-        self.out.extend_from_slice(b"}\n")
+        self.indent();
+        self.out.push(b"}\n");
     }
 
-    fn indent(&mut self) -> Result<(), AllocError> {
+    fn indent(&mut self) {
         for _ in 0..self.depth {
-            self.out.extend_from_slice(b"  ")?;
+            self.out.push(b"  ");
         }
-        Ok(())
     }
 }
 

@@ -17,9 +17,8 @@ mod expressions;
 mod layout;
 mod lists;
 mod plain;
+mod printed;
 mod same;
-mod same_commands;
-mod same_trees;
 mod substitutions;
 mod written;
 

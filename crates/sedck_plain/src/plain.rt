@@ -9,8 +9,7 @@ ghost use Rattle.sedck_plain.specs.Private.Cutting.{AreLocations, HasLists, byte
 ghost use Rattle.sedck_plain.specs.Private.Refusals.{is_memory, fault_of};
 
 use crate::layout::{Comments, laid_out};
-use crate::same::same_program;
-use crate::same_commands::first_difference;
+use crate::same::{first_difference, same_program};
 use crate::written::{first_change, script_lists};
 use sedck_commands::TEXT_LIMIT;
 use sedck_script::{Located, Location, Script, ScriptFault, locate, parse};
@@ -135,8 +134,10 @@ fn compare(
         }
     };
     if !same_program(&other.script, program) {
-        let place = first_difference(program.commands(), other.script.commands());
-        return Err(Fault::NoSpelling(place));
+        let commands = program.commands();
+        let last = commands.len().saturating_sub(1);
+        let place = first_difference(commands, other.script.commands()).unwrap_or(last);
+        return Err(Fault::NoSpelling(place.min(last)));
     }
     let others = lists_of(alloc, text, &other.locations)?;
     match first_change(lists, &others) {

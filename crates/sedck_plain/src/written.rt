@@ -13,6 +13,9 @@ use sedck_commands::Location;
 use sedck_text::{Class, Cursor};
 use std::alloc::{AllocError, Global};
 
+/// What is read of a text, unless it isn't as it has to be.
+type Read<T> = Result<Option<T>, AllocError>;
+
 /// Where in an expression a byte is, outside of its bracket lists or in one (XBD 9.3.5): the definition of written lists names it.
 #[derive(Clone, Copy)]
 pub enum Position {
@@ -95,7 +98,7 @@ fn split_expression<'a>(
     alloc: Global,
     delimiter: u8,
     text: Cursor<'a>,
-) -> Result<Option<(Vec<u8>, Cursor<'a>)>, AllocError>
+) -> Read<(Vec<u8>, Cursor<'a>)>
     requires { delimiter ≢ backslash }
     ensures { IfOk result (λ x. IfSome x (λ y. (expression rest : List ℕ) → DelimitedExpression delimiter (unread text.entry) expression rest → (expression ≡ y.0.items) × (rest ≡ unread y.1))) }
 {
@@ -127,11 +130,7 @@ fn split_expression<'a>(
 }
 
 /// The lists of the expression that this delimiter ends, and what follows it.
-fn context_lists<'a>(
-    alloc: Global,
-    delimiter: u8,
-    text: Cursor<'a>,
-) -> Result<Option<(Vec<u8>, Cursor<'a>)>, AllocError>
+fn context_lists<'a>(alloc: Global, delimiter: u8, text: Cursor<'a>) -> Read<(Vec<u8>, Cursor<'a>)>
     ensures { IfOk result (λ x. IfSome x (λ y. (expression rest : List ℕ) → DelimitedExpression delimiter (unread text.entry) expression rest → (expression_lists expression ≡ y.0.items) × (rest ≡ unread y.1))) }
 {
     if delimiter == b'\\' {
@@ -145,10 +144,7 @@ fn context_lists<'a>(
 }
 
 /// The lists of the address with which the text begins, and what follows it.
-fn place_lists<'a>(
-    alloc: Global,
-    text: Cursor<'a>,
-) -> Result<Option<(Vec<u8>, Cursor<'a>)>, AllocError>
+fn place_lists<'a>(alloc: Global, text: Cursor<'a>) -> Read<(Vec<u8>, Cursor<'a>)>
     ensures { IfOk result (λ x. IfSome x (λ y. ArePlaceLists (unread text.entry) y.0.items (unread y.1))) }
 {
     let Some((first, behind)) = text.split_first() else {
@@ -177,7 +173,7 @@ fn begins_address(byte: u8) -> bool
 }
 
 /// The lists of the addresses of the command with which the text begins.
-fn address_lists(alloc: Global, text: Cursor<'_>) -> Result<Option<Vec<u8>>, AllocError>
+fn address_lists(alloc: Global, text: Cursor<'_>) -> Read<Vec<u8>>
     ensures { IfOk result (λ x. IfSome x (λ lists. AreAddressLists (unread text.entry) lists.items)) }
 {
     let Some(first) = text.first() else {
@@ -193,11 +189,7 @@ fn address_lists(alloc: Global, text: Cursor<'_>) -> Result<Option<Vec<u8>>, All
 }
 
 /// The lists of both addresses, where these are those of the first one, after which this is.
-fn second_lists(
-    alloc: Global,
-    first: Vec<u8>,
-    behind: Cursor<'_>,
-) -> Result<Option<Vec<u8>>, AllocError>
+fn second_lists(alloc: Global, first: Vec<u8>, behind: Cursor<'_>) -> Read<Vec<u8>>
     ensures { IfOk result (λ x. IfSome x (λ all. AreBothLists (unread behind.entry) first.items all.items)) }
 {
     let Some((comma, more)) = behind.skip(Class::Blank).split_first() else {
@@ -215,7 +207,7 @@ fn second_lists(
 }
 
 /// The lists of the verb with which the text begins.
-fn verb_lists(alloc: Global, text: Cursor<'_>) -> Result<Option<Vec<u8>>, AllocError>
+fn verb_lists(alloc: Global, text: Cursor<'_>) -> Read<Vec<u8>>
     ensures { IfOk result (λ x. IfSome x (λ lists. AreVerbLists (unread text.entry) lists.items)) }
 {
     let Some((first, behind)) = text.split_first() else {
@@ -234,11 +226,7 @@ fn verb_lists(alloc: Global, text: Cursor<'_>) -> Result<Option<Vec<u8>>, AllocE
 }
 
 /// The lists of the command at this location of the text.
-fn command_lists(
-    alloc: Global,
-    text: &[u8],
-    location: Location,
-) -> Result<Option<Vec<u8>>, AllocError>
+fn command_lists(alloc: Global, text: &[u8], location: Location) -> Read<Vec<u8>>
     ensures { IfOk result (λ x. IfSome x (λ lists. AreCommandLists text.now location lists.items)) }
 {
     let Some(begin) = text.get(location.start..) else {
@@ -258,11 +246,7 @@ fn command_lists(
 }
 
 /// The lists of the commands of the text, which are at these locations, command by command. Where no command is at one there are none.
-pub(crate) fn script_lists(
-    alloc: Global,
-    text: &[u8],
-    locations: &[Location],
-) -> Result<Option<Vec<Vec<u8>>>, AllocError>
+pub(crate) fn script_lists(alloc: Global, text: &[u8], locations: &[Location]) -> Read<Vec<Vec<u8>>>
     requires { AreLocations text.now locations.now }
     ensures { IfOk result (λ x. IfSome x (λ lists. HasLists text.now (map bytes_of lists.items))) }
 {
