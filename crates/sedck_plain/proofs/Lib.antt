@@ -1,4 +1,5 @@
 pub mod SetLemmas
 pub mod PlainLemmas
 pub mod CutLemmas
+pub mod LeftLemmas
 pub mod WrittenLemmas

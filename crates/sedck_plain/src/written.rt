@@ -1,16 +1,13 @@
 //! Bracket lists as they are written. A set of bytes doesn't say which characters its list has in a locale other than C, nor that a sed
 //! takes a backslash and a letter in it for one byte.
 
-ghost use Rattle.std.specs.Prelude.{◌↔◌, true, IfNone, map, ◌≡◌, ◌≢◌, ℕ, List, IfOk, IfSome};
+ghost use Rattle.std.specs.Prelude.{◌↔◌, true, IfNone, map, ◌≡◌, ◌≤◌, ◌++◌, length, IfOk, IfSome, OnOk};
 ghost use Rattle.sedck_text.specs.Cursors.{unread};
-ghost use Rattle.sedck_commands.specs.Cuts.{backslash};
-ghost use Rattle.sedck_commands.specs.Parts.{DelimitedExpression};
-ghost use Rattle.sedck_commands.specs.Faults.{begins_address};
-ghost use Rattle.sedck_plain.specs.WrittenLists.{after, after_member, is_in_list, expression_lists};
-ghost use Rattle.sedck_plain.specs.Private.Cutting.{ArePlaceLists, AreAddressLists, AreBothLists, AreVerbLists, AreCommandLists, AreLocations, HasLists, bytes_of};
+ghost use Rattle.sedck_plain.specs.WrittenLists.{after, after_member, is_in_list};
+ghost use Rattle.sedck_plain.specs.Private.Cutting.{kept, AreExpressionLists, is_passed, AreLists, AreCommandLists, AreLocations, HasLists, bytes_of};
 
 use sedck_commands::Location;
-use sedck_text::{Class, Cursor};
+use sedck_text::Cursor;
 use std::alloc::{AllocError, Global};
 
 /// What is read of a text, unless it isn't as it has to be.
@@ -76,153 +73,96 @@ pub(crate) fn is_in_list(position: Position) -> bool
     !matches!(position, Position::Outside | Position::Escaped)
 }
 
-/// The bracket lists of the expression, one after another, on a line of their own.
-fn expression_lists(alloc: Global, expression: &[u8]) -> Result<Vec<u8>, AllocError>
-    ensures { IfOk result (λ lists. lists.items ≡ expression_lists expression.now) }
+/// Adds the byte, where it is of a list. Answers the position after it.
+fn push_byte(lists: &mut Vec<u8>, position: Position, byte: u8) -> Result<Position, AllocError>
+    ensures position { IfOk result (λ next. next ≡ after position byte) }
+    ensures lists { OnOk result (lists.new.items ≡ lists.old.items ++ kept position byte) }
 {
-    let mut lists = Vec::new(alloc);
-    let mut position = Position::Outside;
-    for byte in expression {
-        let next = after(position, *byte);
-        if is_in_list(position) || is_in_list(next) {
-            lists.push(*byte)?;
-        }
-        position = next;
+    let next = after(position, byte);
+    if is_in_list(position) || is_in_list(next) {
+        lists.push(byte)?;
     }
-    lists.push(b'\n')?;
-    Ok(lists)
+    Ok(next)
 }
 
-/// The expression up to the first delimiter that no backslash escapes, without the backslashes of escaped ones, and what follows it.
-fn split_expression<'a>(
+/// The lists of the expression that this delimiter ends, one after another, on a line of their own, and what follows it.
+fn expression_lists<'a>(
     alloc: Global,
     delimiter: u8,
     text: Cursor<'a>,
-) -> Read<(Vec<u8>, Cursor<'a>)>
-    requires { delimiter ≢ backslash }
-    ensures { IfOk result (λ x. IfSome x (λ y. (expression rest : List ℕ) → DelimitedExpression delimiter (unread text.entry) expression rest → (expression ≡ y.0.items) × (rest ≡ unread y.1))) }
+) -> Result<(Vec<u8>, Cursor<'a>), AllocError>
+    ensures lists { IfOk result (λ x. AreExpressionLists delimiter (unread text.entry) x.0.items (unread x.1)) }
+    ensures within { IfOk result (λ x. length (unread x.1) ≤ length (unread text.entry)) }
 {
-    let mut expression = Vec::new(alloc);
+    let mut lists = Vec::new(alloc);
+    let mut position = Position::Outside;
     let mut rest = text;
     'bytes: loop {
         let Some((first, behind)) = rest.split_first() else {
-            return Ok(None);
+            return Ok((lists, rest));
         };
         if first == delimiter {
-            return Ok(Some((expression, behind)));
+            lists.push(b'\n')?;
+            return Ok((lists, behind));
         }
         rest = behind;
         if first != b'\\' {
-            expression.push(first)?;
+            position = push_byte(&mut lists, position, first)?;
             continue;
         }
         let Some((next, after)) = behind.split_first() else {
-            return Ok(None);
+            return Ok((lists, rest));
         };
         rest = after;
         if next == delimiter {
-            expression.push(next)?;
+            position = push_byte(&mut lists, position, next)?;
             continue;
         }
-        expression.push(b'\\')?;
-        expression.push(next)?;
+        let escaped = push_byte(&mut lists, position, first)?;
+        position = push_byte(&mut lists, escaped, next)?;
     }
 }
 
-/// The lists of the expression that this delimiter ends, and what follows it.
-fn context_lists<'a>(alloc: Global, delimiter: u8, text: Cursor<'a>) -> Read<(Vec<u8>, Cursor<'a>)>
-    ensures { IfOk result (λ x. IfSome x (λ y. (expression rest : List ℕ) → DelimitedExpression delimiter (unread text.entry) expression rest → (expression_lists expression ≡ y.0.items) × (rest ≡ unread y.1))) }
+/// Whether the byte is one of an address that begins no expression, or is between addresses and a verb.
+fn is_passed(byte: u8) -> bool
+    ensures { result ≡ is_passed byte }
 {
-    if delimiter == b'\\' {
-        return Ok(None);
-    }
-    let Some((expression, rest)) = split_expression(alloc, delimiter, text)? else {
-        return Ok(None);
-    };
-    let lists = expression_lists(alloc, &expression)?;
-    Ok(Some((lists, rest)))
+    byte.is_ascii_digit() || byte == b' ' || byte == b'\t' || byte == b'!' || b"$,".contains(&byte)
 }
 
-/// The lists of the address with which the text begins, and what follows it.
-fn place_lists<'a>(alloc: Global, text: Cursor<'a>) -> Read<(Vec<u8>, Cursor<'a>)>
-    ensures { IfOk result (λ x. IfSome x (λ y. ArePlaceLists (unread text.entry) y.0.items (unread y.1))) }
+/// The lists of the command with which the text begins: of its addresses, and of an `s`.
+fn lists_left(alloc: Global, text: Cursor<'_>) -> Result<Vec<u8>, AllocError>
+    ensures { IfOk result (λ lists. AreLists (unread text.entry) lists.items) }
 {
-    let Some((first, behind)) = text.split_first() else {
-        return Ok(None);
-    };
-    if first == b'/' {
-        return context_lists(alloc, first, behind);
-    }
-    if first == b'\\' {
-        let Some((delimiter, behind)) = behind.split_first() else {
-            return Ok(None);
+    let mut lists = Vec::new(alloc);
+    let mut rest = text;
+    'pieces: loop {
+        let Some((first, behind)) = rest.split_first() else {
+            return Ok(lists);
         };
-        return context_lists(alloc, delimiter, behind);
+        if is_passed(first) {
+            rest = behind;
+            continue;
+        }
+        if first == b'/' {
+            let (mut own, left) = expression_lists(alloc, first, behind)?;
+            lists.append(&mut own)?;
+            rest = left;
+            continue;
+        }
+        if first != b'\\' && first != b's' {
+            return Ok(lists);
+        }
+        let Some((delimiter, inside)) = behind.split_first() else {
+            return Ok(lists);
+        };
+        let (mut own, left) = expression_lists(alloc, delimiter, inside)?;
+        lists.append(&mut own)?;
+        if first == b's' {
+            return Ok(lists);
+        }
+        rest = left;
     }
-    if first == b'$' {
-        return Ok(Some((Vec::new(alloc), behind)));
-    }
-    Ok(Some((Vec::new(alloc), text.skip(Class::Digit))))
-}
-
-/// Whether an address begins with the byte.
-fn begins_address(byte: u8) -> bool
-    ensures { result ≡ begins_address byte }
-{
-    byte.is_ascii_digit() || b"$/\\".contains(&byte)
-}
-
-/// The lists of the addresses of the command with which the text begins.
-fn address_lists(alloc: Global, text: Cursor<'_>) -> Read<Vec<u8>>
-    ensures { IfOk result (λ x. IfSome x (λ lists. AreAddressLists (unread text.entry) lists.items)) }
-{
-    let Some(first) = text.first() else {
-        return Ok(None);
-    };
-    if !begins_address(first) {
-        return Ok(Some(Vec::new(alloc)));
-    }
-    let Some((lists, behind)) = place_lists(alloc, text)? else {
-        return Ok(None);
-    };
-    second_lists(alloc, lists, behind)
-}
-
-/// The lists of both addresses, where these are those of the first one, after which this is.
-fn second_lists(alloc: Global, first: Vec<u8>, behind: Cursor<'_>) -> Read<Vec<u8>>
-    ensures { IfOk result (λ x. IfSome x (λ all. AreBothLists (unread behind.entry) first.items all.items)) }
-{
-    let Some((comma, more)) = behind.skip(Class::Blank).split_first() else {
-        return Ok(Some(first));
-    };
-    if comma != b',' {
-        return Ok(Some(first));
-    }
-    let Some((mut others, _)) = place_lists(alloc, more.skip(Class::Blank))? else {
-        return Ok(None);
-    };
-    let mut lists = first;
-    lists.append(&mut others)?;
-    Ok(Some(lists))
-}
-
-/// The lists of the verb with which the text begins.
-fn verb_lists(alloc: Global, text: Cursor<'_>) -> Read<Vec<u8>>
-    ensures { IfOk result (λ x. IfSome x (λ lists. AreVerbLists (unread text.entry) lists.items)) }
-{
-    let Some((first, behind)) = text.split_first() else {
-        return Ok(None);
-    };
-    if first != b's' {
-        return Ok(Some(Vec::new(alloc)));
-    }
-    let Some((delimiter, behind)) = behind.split_first() else {
-        return Ok(None);
-    };
-    let Some((lists, _)) = context_lists(alloc, delimiter, behind)? else {
-        return Ok(None);
-    };
-    Ok(Some(lists))
 }
 
 /// The lists of the command at this location of the text.
@@ -232,16 +172,7 @@ fn command_lists(alloc: Global, text: &[u8], location: Location) -> Read<Vec<u8>
     let Some(begin) = text.get(location.start..) else {
         return Ok(None);
     };
-    let Some(verb) = text.get(location.verb..) else {
-        return Ok(None);
-    };
-    let Some(mut lists) = address_lists(alloc, Cursor::new(begin))? else {
-        return Ok(None);
-    };
-    let Some(mut others) = verb_lists(alloc, Cursor::new(verb))? else {
-        return Ok(None);
-    };
-    lists.append(&mut others)?;
+    let lists = lists_left(alloc, Cursor::new(begin))?;
     Ok(Some(lists))
 }
 

@@ -1,44 +1,58 @@
--- How far an expression has been read, and what the lists are of what a text begins with.
-use Rattle.std.specs.Prelude.{◌≡◌, ℕ, Bool, List, [], ◌∷◌, length, ◌++◌, drop, Vec}
+-- How far a command has been read, and which bracket lists it has.
+use Rattle.std.specs.Prelude.{◌≡◌, ◌≢◌, ℕ, Bool, true, not, ◌||◌, if◌then◌else◌, List, [], ◌∷◌, length, ◌++◌, drop, Vec}
 use Rattle.std.specs.Global.{Global}
-use Rattle.sedck_commands.specs.Cuts.{is_blank, Longest}
-use Rattle.sedck_text.specs.Classes.{is_mark}
-use Rattle.sedck_commands.specs.Program.{Place, Address}
-use Rattle.sedck_commands.specs.Parts.{DelimitedExpression, PlaceText, AddressText}
-use Rattle.sedck_commands.specs.Items.{WrittenVerb, VerbText, CommandText, Item, Items}
+use Rattle.sedck_text.specs.Text.{one_of}
+use Rattle.sedck_text.specs.Classes.{is_digit, is_mark}
+use Rattle.sedck_commands.specs.Program.{Address}
+use Rattle.sedck_commands.specs.Parts.{DelimitedExpression}
+use Rattle.sedck_commands.specs.Items.{WrittenVerb, CommandText, Item, Items}
 use Rattle.sedck_commands.specs.Locations.{locations_of}
 use Rattle.sedck_commands.specs.declared.location.Location.{Location}
-use Rattle.sedck_plain.specs.WrittenLists.{place_lists, address_lists, verb_lists, command_lists, written_lists}
+use Rattle.sedck_plain.specs.WrittenLists.{after, is_in_list, lists_from, expression_lists, command_lists, written_lists}
+use Rattle.sedck_plain.specs.declared.written.Position.{Position}
 
--- each expression of the text begins with these bytes, and goes on in the rest
-abbrev pub IsCutUpTo : ℕ → List ℕ → List ℕ → List ℕ → Type 0
-IsCutUpTo delimiter text bytes rest =
-    (all after : List ℕ) → DelimitedExpression delimiter text all after → (more : List ℕ) × (all ≡ bytes ++ more) × DelimitedExpression delimiter rest more after
+-- the byte, where it is of a list
+abbrev pub kept : Position → ℕ → List ℕ
+kept position b = if is_in_list position || is_in_list (after position b) then b ∷ [] else []
 
--- each address with which the text begins has these lists, and this is after it
-abbrev pub ArePlaceLists : List ℕ → List ℕ → List ℕ → Type 0
-ArePlaceLists text lists rest = (place : Place) (behind : List ℕ) (here : PlaceText text place behind) → (place_lists here ≡ lists) × (behind ≡ rest)
+-- each expression of the text begins with these lists, and goes on in the rest, where it is read from the second position on
+abbrev pub IsReadUpTo : ℕ → Position → List ℕ → List ℕ → Position → List ℕ → Type 0
+IsReadUpTo delimiter from text lists to rest =
+    (all left : List ℕ) → DelimitedExpression delimiter text all left
+    → (more : List ℕ) × (lists_from from all ≡ lists ++ lists_from to more) × DelimitedExpression delimiter rest more left
 
--- the addresses of each command with which the text begins have these lists
-abbrev pub AreAddressLists : List ℕ → List ℕ → Type 0
-AreAddressLists text lists = (address : Address) (behind marks begins left : List ℕ) (verb : WrittenVerb) (here : AddressText text address behind)
-    → Longest is_mark behind marks begins → VerbText begins verb left → address_lists here ≡ lists
+-- each expression of the text has these lists, and this is after it
+abbrev pub AreExpressionLists : ℕ → List ℕ → List ℕ → List ℕ → Type 0
+AreExpressionLists delimiter text lists rest = (expression left : List ℕ) → delimiter ≢ 92 → DelimitedExpression delimiter text expression left
+    → (expression_lists expression ≡ lists) × (left ≡ rest)
 
--- where a first address with the first lists ends before this text, the command's addresses have all of these
-abbrev pub AreBothLists : List ℕ → List ℕ → List ℕ → Type 0
-AreBothLists behind lists all =
-    ((blanks more : List ℕ) (b : ℕ) → Longest is_blank behind blanks (b ∷ more) → b ≡ 44 → (front second : List ℕ) → Longest is_blank more front second
-    → (place : Place) (rest : List ℕ) (here : PlaceText second place rest) → lists ++ place_lists here ≡ all)
-    × ((marks begins left : List ℕ) (verb : WrittenVerb) → Longest is_mark behind marks begins → VerbText begins verb left → lists ≡ all)
+-- a byte of an address that begins no expression, or what is between addresses and a verb
+abbrev pub is_passed : ℕ → Bool
+is_passed b = is_digit b || is_mark b || one_of "$," b
 
--- each verb with which the text begins has these lists
-abbrev pub AreVerbLists : List ℕ → List ℕ → Type 0
-AreVerbLists text lists = (verb : WrittenVerb) (rest : List ℕ) (here : VerbText text verb rest) → verb_lists here ≡ lists
+-- the verb of a command that has no expression
+abbrev pub is_other : ℕ → Bool
+is_other b = not (is_passed b || one_of "/\\s" b)
+
+-- What is left of a command has these lists.
+pub data HasLeft : List ℕ → List ℕ → Type 0 where
+  passed : {b : ℕ} {text lists : List ℕ} → is_passed b ≡ true → HasLeft text lists → HasLeft (b ∷ text) lists
+  context : {b : ℕ} {text expression rest lists : List ℕ} → b ≡ 47 → DelimitedExpression 47 text expression rest → HasLeft rest lists
+      → HasLeft (b ∷ text) (expression_lists expression ++ lists)
+  custom : {b d : ℕ} {text expression rest lists : List ℕ} → b ≡ 92 → d ≢ 92 → DelimitedExpression d text expression rest → HasLeft rest lists
+      → HasLeft (b ∷ d ∷ text) (expression_lists expression ++ lists)
+  substitute : {b d : ℕ} {text expression rest : List ℕ} → b ≡ 115 → d ≢ 92 → DelimitedExpression d text expression rest
+      → HasLeft (b ∷ d ∷ text) (expression_lists expression)
+  other : {b : ℕ} {text : List ℕ} → is_other b ≡ true → HasLeft (b ∷ text) []
+
+-- a command with which the text begins has these lists
+abbrev pub AreLists : List ℕ → List ℕ → Type 0
+AreLists text lists = (all : List ℕ) → HasLeft text all → all ≡ lists
 
 -- a command at the location has these lists
 abbrev pub AreCommandLists : List ℕ → Location → List ℕ → Type 0
 AreCommandLists text location lists = (begin : List ℕ) (address : Address) (negated : Bool) (verb : WrittenVerb) (rest : List ℕ)
-    (here : CommandText begin address negated verb rest) → begin ≡ drop location.start text → here.begins ≡ drop location.verb text → command_lists here ≡ lists
+    (here : CommandText begin address negated verb rest) → begin ≡ drop location.start text → command_lists here ≡ lists
 
 -- those at the locations have these, one by one
 abbrev pub AreScriptLists : List ℕ → List Location → List (List ℕ) → Type 0

@@ -1,7 +1,12 @@
-use Rattle.std.proofs.Common.{◌≡◌, ◌++◌, drop}
-use Rattle.sedck_plain.specs.WrittenLists.{lists_from}
+use Rattle.std.proofs.Common.{◌≤◌, length}
+use Rattle.sedck_text.specs.Cursors.{unread}
+use Rattle.sedck_plain.specs.Private.Cutting.{IsReadUpTo}
 use Rattle.sedck_plain.specs.declared.written.Position.TheVariants.{Outside}
 use Rattle.sedck_plain.proofs.written.expression_lists.Given as goal
 
-abbrev pub invariant-loop-byte : goal.invariant-loop-byte
-invariant-loop-byte l = l.lists.items ++ lists_from l.position (drop l.byte-index l.expression) ≡ lists_from Outside l.expression
+abbrev pub invariant-bytes : goal.invariant-bytes
+invariant-bytes l =
+    IsReadUpTo l.delimiter Outside (unread l.text) l.lists.items l.position (unread l.rest) × (length (unread l.rest) ≤ length (unread l.text))
+
+abbrev pub decreases-bytes : goal.decreases-bytes
+decreases-bytes l = length (unread l.rest)
