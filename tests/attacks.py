@@ -513,7 +513,13 @@ OUTPUTS = [Row("an output behind an operand", LIMITED + "sed p big >> big\n", "s
            Row("an output in place of the standard input", "sed p < f > f > g\n", "sh a.sh", EMPTIES, due=ACCEPTED, warning="writes-its-input"),
            Row("another descriptor in place of an operand", "sed 's/a/b/' f 3> f\n", "sh a.sh", EMPTIES, due=ACCEPTED, warning="writes-its-input"),
            Row("the errors in place of an operand", "sed 's/a/b/' f 2> f\n", "sh a.sh", EMPTIES, due=ACCEPTED, warning="writes-its-input"),
-           Row("the input in place of an operand", "sed 's/a/b/' f 0> f\n", "sh a.sh", EMPTIES, due=ACCEPTED, warning="writes-its-input")]
+           Row("the input in place of an operand", "sed 's/a/b/' f 0> f\n", "sh a.sh", EMPTIES, due=ACCEPTED, warning="writes-its-input"),
+           Row("an output of a group behind an operand", LIMITED + "{ sed p big; } >> big\n", "sh a.sh", GROWS, files=BIG, due=ACCEPTED, warning="writes-its-input"),
+           Row("an output of a group behind its input", LIMITED + "{ sed p; } < big >> big\n", "sh a.sh", GROWS, files=BIG, due=ACCEPTED, warning="writes-its-input")] + [
+    Row("an output around an operand: %r" % text, text + "\n", "sh a.sh", EMPTIES, due=ACCEPTED, warning="writes-its-input") for text in [
+        "{ sed 's/a/b/' f; } > f", "( sed 's/a/b/' f ) > f", "while :; do sed 's/a/b/' f; break; done > f", "for x in 1; do sed 's/a/b/' f; done > f", "if :; then sed 's/a/b/' f; fi > f",
+        "case a in a) sed 's/a/b/' f;; esac > f", "run() { sed 's/a/b/' f; } > f\nrun", "{ sed p; } < f > f", "{ sed p f | cat; } > f", "{ x=$(sed p f); } > f",
+        "{ x=`sed p f`; } > f", "{ : <<E; } > f\n$(sed p f)\nE", "for x in $(sed p f); do :; done > f", "{ { sed p f; } 2> g; } > f"]]
 
 ROWS = CONDITIONS + OTHER_WORDS + MACROS + VALUES + VALUES_OF_MAKE + RECALL + TEXTS + NEVER + PROSE + INNOCENT + OUTPUTS
 

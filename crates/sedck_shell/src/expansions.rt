@@ -58,8 +58,15 @@ impl Reader<'_> {
         };
         let is_double = self.top.quote == Quote::Double || self.top.is_in_double;
         let units = backquoted(self.alloc, self.text, from, end, is_double)?;
+        let group = self.new_group(unit.start(), true)?;
         let (quote, body) = (Quote::None, None);
-        self.output.jobs.push(Job { units, quote, body })?;
+        let job = Job {
+            units,
+            quote,
+            body,
+            group,
+        };
+        self.output.jobs.push(job)?;
         self.add_hole_to(unit, end, self.way())
     }
 

@@ -88,6 +88,20 @@ pub(crate) struct Draft {
     pub output: Option<usize>,
     /// How many words there were before `&>`, where some shells begin another command.
     pub parted: Option<usize>,
+    pub around: Around,
+}
+
+/// What a command or a group has of the groups around it.
+#[derive(Clone, Copy, Default)]
+pub(crate) struct Around {
+    /// The number of the innermost one.
+    pub group: Option<usize>,
+    /// The number of the group that ended right before, for which redirections without a command are.
+    pub closed: Option<usize>,
+    /// Whether its standard input isn't theirs: it is redirected, or a pipe.
+    pub has_input: bool,
+    /// The same of its standard output.
+    pub has_output: bool,
 }
 
 /// What is being read within what encloses it.
@@ -150,6 +164,8 @@ pub(crate) struct Flow {
     pub body: usize,
     /// How many conditions, loops and groups are open in it.
     pub depth: usize,
+    /// The number of the innermost of all groups around it.
+    pub group: Option<usize>,
     /// Whether the body of a function comes next.
     pub begins_function: bool,
     /// Whether it depends on a command before it, or is in a pipe.
@@ -172,6 +188,7 @@ impl Draft {
             targets: Vec::new(alloc),
             output: None,
             parted: None,
+            around: Around::default(),
         }
     }
 }
@@ -204,6 +221,13 @@ impl Frame {
             flow: Flow::default(),
             outer: Vec::new(alloc),
         }
+    }
+
+    /// The frame around a text in the group of this number.
+    pub fn within(alloc: Global, quote: Quote, group: Option<usize>) -> Frame {
+        let mut frame = Frame::new(alloc, quote);
+        frame.flow.group = group;
+        frame
     }
 
     /// Whether what is in it are commands.

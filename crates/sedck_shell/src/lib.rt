@@ -7,6 +7,7 @@
 mod command;
 mod expansions;
 mod frame;
+mod groups;
 mod operators;
 mod output;
 mod quotes;

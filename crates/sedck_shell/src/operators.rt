@@ -176,6 +176,7 @@ impl Reader<'_> {
         // The last redirection counts, but each one that empties a file does so.
         match stream {
             Stream::Input => {
+                self.top.command.around.has_input = true;
                 self.top.command.here = None;
                 self.top.command.source = None;
                 self.top.command.here_string = None;
@@ -192,6 +193,7 @@ impl Reader<'_> {
 
     /// Notes that the output doesn't go where it went before.
     fn forget_output(&mut self) {
+        self.top.command.around.has_output = true;
         self.top.command.output = None;
     }
 

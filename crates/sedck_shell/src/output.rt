@@ -2,6 +2,7 @@
 
 use crate::command::{ShellCommand, ShellText, ShellWord};
 use crate::frame::{Delimiter, Draft, Frame, Quote};
+use crate::groups::{COPIED, inherit};
 use crate::reader::{Form, Job, MISSES, Output, Reader};
 use sedck_origin::{Result, Text, Unit};
 use std::alloc::Global;
@@ -16,6 +17,7 @@ const LEVELS: usize = 6;
 pub fn read_shell(alloc: Global, text: Text, form: Form) -> Result<ShellText> {
     let mut output = Output {
         commands: Vec::new(alloc),
+        groups: Vec::new(alloc),
         bodies: Vec::new(alloc),
         jobs: Vec::new(alloc),
         functions: Vec::new(alloc),
@@ -25,25 +27,32 @@ pub fn read_shell(alloc: Global, text: Text, form: Form) -> Result<ShellText> {
         has_looked: false,
         is_full: false,
     };
-    output = read_text(alloc, text, form, output)?;
+    output = read_text(alloc, text, form, None, output)?;
     for _ in 0..LEVELS {
         let jobs = std::mem::replace(&mut output.jobs, Vec::new(alloc));
         for job in &jobs {
             output = match job.body {
                 Some(number) => read_body(alloc, job, number, form, output)?,
-                None => read_text(alloc, Text::Units(&job.units), form, output)?,
+                None => read_text(alloc, Text::Units(&job.units), form, job.group, output)?,
             };
         }
     }
     finished(alloc, output)
 }
 
-/// Reads a text. Where a quote or an expansion isn't closed, reading goes on at the line after it.
-fn read_text(alloc: Global, text: Text, form: Form, output: Output) -> Result<Output> {
+/// Reads a text in the group of this number. Where a quote or an expansion isn't closed, reading goes on at the line after it.
+fn read_text(
+    alloc: Global,
+    text: Text,
+    form: Form,
+    group: Option<usize>,
+    output: Output,
+) -> Result<Output> {
     let mut output = output;
     let mut from = 0usize;
     for _ in 0..RESTARTS {
-        let mut reader = new_reader(alloc, text, form, Quote::None, output);
+        let top = Frame::within(alloc, Quote::None, group);
+        let mut reader = new_reader(alloc, text, form, top, output);
         reader.resume = from;
         reader.opened = from;
         reader.read_all()?;
@@ -77,7 +86,8 @@ fn read_body(
     form: Form,
     output: Output,
 ) -> Result<Output> {
-    let mut reader = new_reader(alloc, Text::Units(&job.units), form, job.quote, output);
+    let top = Frame::within(alloc, job.quote, job.group);
+    let mut reader = new_reader(alloc, Text::Units(&job.units), form, top, output);
     reader.read_all()?;
     reader.leave_frames()?;
     let body = std::mem::replace(&mut reader.top.word.units, Vec::new(alloc));
@@ -92,14 +102,14 @@ fn new_reader<'a>(
     alloc: Global,
     text: Text<'a>,
     form: Form,
-    quote: Quote,
+    top: Frame,
     output: Output,
 ) -> Reader<'a> {
     Reader {
         alloc,
         text,
         form,
-        top: Frame::new(alloc, quote),
+        top,
         frames: Vec::new(alloc),
         pending: Vec::new(alloc),
         resume: 0,
@@ -114,7 +124,15 @@ fn new_reader<'a>(
 fn finished(alloc: Global, output: Output) -> Result<ShellText> {
     let (mut bodies, mut unread) = (output.bodies, output.unread);
     let mut commands = Vec::new(alloc);
+    let groups = output.groups;
+    let mut left = COPIED;
     for draft in output.commands {
+        let mut draft = draft;
+        let is_more = left > 0;
+        left = inherit(alloc, &groups, &mut draft, left)?;
+        if is_more && left == 0 {
+            unread.push(draft.words.first().map_or(0, |word| word.start))?;
+        }
         let Draft {
             words,
             site,
@@ -125,6 +143,7 @@ fn finished(alloc: Global, output: Output) -> Result<ShellText> {
             targets,
             output: last,
             parted: _,
+            around: _,
         } = draft;
         let mut targets = targets;
         if let Some(number) = last {
@@ -164,6 +183,8 @@ pub(crate) struct Pending {
     /// Whether tabs at the beginnings of lines are left out.
     is_stripped: bool,
     number: usize,
+    /// The number of the group around it.
+    group: Option<usize>,
     /// The offset in the file of the delimiter.
     start: usize,
 }
@@ -190,6 +211,7 @@ impl Reader<'_> {
             is_quoted: word.is_quoted,
             is_stripped: how.is_stripped,
             number,
+            group: self.top.flow.group,
             start: word.start,
         };
         Ok(self.pending.push(pending)?)
@@ -215,8 +237,14 @@ impl Reader<'_> {
             } else {
                 Quote::Body
             };
-            let body = Some(one.number);
-            self.output.jobs.push(Job { units, quote, body })?;
+            let (body, group) = (Some(one.number), one.group);
+            let job = Job {
+                units,
+                quote,
+                body,
+                group,
+            };
+            self.output.jobs.push(job)?;
             self.resume = after;
         }
         Ok(())

@@ -32,12 +32,16 @@ pub(crate) struct Job {
     pub quote: Quote,
     /// The number of the here-document.
     pub body: Option<usize>,
+    /// The number of the group around it.
+    pub group: Option<usize>,
 }
 
 /// What was read.
 #[derive(Drop)]
 pub(crate) struct Output {
     pub commands: Vec<Draft>,
+    /// The groups, conditions and loops, by their numbers, without words.
+    pub groups: Vec<Draft>,
     /// The here-documents, by their numbers; none for one that wasn't found.
     pub bodies: Vec<Option<Vec<Unit>>>,
     /// What is read next.
@@ -51,7 +55,7 @@ pub(crate) struct Output {
     /// How many units were looked at for the ends of expressions, and whether that was too often.
     pub looked: usize,
     pub has_looked: bool,
-    /// Whether there are more commands than are kept.
+    /// Whether there are more commands or groups than are kept.
     pub is_full: bool,
 }
 
@@ -62,6 +66,15 @@ impl Output {
             commands: self.commands.len(),
             jobs: self.jobs.len(),
         }
+    }
+
+    /// Notes that what begins at this offset in the file isn't kept, as there is too much.
+    pub fn note_full(&mut self, offset: usize) -> Result<()> {
+        if !self.is_full {
+            self.is_full = true;
+            self.unread.push(offset)?;
+        }
+        Ok(())
     }
 
     /// Forgets what was read since, which is read again.
@@ -79,6 +92,9 @@ impl Output {
 
 /// What is searched for in vain so often isn't searched for again, so that the time stays linear.
 pub(crate) const MISSES: usize = 16;
+
+/// The most commands of a text that are kept, and the most groups, so that memory is bounded.
+pub(crate) const MOST: usize = 100_000;
 
 /// The most enclosures around a byte.
 const DEPTH: usize = 100;
@@ -259,7 +275,10 @@ impl Reader<'_> {
         if self.frames.len() >= DEPTH {
             return self.give_up_line(index);
         }
-        let frame = self.frame_for(index, enclosure, is_hole);
+        let mut frame = self.frame_for(index, enclosure, is_hole);
+        if frame.has_commands() {
+            frame.flow.group = self.new_group(frame.opened, is_hole)?;
+        }
         let outer = std::mem::replace(&mut self.top, frame);
         Ok(self.frames.push(outer)?)
     }
@@ -276,6 +295,7 @@ impl Reader<'_> {
             && (self.top.is_in_double || matches!(self.top.quote, Quote::Double | Quote::Body));
         frame.brackets = self.brackets;
         frame.floor = self.brackets;
+        frame.flow.group = self.top.flow.group;
         frame.flow.body = if self.top.flow.begins_function && is_group {
             self.output.functions.len()
         } else {
@@ -312,6 +332,9 @@ impl Reader<'_> {
         let inner = std::mem::replace(&mut self.top, outer);
         self.top.flow.begins_function = false;
         if !inner.is_hole {
+            if inner.has_commands() {
+                self.top.command.around.closed = inner.flow.group;
+            }
             return Ok(());
         }
         let way = match inner.enclosure {

@@ -2,11 +2,8 @@
 
 use crate::command::{ShellWord, Site, Target};
 use crate::frame::{Awaited, Braces, Draft, Enclosure, Quote};
-use crate::reader::{Dialect, Reader};
+use crate::reader::{Dialect, MOST, Reader};
 use sedck_origin::{Hole, Result, Unit, Way, is_one_of, is_text};
-
-/// The most commands of a text that are kept, so that memory is bounded.
-const MOST: usize = 100_000;
 
 /// Reserved words before a command, which are no words of it.
 static RESERVED: &'static [&'static str] = &[
@@ -166,6 +163,9 @@ impl Reader<'_> {
     /// Whether the word is a reserved one where it stands. `case` and `esac` change what parentheses mean.
     fn read_reserved(&mut self, units: &[Unit]) -> Result<bool> {
         let is_first = self.top.command.words.is_empty();
+        if is_first {
+            self.redirect_group();
+        }
         if (is_first || self.top.is_pattern) && is_text(units, "esac") {
             self.end_compound();
             self.top.cases = self.top.cases.saturating_sub(1);
@@ -186,7 +186,7 @@ impl Reader<'_> {
         }
         let has_tests = self.form.has_dollar_quotes && self.form.dialect != Dialect::Macros;
         self.top.is_test |= has_tests && is_text(units, "[[");
-        self.note_flow(units);
+        self.note_flow(units)?;
         Ok(is_one_of(units, RESERVED))
     }
 
@@ -205,7 +205,7 @@ impl Reader<'_> {
         if begins_body {
             let name = self.top.command.words.pop();
             self.begin_function(name)?;
-            self.note_flow(units);
+            self.note_flow(units)?;
         }
         let is_reserved = begins_case || begins_body || begins_loop;
         if is_reserved {
@@ -222,6 +222,7 @@ impl Reader<'_> {
         self.top.is_test = false;
         let mut command = std::mem::replace(&mut self.top.command, Draft::new(self.alloc));
         let Some(first) = command.words.first() else {
+            self.output.redirect(command);
             return Ok(());
         };
         let start = first.start;
@@ -236,13 +237,11 @@ impl Reader<'_> {
             return Ok(());
         }
         command.site = self.site();
+        command.around.group = self.top.flow.group;
         if self.output.commands.len() < MOST {
-            self.output.commands.push(command)?;
-        } else if !self.output.is_full {
-            self.output.is_full = true;
-            self.output.unread.push(start)?;
+            return Ok(self.output.commands.push(command)?);
         }
-        Ok(())
+        self.output.note_full(start)
     }
 
     /// Leaves the command that is read.
@@ -254,10 +253,11 @@ impl Reader<'_> {
         self.top.awaited = Awaited::Word;
     }
 
-    /// Whether a newline doesn't end the command: in an array, behind an operator in `[[`, and before `in` of `case`.
+    /// Whether a newline doesn't end the command: in an array, behind an operator, also in `[[`, and before `in` of `case`.
     fn goes_on(&self) -> bool {
         let words = &self.top.command.words;
         self.top.enclosure == Enclosure::Array
+            || (self.top.flow.is_awaited && self.top.command.around.closed.is_none())
             || (self.top.is_test && words.is_empty())
             || (words.len() == 2 && begins_with(words, "case"))
     }
@@ -285,22 +285,29 @@ impl Reader<'_> {
     }
 
     /// Notes what begins or ends with the first word of a command.
-    fn note_flow(&mut self, units: &[Unit]) {
+    fn note_flow(&mut self, units: &[Unit]) -> Result<()> {
+        let offset = units.first().map_or(0, |unit| unit.start());
         if is_text(units, "{") {
             self.open_block();
+            self.begin_group(offset)?;
         } else if is_text(units, "}") {
             self.close_block();
         } else if is_one_of(units, BEGINNINGS) {
             self.top.flow.depth = self.top.flow.depth.saturating_add(1);
+            self.begin_group(offset)?;
         } else if is_one_of(units, ENDS) {
             self.end_compound();
         }
         self.top.flow.begins_function = false;
+        Ok(())
     }
 
-    /// Ends a condition or a loop.
+    /// Ends a condition or a loop, if one is open.
     fn end_compound(&mut self) {
-        self.top.flow.depth = self.top.flow.depth.saturating_sub(1);
+        if self.top.flow.depth > 0 {
+            self.top.flow.depth = self.top.flow.depth.saturating_sub(1);
+            self.end_group();
+        }
     }
 
     /// Keeps the name of a function whose body comes next.
@@ -332,6 +339,7 @@ impl Reader<'_> {
         } else if let Some((body, depth)) = self.top.outer.pop() {
             self.top.flow.body = body;
             self.top.flow.depth = depth;
+            self.end_group();
         }
     }
 
@@ -339,7 +347,9 @@ impl Reader<'_> {
     pub fn join_commands(&mut self, is_pipe: bool) -> Result<()> {
         self.end_word()?;
         self.top.flow.is_conditional |= is_pipe;
+        self.top.command.around.has_output |= is_pipe;
         self.end_command()?;
+        self.top.command.around.has_input = is_pipe;
         self.top.flow.is_conditional = true;
         self.top.flow.is_awaited = true;
         Ok(())
