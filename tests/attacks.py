@@ -607,7 +607,7 @@ def rules_out(message, values):
     return ("isn't empty" in message and "" in values
             or any("`%s` isn't set" % value in message for value in values)
             or re.search(r"\bone (?:word|argument)\b", message) is not None and len(values) > 1
-            or "runs the words behind it" in message and any("sed" in value.split() for value in values)
+            or "runs the words after it" in message and any("sed" in value.split() for value in values)
             or any(byte in nowhere for value in values for byte in value)
             or any(word[0] in not_first for value in values for word in value.split()))
 

@@ -391,7 +391,7 @@ SAID = [(1, '"$SED" isn\'t known: the answer holds if it is the name of a sed, w
         (2, '"$a" isn\'t known: the answer holds if it isn\'t empty, and has no `/`, no newline, and none of `\\[.*^$`; or give --assume a=VALUE (2 calls of this file depend on it)'),
         (2, '"$f" isn\'t known: the answer holds if no word of it begins with `-`; or give --assume f=VALUE (2 calls of this file depend on it)'),
         (3, '"$a" isn\'t known: the answer holds if it has no `/`, no newline, and none of `\\&`; or give --assume a=VALUE (2 calls of this file depend on it)'),
-        (4, '"p" isn\'t known: the answer holds if POSIXLY_CORRECT isn\'t set, with which an option behind an operand is none; or give --assume POSIXLY_CORRECT'),
+        (4, '"p" isn\'t known: the answer holds if POSIXLY_CORRECT isn\'t set, with which an option after an operand is none; or give --assume POSIXLY_CORRECT'),
         (6, 'the answer holds if "$b" has the value that line 5 sets; or give --assume b=VALUE')]
 KINDS = [("sed", 1, 3), ("operand", 1, 2), ("order", 1, 1), ("script", 2, 3), ("value", 1, 1)]
 

@@ -32,7 +32,7 @@ const VALUE: &str = "write the value in its place";
 const DELIMITER: &str = "write another delimiter, which the command doesn't have";
 
 /// How an output is kept from what is read.
-const OTHER_FILE: &str = "write to another file, and rename that behind the call";
+const OTHER_FILE: &str = "write to another file, and rename that after the call";
 
 /// A warning for each hole: what its value may not have, so that the answer holds.
 pub(crate) fn open_warnings(
@@ -289,10 +289,9 @@ fn words_of_role(role: Role) -> &'static str {
             "no file's name matches it, and it stays as it is then: `nullglob` isn't set",
         Role::Names => "no file's name that matches it begins with `-`",
         Role::Sed => "it is the name of a sed, without options",
-        Role::Runner => "it is nothing, or what runs the words behind it",
+        Role::Runner => "it is nothing, or what runs the words after it",
         Role::Added => "no operand that xargs adds begins with `-`",
-        Role::Options =>
-            "POSIXLY_CORRECT isn't set, with which an option behind an operand is none",
+        Role::Options => "POSIXLY_CORRECT isn't set, with which an option after an operand is none",
         _ => "it has no newline and no `\\`",
     }
 }
@@ -384,7 +383,7 @@ pub(crate) fn unread_warning(
     ensures { IfOk result (λ findings. All (IsFindingIn file.now) findings.items) }
 {
     let words = (
-        "what begins here isn't understood, and calls of sed in it or behind it may be missed",
+        "what begins here isn't understood, and calls of sed in it or after it may be missed",
         "close what is open, or write the call where it can be read",
     );
     warning_at(alloc, file, position, Code::NotUnderstood, words)
@@ -422,7 +421,7 @@ pub(crate) fn unknown_warning(
             "write `command sed` where a function has the name of the sed, and else the path of the sed",
         ),
         Unknown::Suffix => (
-            "the script is empty behind -i: the seds of the BSDs take that word for the suffix, and the next one for the script",
+            "the script is empty after -i: the seds of the BSDs take that word for the suffix, and the next one for the script",
             "write -i.bak, or give the script with -e",
         ),
         Unknown::Setting => (
