@@ -48,7 +48,9 @@ pub fn spell_call<R: Input + AllocGlobal, O: Opener, F: Finder, W: Sink, E: Sink
     out: &mut W,
     err: &mut E,
 ) -> Status
-    ensures spelled { result ≢ Status.Misused → result ≢ Status.Failed → SpellsOne (O.known walk.now.files.now) (F.found walk.now.finder.now) walk.now.scan.now.denied path.now (record { before = W.taken out.old; after = W.taken out.new }) result }
+    ensures spelled { result ≢ Status.Misused → result ≢ Status.Failed
+        → SpellsOne (O.known walk.now.files.now) (F.found walk.now.finder.now) walk.now.scan.now.denied path.now
+        (record { before = W.taken out.old; after = W.taken out.new }) result }
     ensures refused { result ≡ Status.Misused → Keeps (W.taken out.old) (W.taken out.new) }
     ensures silent { result ≡ Status.Accepted → Keeps (E.taken err.old) (E.taken err.new) }
 {
@@ -115,7 +117,9 @@ fn spell_in<F: Finder, W: Sink, E: Sink>(
     out: &mut W,
     err: &mut E,
 ) -> Status
-    ensures spelled { result ≢ Status.Misused → result ≢ Status.Failed → SpellsIn (F.found finder.now asked.now.file.path.now asked.now.file.text.now) asked.now.scan.now.denied asked.now.file.text.now (record { before = W.taken out.old; after = W.taken out.new }) result }
+    ensures spelled { result ≢ Status.Misused → result ≢ Status.Failed
+        → SpellsIn (F.found finder.now asked.now.file.path.now asked.now.file.text.now) asked.now.scan.now.denied
+        asked.now.file.text.now (record { before = W.taken out.old; after = W.taken out.new }) result }
     ensures refused { result ≡ Status.Misused → Keeps (W.taken out.old) (W.taken out.new) }
     ensures silent { result ≡ Status.Accepted → Keeps (E.taken err.old) (E.taken err.new) }
 {
@@ -163,7 +167,9 @@ fn spell_one<W: Sink, E: Sink>(
     err: &mut E,
 ) -> Status
     ensures known { result ≢ Status.Misused }
-    ensures spelled { result ≢ Status.Failed → SpellsCall asked.now.scan.now.denied asked.now.file.text.now call.now (record { before = W.taken out.old; after = W.taken out.new }) result }
+    ensures spelled { result ≢ Status.Failed
+        → SpellsCall asked.now.scan.now.denied asked.now.file.text.now call.now
+        (record { before = W.taken out.old; after = W.taken out.new }) result }
     ensures silent { result ≡ Status.Accepted → Keeps (E.taken err.old) (E.taken err.new) }
 {
     match report_of(asked, call) {
@@ -174,7 +180,9 @@ fn spell_one<W: Sink, E: Sink>(
 
 /// What is written of the call, and the exit status.
 fn report_of(asked: &FileScan, call: &FoundCall) -> Result<(Vec<u8>, Status), AllocError>
-    ensures { IfOk result (λ made. (e : Explanation) × IsSaidOfFound asked.now.file.text.now asked.now.scan.now.denied call.now e × IsPlainReport e made.0.items made.1) }
+    ensures { IfOk result (λ made. (e : Explanation)
+        × IsSaidOfFound asked.now.file.text.now asked.now.scan.now.denied call.now e
+        × IsPlainReport e made.0.items made.1) }
 {
     let alloc = asked.alloc;
     let text = asked.file.text;

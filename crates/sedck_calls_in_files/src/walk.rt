@@ -61,7 +61,9 @@ pub fn scan_files<
     E: Sink,
 >(walk: &Walk<R, O, F>, out: &mut W, err: &mut E) -> Status
     ensures known { result ≢ Status.Misused }
-    ensures worst { result ≢ Status.Failed → IsWorstOf (PathStatus (O.known walk.now.files.now) (F.found walk.now.finder.now) walk.now.scan.now.denied) Status.Accepted (map (λ path. path.now) walk.now.scan.now.paths.now) result }
+    ensures worst { result ≢ Status.Failed
+        → IsWorstOf (PathStatus (O.known walk.now.files.now) (F.found walk.now.finder.now) walk.now.scan.now.denied) Status.Accepted
+        (map (λ path. path.now) walk.now.scan.now.paths.now) result }
     ensures silent { result ≢ Status.Failed → Keeps (E.taken err.old) (E.taken err.new) }
 {
     let mut pass = Pass {
