@@ -26,6 +26,9 @@ ROWS = [
     (":loop\ns/^\\([^;]*\\)[$]LINENO\\([^a-z]\\)/\\1$LINENO\\2/\ntloop\n", True),
     # By bytes no `x` is matched, and in UTF-8 each is, so that the script ends there.
     ("/x\u00c3\u00a9*/!{:a\nba\n}\n", False),
+    # Texts that grow exponentially, and intervals of intervals of nothing: both are looked at for a moment only.
+    (":a\n" + "G\nH\n" * 30 + "ba\n", False), ("/\\(a\\)$/s/.\\(b*\\)^/b/g\n:m\n2!H\nG\nbm\n", False),
+    (":a\ns/" + "\\(" * 8 + "x*" + "\\)\\{255\\}" * 8 + "/x/\nba\n", False),
     # GNU sed ends the first one on the line `x`, and what is known of ranges is nothing. The others end on every input, or always grow.
     (":a;1,/x/ba\n", False), ("/a/,/b/{:a\nba\n}\n", False),
     (":a;s/x/y/;ta\n", False), (":a;s/^.\\{1,9\\}$/ &/;ta\n", False), (":a;s/^ *x/x/2;ta\n", False), (":a;s/x/xx/;ta\n", False), (":a;G;ba\n", False),

@@ -7,6 +7,9 @@ use std::alloc::{AllocError, Global};
 /// How many lines are drawn, at most.
 const MOST: usize = 12;
 
+/// How many texts of groups are made for a line, at most: intervals of intervals would make very many, perhaps all empty.
+const GROUPS: usize = 1_000;
+
 /// What is a quote in reports, in the shell or for `printf`.
 const QUOTES: &[u8] = b"'`\\%";
 
@@ -47,12 +50,15 @@ fn draw(alloc: Global, pattern: &Pattern, lines: &mut Vec<Vec<u8>>) -> Result<()
         return Ok(());
     };
     for times in 0..2u8 {
+        if lines.len() >= MOST {
+            break;
+        }
         let mut sample = Sample {
             text: Vec::new(alloc),
             groups: Vec::new(alloc),
             times,
         };
-        if sample.add(expression.body())? && lines.len() < MOST && !has_line(lines, &sample.text) {
+        if sample.add(expression.body())? && !has_line(lines, &sample.text) {
             lines.push(sample.text)?;
         }
     }
@@ -90,7 +96,7 @@ impl Sample {
                 let begin = self.text.len();
                 let is_made = self.add(body)?;
                 self.groups.push((*group, begin, self.text.len()))?;
-                Ok(is_made)
+                Ok(is_made && self.groups.len() < GROUPS)
             }
             Bre::Ref(group) => self.add_again(*group),
             Bre::Seq(items) => self.add_all(items),

@@ -17,6 +17,9 @@ const WORK: u64 = 1_500;
 /// How many states of a run are looked at.
 const STATES: usize = 60;
 
+/// No longer pattern or hold space is looked at: `G` and `H` in turn make both grow exponentially.
+const TEXT: usize = 4_096;
+
 /// No script with more commands is run.
 const COMMANDS: usize = 256;
 
@@ -97,6 +100,9 @@ fn states_of<'a>(
         let Some(next) = advanced(script, lines, last, budget)? else {
             break;
         };
+        if next.pattern.len().max(next.hold.len()) > TEXT {
+            break;
+        }
         let is_known = states.iter().any(|state| state.is_same(&next));
         states.push(next)?;
         if is_known {
