@@ -27,12 +27,7 @@ pub(crate) fn delimiter(first: &[u8], second: &[u8], parts: &[Part]) -> u8 {
 
 /// Whether the byte is in a text of the replacement that is this long at least.
 fn is_in_texts(parts: &[Part], byte: u8, least: usize) -> bool {
-    for part in parts {
-        if let Part::Text(text) = part {
-            if text.len() >= least && text.contains(&byte) {
-                return true;
-            }
-        }
-    }
-    false
+    parts.iter().any(
+        |part| matches!(part, Part::Text(text) if text.len() >= least && text.contains(&byte)),
+    )
 }

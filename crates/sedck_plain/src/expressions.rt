@@ -1,17 +1,17 @@
 //! Expressions, each in one spelling: what has a meaning is escaped wherever it stands for itself, and each repetition has one
-//! form.
+//! form. Bracket lists are as the script has them.
 
-use crate::lists::Lists;
 use crate::printed::Printed;
+use crate::written::{Position, after, is_in_list};
 use sedck_bre::Bre;
+use std::slice::Iter;
 
-/// Adds the expression.
-#[cycle(spelling)]
-pub(crate) fn push_tree(tree: &Bre, lists: &mut Lists, out: &mut Printed) {
+/// Adds the expression, whose lists are the first ones of these.
+pub(crate) fn push_tree(tree: &Bre, lists: &mut Iter<u8>, out: &mut Printed) {
     match tree {
-        Bre::Byte(byte) => push_byte(out, *byte),
+        Bre::Byte(byte) => out.push_escaped(&[*byte], b".[\\*^$"),
         Bre::Any => out.push(b"."),
-        Bre::Set(_) => lists.push_next(out),
+        Bre::Set(_) => push_list(lists, out),
         Bre::Start => out.push(b"^"),
         Bre::End => out.push(b"$"),
         Bre::Maybe(byte) => out.push(&[*byte]),
@@ -24,7 +24,11 @@ pub(crate) fn push_tree(tree: &Bre, lists: &mut Lists, out: &mut Printed) {
             out.push(b"\\");
             out.push_number(u32::from(*k));
         }
-        Bre::Seq(items) => push_trees(items, lists, out),
+        Bre::Seq(items) => {
+            for item in items {
+                push_tree(item, lists, out);
+            }
+        }
         Bre::Repeat { body, least, most } => {
             push_tree(body, lists, out);
             push_count(out, *least, *most);
@@ -32,20 +36,19 @@ pub(crate) fn push_tree(tree: &Bre, lists: &mut Lists, out: &mut Printed) {
     }
 }
 
-/// Adds the items, one after another.
-#[cycle(spelling)]
-fn push_trees(items: &[Bre], lists: &mut Lists, out: &mut Printed) {
-    for item in items {
-        push_tree(item, lists, out);
-    }
-}
-
-/// Adds a byte that stands for itself.
-fn push_byte(out: &mut Printed, byte: u8) {
-    match byte {
-        b'.' | b'[' | b'\\' | b'*' | b'^' | b'$' => out.push(&[b'\\', byte]),
-        b'\n' => out.push(b"\\n"),
-        _ => out.push(&[byte]),
+/// Adds the next one of the lists. Where there is none nothing is added, and what is printed is another command.
+fn push_list(lists: &mut Iter<u8>, out: &mut Printed) {
+    let mut position = Position::Outside;
+    for byte in lists {
+        // The lists of each expression are on a line of their own.
+        if *byte != b'\n' {
+            out.push(&[*byte]);
+        }
+        let next = after(position, *byte);
+        if is_in_list(position) && !is_in_list(next) {
+            return;
+        }
+        position = next;
     }
 }
 

@@ -15,7 +15,6 @@ mod commands;
 mod delimiters;
 mod expressions;
 mod layout;
-mod lists;
 mod plain;
 mod printed;
 mod same;

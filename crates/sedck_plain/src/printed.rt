@@ -20,9 +20,7 @@ impl Printed {
     }
 
     pub(crate) fn push(&mut self, bytes: &[u8]) {
-        if !self.has_failed && self.bytes.extend_from_slice(bytes).is_err() {
-            self.has_failed = true;
-        }
+        self.has_failed = self.has_failed || self.bytes.extend_from_slice(bytes).is_err();
     }
 
     /// Adds the number in decimal.
@@ -33,18 +31,22 @@ impl Printed {
         }
     }
 
-    /// Adds the part with a backslash before each delimiter, and the delimiter that ends it.
-    pub(crate) fn push_part(&mut self, part: &Printed, delimiter: u8) {
-        for byte in &part.bytes {
-            if *byte == delimiter {
-                self.push(b"\\");
+    /// Adds bytes that stand for themselves: with a backslash where they are of the special ones, and a newline as `\n`.
+    pub(crate) fn push_escaped(&mut self, bytes: &[u8], special: &[u8]) {
+        for byte in bytes {
+            match *byte {
+                b'\n' => self.push(b"\\n"),
+                byte if special.contains(&byte) => self.push(&[b'\\', byte]),
+                byte => self.push(&[byte]),
             }
-            self.push(&[*byte]);
         }
+    }
+
+    /// Adds the part, in which each delimiter is escaped, and the delimiter that ends it.
+    pub(crate) fn push_part(&mut self, part: &Printed, delimiter: u8) {
+        self.push_escaped(&part.bytes, &[delimiter]);
         self.push(&[delimiter]);
-        if part.has_failed {
-            self.has_failed = true;
-        }
+        self.has_failed = self.has_failed || part.has_failed;
     }
 
     /// All that was added.

@@ -2,13 +2,13 @@
 
 use crate::delimiters::delimiter;
 use crate::expressions::push_tree;
-use crate::lists::Lists;
 use crate::printed::Printed;
 use sedck_script::{Part, Pattern, Substitution};
 use std::alloc::Global;
+use std::slice::Iter;
 
 /// The text of an expression; none for the empty one.
-pub(crate) fn pattern_text(alloc: Global, lists: &mut Lists, pattern: &Pattern) -> Printed {
+pub(crate) fn pattern_text(alloc: Global, lists: &mut Iter<u8>, pattern: &Pattern) -> Printed {
     let mut text = Printed::new(alloc);
     if let Pattern::Expr(expression) = pattern {
         push_tree(expression.body(), lists, &mut text);
@@ -17,7 +17,11 @@ pub(crate) fn pattern_text(alloc: Global, lists: &mut Lists, pattern: &Pattern) 
 }
 
 /// Adds what `s` takes: delimited parts and flags.
-pub(crate) fn push_substitution(lists: &mut Lists, out: &mut Printed, substitution: &Substitution) {
+pub(crate) fn push_substitution(
+    lists: &mut Iter<u8>,
+    out: &mut Printed,
+    substitution: &Substitution,
+) {
     let expression = pattern_text(out.alloc, lists, &substitution.pattern);
     let delimiter = if has_escaped_letter(&substitution.parts) {
         b'x'
@@ -32,40 +36,39 @@ pub(crate) fn push_substitution(lists: &mut Lists, out: &mut Printed, substituti
     push_flags(out, substitution);
 }
 
-fn is_text(part: Option<&Part>) -> bool {
-    matches!(part, Some(Part::Text(_)))
-}
-
 /// Whether an `x` is a text of its own beside a bare one: it was escaped, so it was the delimiter.
 fn has_escaped_letter(parts: &[Part]) -> bool {
-    let mut after_bare = false;
-    for (place, part) in parts.iter().enumerate() {
-        if let Part::Text([b'x']) = part {
-            if after_bare || is_bare(parts.get(place + 1)) {
-                return true;
-            }
+    for pair in parts.windows(2) {
+        match pair {
+            [Part::Text([b'x']), other] if is_bare(other) => return true,
+            [other, Part::Text([b'x'])] if is_bare(other) => return true,
+            _ => {}
         }
-        after_bare = is_bare(Some(part));
     }
     false
 }
 
 /// Whether the part is a text that is written without a backslash before it, beside another text too.
-fn is_bare(part: Option<&Part>) -> bool {
+fn is_bare(part: &Part) -> bool {
     match part {
-        Some(Part::Text([byte])) => byte.is_ascii_alphanumeric(),
-        Some(Part::Text(_)) => true,
+        Part::Text([byte]) => byte.is_ascii_alphanumeric(),
+        Part::Text(_) => true,
         _ => false,
     }
 }
 
-/// Adds the parts of the replacement. Beside another text, one that can be escaped is: each is a text of its own.
+/// Adds the parts of the replacement.
 fn push_parts(out: &mut Printed, parts: &[Part], delimiter: u8) {
-    let mut after_text = false;
+    let is_text = |place: usize| matches!(parts.get(place), Some(Part::Text(_)));
     for (place, part) in parts.iter().enumerate() {
-        let beside = after_text || is_text(parts.get(place + 1));
         match part {
-            Part::Text(text) => push_literal(out, text, beside, delimiter),
+            Part::Text(text) => {
+                let is_beside = is_text(place.wrapping_sub(1)) || is_text(place.wrapping_add(1));
+                if is_escaped(text, is_beside, delimiter) {
+                    out.push(b"\\");
+                }
+                out.push(text);
+            }
             Part::Newline => out.push(b"\\n"),
             Part::Tab => out.push(b"\\t"),
             Part::Whole => out.push(b"&"),
@@ -74,19 +77,17 @@ fn push_parts(out: &mut Printed, parts: &[Part], delimiter: u8) {
                 out.push_number(u32::from(*k));
             }
         }
-        after_text = is_text(Some(part));
     }
 }
 
-/// Adds a text of the replacement, with a backslash where it is one byte that needs it.
-fn push_literal(out: &mut Printed, text: &[u8], beside: bool, delimiter: u8) {
-    if let [byte] = text {
-        let is_sign = beside && !byte.is_ascii_alphanumeric();
-        if is_sign || *byte == delimiter || b"&\\\n".contains(byte) {
-            out.push(b"\\");
-        }
+/// Whether a text of the replacement has a backslash before it. Where it is beside another text it has one if it can, so that each is a
+/// text of its own.
+fn is_escaped(text: &[u8], is_beside: bool, delimiter: u8) -> bool {
+    match text {
+        [byte] if is_beside && !byte.is_ascii_alphanumeric() => true,
+        [byte] => *byte == delimiter || b"&\\\n".contains(byte),
+        _ => false,
     }
-    out.push(text);
 }
 
 /// Adds the flags: the number, `g`, `p`, and `w` with its name.
@@ -106,25 +107,14 @@ fn push_flags(out: &mut Printed, substitution: &Substitution) {
     }
 }
 
-/// A list of `y`, before its delimiter is escaped.
-fn list_text(alloc: Global, bytes: &[u8]) -> Printed {
-    let mut text = Printed::new(alloc);
-    for byte in bytes {
-        match *byte {
-            b'\\' => text.push(b"\\\\"),
-            b'\n' => text.push(b"\\n"),
-            _ => text.push(&[*byte]),
-        }
-    }
-    text
-}
-
 /// Adds what `y` takes: two lists.
-pub(crate) fn push_lists(out: &mut Printed, from: &[u8], to: &[u8]) {
-    let from = list_text(out.alloc, from);
-    let to = list_text(out.alloc, to);
-    let delimiter = delimiter(&from.bytes, &to.bytes, &[]);
+pub(crate) fn push_transliteration(out: &mut Printed, from: &[u8], to: &[u8]) {
+    let mut first = Printed::new(out.alloc);
+    first.push_escaped(from, b"\\");
+    let mut second = Printed::new(out.alloc);
+    second.push_escaped(to, b"\\");
+    let delimiter = delimiter(&first.bytes, &second.bytes, &[]);
     out.push(&[delimiter]);
-    out.push_part(&from, delimiter);
-    out.push_part(&to, delimiter);
+    out.push_part(&first, delimiter);
+    out.push_part(&second, delimiter);
 }
