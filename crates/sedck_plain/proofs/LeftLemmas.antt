@@ -1,5 +1,5 @@
 -- What is left of a command, when one more piece is read, and the lists of a command by its grammar.
-use Rattle.std.proofs.Common.{◌≡◌, ◌≢◌, ℕ, ◌+◌, true, false, Bool, List, [], ◌∷◌, ◌++◌, refl, ap, sym, ◌∙◌, subst, append_assoc, arith}
+use Rattle.std.proofs.Common.{◌≡◌, ◌≢◌, ◌<◌, ◌⊎◌, inl, inr, length, ℕ, true, false, Bool, List, [], ◌∷◌, ◌++◌, refl, ap, sym, ◌∙◌, subst, append_assoc, arith}
 use Rattle.std.specs.Prelude.{◌||◌, not, IsTrue}
 use Rattle.std.specs.List.{list_all}
 use Rattle.std.proofs.lemmas.Bool.{false≢true, and_parts}
@@ -12,8 +12,8 @@ use Rattle.sedck_commands.specs.Cuts.{is_delimiter}
 use Rattle.sedck_commands.specs.Program.{Place, Address, Verb}
 use Rattle.sedck_commands.specs.Items.{WrittenVerb, Simple, VerbText, CommandText}
 use Rattle.sedck_commands.specs.Items as w
-use Rattle.sedck_plain.specs.WrittenLists.{place_lists, address_lists, verb_lists, command_lists}
-use Rattle.sedck_plain.specs.Private.Cutting.{is_passed, is_other, HasLeft, AreExpressionLists}
+use Rattle.sedck_plain.specs.WrittenLists.{expression_lists, place_lists, address_lists, verb_lists, command_lists}
+use Rattle.sedck_plain.specs.Private.Cutting.{is_passed, is_other, HasLeft, AreAdded}
 use Rattle.sedck_plain.specs.Private.Cutting as c
 
 -- ---- One more piece
@@ -31,43 +31,55 @@ left_passed b text all h (c.custom e n x y) = unpassed b h (ap is_passed e)
 left_passed b text all h (c.substitute e n x) = unpassed b h (ap is_passed e)
 left_passed b text all h (c.other o) = absurd (false≢true (other_unpassed b h o))
 
-pub left_context : (b : ℕ) (text own rest all : List ℕ) → b ≡ 47 → AreExpressionLists b text own rest → HasLeft (b ∷ text) all
-    → (more : List ℕ) × (all ≡ own ++ more) × HasLeft rest more
-left_context b text own rest all h k (c.passed i x) = unpassed b i (ap is_passed h)
-left_context b text own rest all h k (c.context {expression = expression} {rest = left} {lists = lists} e x y) =
-    let one = k expression left (λ (s : b ≡ 92). absurd (omega (arith, s, h))) (subst (λ d. DelimitedExpression d text expression left) (sym e) x) in
-    (lists, ap (λ t. t ++ lists) one.0, subst (λ t. HasLeft t lists) one.1 y)
-left_context b text own rest all h k (c.custom e n x y) = absurd (omega (arith, e, h))
-left_context b text own rest all h k (c.substitute e n x) = absurd (omega (arith, e, h))
-left_context b text own rest all h k (c.other o) = absurd (false≢true (sym (ap is_other h) ∙ o))
+added : (before own lists items : List ℕ) → items ≡ before ++ own → before ++ (own ++ lists) ≡ items ++ lists
+added before own lists items e = sym (append_assoc before own lists) ∙ ap (λ t. t ++ lists) (sym e)
 
-pub left_custom : (b d : ℕ) (text own rest all : List ℕ) → b ≡ 92 → AreExpressionLists d text own rest → HasLeft (b ∷ d ∷ text) all
-    → (more : List ℕ) × (all ≡ own ++ more) × HasLeft rest more
-left_custom b d text own rest all h k (c.passed i x) = unpassed b i (ap is_passed h)
-left_custom b d text own rest all h k (c.context e x y) = absurd (omega (arith, e, h))
-left_custom b d text own rest all h k (c.custom {lists = lists} e s x y) =
-    let one = k _ _ s x in (lists, ap (λ t. t ++ lists) one.0, subst (λ t. HasLeft t lists) one.1 y)
-left_custom b d text own rest all h k (c.substitute e s x) = absurd (omega (arith, e, h))
-left_custom b d text own rest all h k (c.other i) = absurd (false≢true (sym (ap is_other h) ∙ i))
+pub left_context : (b : ℕ) (text before items rest all : List ℕ) → b ≡ 47 → AreAdded 47 text before items rest → HasLeft (b ∷ text) all
+    → (more : List ℕ) × (before ++ all ≡ items ++ more) × HasLeft rest more
+left_context b text before items rest all h k (c.passed i x) = unpassed b i (ap is_passed h)
+left_context b text before items rest all h k (c.context {expression = expression} {rest = left} {lists = lists} e x y) =
+    let one = k expression left (λ (s : 47 ≡ 92). absurd (omega (arith, s))) x in
+    (lists, added before (expression_lists expression) lists items one.0, subst (λ t. HasLeft t lists) one.1 y)
+left_context b text before items rest all h k (c.custom e n x y) = absurd (omega (arith, e, h))
+left_context b text before items rest all h k (c.substitute e n x) = absurd (omega (arith, e, h))
+left_context b text before items rest all h k (c.other o) = absurd (false≢true (sym (ap is_other h) ∙ o))
 
--- a byte that begins an expression is not the last one
-lone : {A : Type 0} (b : ℕ) (all : List ℕ) → is_passed b ≡ false → b ≢ 47 → is_other b ≡ false → HasLeft (b ∷ []) all → A
-lone b all h n o (c.passed i x) = unpassed b i h
-lone b all h n o (c.context e x y) = absurd (n e)
-lone b all h n o (c.other i) = absurd (false≢true (sym o ∙ i))
+pub left_custom : (b d : ℕ) (text before items rest all : List ℕ) → b ≡ 92 → AreAdded d text before items rest → HasLeft (b ∷ d ∷ text) all
+    → (more : List ℕ) × (before ++ all ≡ items ++ more) × HasLeft rest more
+left_custom b d text before items rest all h k (c.passed i x) = unpassed b i (ap is_passed h)
+left_custom b d text before items rest all h k (c.context e x y) = absurd (omega (arith, e, h))
+left_custom b d text before items rest all h k (c.custom {expression = expression} {rest = left} {lists = lists} e s x y) =
+    let one = k expression left s x in (lists, added before (expression_lists expression) lists items one.0, subst (λ t. HasLeft t lists) one.1 y)
+left_custom b d text before items rest all h k (c.substitute e s x) = absurd (omega (arith, e, h))
+left_custom b d text before items rest all h k (c.other i) = absurd (false≢true (sym (ap is_other h) ∙ i))
 
-pub left_lone : {A : Type 0} (b : ℕ) (text rest all : List ℕ) → text ≡ b ∷ rest → rest ≡ [] → is_passed b ≡ false → b ≢ 47 → is_other b ≡ false
-    → HasLeft text all → A
-left_lone b text rest all e f h n o x = lone b all h n o (subst (λ t. HasLeft t all) (e ∙ ap (λ t. b ∷ t) f) x)
+pub left_substitute : (b d : ℕ) (text before items rest all : List ℕ) → b ≡ 115 → AreAdded d text before items rest → HasLeft (b ∷ d ∷ text) all
+    → before ++ all ≡ items
+left_substitute b d text before items rest all h k (c.passed i x) = unpassed b i (ap is_passed h)
+left_substitute b d text before items rest all h k (c.context e x y) = absurd (omega (arith, e, h))
+left_substitute b d text before items rest all h k (c.custom e s x y) = absurd (omega (arith, e, h))
+left_substitute b d text before items rest all h k (c.substitute {expression = expression} {rest = left} e s x) = sym (k expression left s x).0
+left_substitute b d text before items rest all h k (c.other i) = absurd (false≢true (sym (ap is_other h) ∙ i))
 
--- after what was read before
-pub left_more : (own lists items all : List ℕ) (rest behind : List ℕ) → items ≡ lists ++ own
-    → ((more : List ℕ) × (all ≡ lists ++ more) × HasLeft rest more)
-    → ((more : List ℕ) → HasLeft rest more → (last : List ℕ) × (more ≡ own ++ last) × HasLeft behind last)
-    → (last : List ℕ) × (all ≡ items ++ last) × HasLeft behind last
-left_more own lists items all rest behind e one h =
-    let two = h one.0 one.2 in
-    (two.0, one.1 ∙ ap (λ t. lists ++ t) two.1 ∙ sym (append_assoc lists own two.0) ∙ ap (λ t. t ++ two.0) (sym e), two.2)
+-- no list is left
+pub left_none : (text all : List ℕ) → length text < 1 → HasLeft text all → all ≡ []
+left_none _ _ short (c.passed i x) = absurd (omega (arith, short))
+left_none _ _ short (c.context e x y) = absurd (omega (arith, short))
+left_none _ _ short (c.custom e n x y) = absurd (omega (arith, short))
+left_none _ _ short (c.substitute e n x) = absurd (omega (arith, short))
+left_none _ _ short (c.other o) = refl
+
+over : (b : ℕ) (text all : List ℕ) → is_passed b ≡ false → b ≢ 47 → ((b ≡ 92) ⊎ (b ≡ 115) → length (b ∷ text) < 2) → HasLeft (b ∷ text) all → all ≡ []
+over b _ _ h n short (c.passed i x) = unpassed b i h
+over b _ _ h n short (c.context e x y) = absurd (n e)
+over b _ _ h n short (c.custom e m x y) = absurd (omega (arith, short (inl e)))
+over b _ _ h n short (c.substitute e m x) = absurd (omega (arith, short (inr e)))
+over b _ _ h n short (c.other o) = refl
+
+pub left_over : (b : ℕ) (text behind all : List ℕ) → text ≡ b ∷ behind → is_passed b ≡ false → b ≢ 47 → ((b ≡ 92) ⊎ (b ≡ 115) → length text < 2)
+    → HasLeft text all → all ≡ []
+left_over b text behind all cut h n short x =
+    over b behind all h n (λ begins. subst (λ t. length t < 2) cut (short begins)) (subst (λ t. HasLeft t all) cut x)
 
 -- ---- The grammar
 

@@ -10,7 +10,7 @@ use Rattle.sedck_plain.specs.declared.plain.Fault.{Fault}
 use Rattle.sedck_plain.specs.declared.plain.Fault.TheVariants as fault
 use Rattle.sedck_plain.specs.WrittenLists.{HaveSameLists}
 use Rattle.sedck_plain.specs.Plain.{SpellSame, IsOutOfMemory, IsRefused, IsNoRefusal, ReportsFault}
-use Rattle.sedck_plain.specs.Private.Refusals.{is_memory, fault_of}
+use Rattle.sedck_plain.specs.Private.Refusals.{is_memory, unless_memory}
 
 -- a fault for another cause than memory is one of the text
 pub of_text : (why : ScriptFault) → is_memory why ≡ false → IsOfText why
@@ -29,7 +29,7 @@ refused_by : (A : Type 0) (text : List ℕ) (why : ScriptFault) (b : Bool) → i
 refused_by A text why true is refused memory = absurd (memory tt)
 refused_by A text why false is refused memory = ((λ x p s. refused (of_text why is) p s), (λ x. tt))
 
-pub refused_none : (A : Type 0) (text : List ℕ) (why : ScriptFault) (other : Fault) → other ≡ fault_of why → (IsOfText why → (q : Program) → Spells text q → ⊥)
+pub refused_none : (A : Type 0) (text : List ℕ) (why : ScriptFault) (other : Fault) → other ≡ unless_memory why (fault.Script why) → (IsOfText why → (q : Program) → Spells text q → ⊥)
     → (¬ IsOutOfMemory {A = A} (Err other)) → IsRefused {A = A} (Err other) ↔ ((p : Program) → ¬ Spells text p)
 refused_none A text why other same refused =
     subst (λ f. (¬ IsOutOfMemory {A = A} (Err f)) → IsRefused {A = A} (Err f) ↔ ((p : Program) → ¬ Spells text p)) (sym same)
@@ -41,7 +41,7 @@ reported_by : (A : Type 0) (text : List ℕ) (why : ScriptFault) (b : Bool) → 
 reported_by A text why true placed = tt
 reported_by A text why false placed = placed
 
-pub reported_none : (A : Type 0) (text : List ℕ) (why : ScriptFault) (other : Fault) → other ≡ fault_of why → IsPlaced text why → ReportsFault {A = A} text (Err other)
+pub reported_none : (A : Type 0) (text : List ℕ) (why : ScriptFault) (other : Fault) → other ≡ unless_memory why (fault.Script why) → IsPlaced text why → ReportsFault {A = A} text (Err other)
 reported_none A text why other same placed =
     subst (λ f. ReportsFault {A = A} text (Err f)) (sym same) (reported_by A text why (is_memory why) placed)
 

@@ -1,7 +1,7 @@
 -- The lists at the locations of commands are those of the script.
-use Rattle.std.proofs.Common.{◌≡◌, ℕ, List, [], ◌∷◌, refl, ap, sym, ◌∙◌, subst, length-append, arith}
-use Rattle.std.proofs.lemmas.List.{take_all, length-drop}
-use Rattle.std.specs.Prelude.{slice_range, drop, ◌-◌, length}
+use Rattle.std.proofs.Common.{◌≡◌, ◌<◌, ◌≤◌, ◌+◌, ◌⊎◌, inl, inr, ℕ, List, [], ◌∷◌, Option, Some, None, Bor, refl, ap, sym, ◌∙◌, subst, length-append, arith}
+use Rattle.std.proofs.lemmas.List.{take_all, drop_all, length-drop}
+use Rattle.std.specs.Prelude.{slice_range, drop, ◌-◌, length, unwrap_or, MatchOption}
 use Rattle.sedck_commands.specs.Items.{Item, Items}
 use Rattle.sedck_commands.specs.Items as w
 use Rattle.sedck_commands.specs.Locations.{locations_of}
@@ -13,13 +13,19 @@ use Rattle.sedck_plain.specs.WrittenLists.{command_lists, written_lists}
 use Rattle.sedck_plain.specs.Private.Cutting.{HasLeft, AreLists, AreCommandLists, AreScriptLists, AreLocations, HasLists}
 use Rattle.sedck_plain.proofs.LeftLemmas.{left_command}
 
-pub from_place : (text begin : List ℕ) (start : ℕ) → begin ≡ slice_range text start (length text) → begin ≡ drop start text
-from_place text begin start e = e ∙ take_all (length text - start) (drop start text) (omega (arith, length-drop start text))
+-- what is got of a text from an offset on, and nothing behind its end
+pub begin_at : (text : List ℕ) (start : ℕ) (got : Option (Bor (List ℕ))) (begin other : Bor (List ℕ)) → begin ≡ unwrap_or got other → other.now ≡ []
+    → MatchOption got ((length text < start) ⊎ (length text < length text))
+    (λ x. (start ≤ length text) × (length text ≤ length text) × (x.now ≡ slice_range text start (length text)) × (length x.now + start ≡ length text))
+    → begin.now ≡ drop start text
+begin_at text start None begin other e o (inl short) = ap (λ (b : Bor (List ℕ)). b.now) e ∙ (o ∙ sym (drop_all start text (omega (arith, short))))
+begin_at text start None begin other e o (inr never) = absurd (omega (arith, never))
+begin_at text start (Some x) begin other e o h =
+    ap (λ (b : Bor (List ℕ)). b.now) e ∙ (h.2 ∙ take_all (length text - start) (drop start text) (omega (arith, length-drop start text)))
 
-pub lists_of_command : (text front lists : List ℕ) (location : Location) → front ≡ drop location.start text → AreLists front lists
-    → AreCommandLists text location lists
-lists_of_command text front lists location e h begin given negated verb rest here d =
-    h (command_lists here) (subst (λ t. HasLeft t (command_lists here)) (d ∙ sym e) (left_command here))
+pub lists_of_command : (text lists : List ℕ) (location : Location) → AreLists (drop location.start text) lists → AreCommandLists text location lists
+lists_of_command text lists location h begin given negated verb rest here d =
+    h (command_lists here) (subst (λ t. HasLeft t (command_lists here)) d (left_command here))
 
 -- what ends a text is what is left at its offset
 tail_drop : (text tail : List ℕ) → EndsIn text tail → tail ≡ drop (length text - length tail) text

@@ -3,17 +3,18 @@
 ghost use Rattle.std.specs.Prelude.{◌≡◌, ◌↔◌, map, IfOk, IfErr, OnOk};
 ghost use Rattle.sedck_script.specs.Program.{Program};
 ghost use Rattle.sedck_script.specs.Spelling.{Spells};
+ghost use Rattle.sedck_plain.specs.declared.plain.Fault.TheVariants.{OutOfMemory};
 ghost use Rattle.sedck_plain.specs.Plain.{SpellSame, IsOutOfMemory, IsRefused, IsNoRefusal, ReportsFault};
 ghost use Rattle.sedck_plain.specs.WrittenLists.{HaveSameLists};
 ghost use Rattle.sedck_plain.specs.Private.Cutting.{AreLocations, HasLists, bytes_of};
-ghost use Rattle.sedck_plain.specs.Private.Refusals.{is_memory, fault_of};
+ghost use Rattle.sedck_plain.specs.Private.Refusals.{unless_memory};
 
 use crate::layout::{Comments, laid_out};
-use crate::same::{first_difference, same_program};
-use crate::written::{first_change, script_lists};
+use crate::same::{same_command, same_program};
+use crate::written::script_lists;
 use sedck_commands::TEXT_LIMIT;
 use sedck_script::{Located, Location, Script, ScriptFault, locate, parse};
-use std::alloc::Global;
+use std::alloc::{AllocError, Global};
 
 /// Why there is no plain text.
 #[derive(Clone, Copy, Debug, Drop)]
@@ -28,6 +29,14 @@ pub enum Fault {
     OutOfMemory,
 }
 
+impl From<AllocError> for Fault {
+    ghost from_gives = { λ _ fault. fault ≡ OutOfMemory };
+
+    fn from(_: AllocError) -> Fault {
+        Fault::OutOfMemory
+    }
+}
+
 /// A script in its plain spelling, without comments: a text that spells the very program that the script spells.
 ///
 /// Each bracket list is written as the script has it, since a set of bytes doesn't say what its list is in other locales. That the text is
@@ -40,27 +49,17 @@ pub fn plain_text(alloc: Global, script: &[u8]) -> Result<Vec<u8>, Fault>
 {
     match parse(alloc, script) {
         Ok(program) => plain_of(alloc, script, &program, Comments::LeftOut),
-        Err(fault) => Err(refusal(fault)),
+        Err(fault) => Err(unless_memory(fault, Fault::Script(fault))),
     }
 }
 
-fn is_out_of_memory(fault: ScriptFault) -> bool
-    ensures { result ≡ is_memory fault }
+/// This fault of a text that isn't read, unless memory ran out.
+fn unless_memory(fault: ScriptFault, other: Fault) -> Fault
+    ensures { result ≡ unless_memory fault other }
 {
     match fault {
-        ScriptFault::OutOfMemory => true,
-        _ => false,
-    }
-}
-
-/// The fault of a script that isn't read.
-fn refusal(fault: ScriptFault) -> Fault
-    ensures { result ≡ fault_of fault }
-{
-    if is_out_of_memory(fault) {
-        Fault::OutOfMemory
-    } else {
-        Fault::Script(fault)
+        ScriptFault::OutOfMemory => Fault::OutOfMemory,
+        _ => other,
     }
 }
 
@@ -76,11 +75,9 @@ pub fn plain_of(
     ensures lists { IfOk result (λ text. HaveSameLists script.now text.items) }
     ensures fault { IfErr result IsNoRefusal }
 {
-    let located = located(alloc, script)?;
-    let lists = lists_of(alloc, script, &located.locations)?;
-    let Ok((text, locations)) = laid_out(alloc, script, &located, &lists, comments) else {
-        return Err(Fault::OutOfMemory);
-    };
+    let located = located(alloc, script, &[])?;
+    let lists = script_lists(alloc, script, &located.locations)?;
+    let (text, locations) = laid_out(alloc, script, &located, &lists, comments)?;
     if text.len() > TEXT_LIMIT {
         return Err(Fault::TooLong);
     }
@@ -88,28 +85,18 @@ pub fn plain_of(
     Ok(text)
 }
 
-/// The script of the text, which spells one, and where its commands are.
-fn located<'a>(alloc: Global, text: &'a [u8]) -> Result<Located<'a>, Fault>
+/// The script of the text, and where its commands are. Of a text that was printed, these locations say which command isn't read.
+fn located<'a>(alloc: Global, text: &'a [u8], printed: &[Location]) -> Result<Located<'a>, Fault>
+    ensures spelled { IfOk result (λ located. Spells text.now located.script) }
     ensures located { IfOk result (λ located. AreLocations text.now located.locations.items) }
     ensures fault { IfErr result IsNoRefusal }
 {
     match locate(alloc, text) {
         Ok(located) => Ok(located),
-        Err(ScriptFault::OutOfMemory) => Err(Fault::OutOfMemory),
-        Err(_) => Err(Fault::NoSpelling(0)),
-    }
-}
-
-/// The bracket lists of the text's commands, which are at these locations.
-fn lists_of(alloc: Global, text: &[u8], locations: &[Location]) -> Result<Vec<Vec<u8>>, Fault>
-    requires { AreLocations text.now locations.now }
-    ensures lists { IfOk result (λ lists. HasLists text.now (map bytes_of lists.items)) }
-    ensures fault { IfErr result IsNoRefusal }
-{
-    match script_lists(alloc, text, locations) {
-        Ok(Some(lists)) => Ok(lists),
-        Ok(None) => Err(Fault::NoSpelling(0)),
-        Err(_) => Err(Fault::OutOfMemory),
+        Err(fault) => {
+            let place = place_at(printed, fault.place().unwrap_or(0));
+            Err(unless_memory(fault, Fault::NoSpelling(place)))
+        }
     }
 }
 
@@ -125,25 +112,23 @@ fn compare(
     ensures lists { OnOk result (HasLists text.now (map bytes_of lists.now)) }
     ensures fault { IfErr result IsNoRefusal }
 {
-    let other = match locate(alloc, text) {
-        Ok(other) => other,
-        Err(ScriptFault::OutOfMemory) => return Err(Fault::OutOfMemory),
-        Err(fault) => {
-            let place = place_at(locations, fault.place().unwrap_or(0));
-            return Err(Fault::NoSpelling(place));
-        }
-    };
+    let other = located(alloc, text, locations)?;
     if !same_program(&other.script, program) {
         let commands = program.commands();
+        let pairs = commands.iter().zip(other.script.commands());
+        let same = pairs.take_while(|(one, other)| same_command(one, other));
         let last = commands.len().saturating_sub(1);
-        let place = first_difference(commands, other.script.commands()).unwrap_or(last);
-        return Err(Fault::NoSpelling(place.min(last)));
+        return Err(Fault::NoSpelling(same.count().min(last)));
     }
-    let others = lists_of(alloc, text, &other.locations)?;
-    match first_change(lists, &others) {
-        Some(place) => Err(Fault::NoSpelling(place)),
-        None => Ok(()),
+    let others = script_lists(alloc, text, &other.locations)?;
+    if lists != others.as_slice() {
+        let same = lists
+            .iter()
+            .zip(&others)
+            .take_while(|(one, other)| one == other);
+        return Err(Fault::NoSpelling(same.count()));
     }
+    Ok(())
 }
 
 /// The place of the last command that begins at the offset or before it.

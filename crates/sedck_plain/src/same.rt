@@ -1,5 +1,5 @@
 //! Whether two scripts are the same program: command by command, whatever their texts are.
-ghost use Rattle.std.specs.Prelude.{◌≡◌, ◌↔◌, true, IsNone, map};
+ghost use Rattle.std.specs.Prelude.{◌≡◌, ◌↔◌, true, map};
 ghost use Rattle.sedck_bre.specs.Tree.{trees};
 ghost use Rattle.sedck_bre.specs.View.{tree, bytes_in};
 ghost use Rattle.sedck_expressions.specs.Private.Sets.{AreWords};
@@ -12,32 +12,25 @@ use sedck_script::{Address, Command, Part, Pattern, Place, Script, Substitution,
 pub fn same_program(one: &Script, other: &Script) -> bool
     ensures { (result ≡ true) ↔ (one.now ≡ other.now) }
 {
-    one.quiet() == other.quiet() && first_difference(one.commands(), other.commands()).is_none()
+    one.quiet() == other.quiet() && same_commands(one.commands(), other.commands())
 }
 
-/// The place of the first command that differs, if there is one.
-pub(crate) fn first_difference(one: &[Command], other: &[Command]) -> Option<usize>
-    ensures { IsNone result ↔ (map command_of one.now ≡ map command_of other.now) }
+/// Whether both are the same commands, one after another.
+fn same_commands(one: &[Command], other: &[Command]) -> bool
+    ensures { (result ≡ true) ↔ (map command_of one.now ≡ map command_of other.now) }
 {
-    let mut place = 0usize;
-    let mut rest = (one, other);
-    'commands: loop {
-        match rest {
-            ([first, more @ ..], [second, others @ ..]) => {
-                if !same_command(first, second) {
-                    return Some(place);
-                }
-                rest = (more, others);
-                place = place.saturating_add(1);
-            }
-            ([], []) => return None,
-            _ => return Some(place),
+    let mut left = (one, other);
+    'commands: while let ([first, more @ ..], [second, others @ ..]) = left {
+        if !same_command(first, second) {
+            return false;
         }
+        left = (more, others);
     }
+    left.0.is_empty() && left.1.is_empty()
 }
 
 /// Whether both are the same command, whatever their texts are.
-fn same_command(one: &Command, other: &Command) -> bool
+pub(crate) fn same_command(one: &Command, other: &Command) -> bool
     ensures { (result ≡ true) ↔ (command_of one.now ≡ command_of other.now) }
 {
     one.negated == other.negated

@@ -10,6 +10,7 @@ use Rattle.sedck_commands.specs.Locations.{locations_of}
 use Rattle.sedck_commands.specs.declared.location.Location.{Location}
 use Rattle.sedck_plain.specs.WrittenLists.{after, is_in_list, lists_from, expression_lists, command_lists, written_lists}
 use Rattle.sedck_plain.specs.declared.written.Position.{Position}
+use Rattle.sedck_plain.specs.declared.written.Position.TheVariants.{Outside}
 
 -- the byte, where it is of a list
 abbrev pub kept : Position → ℕ → List ℕ
@@ -21,10 +22,16 @@ IsReadUpTo delimiter from text lists to rest =
     (all left : List ℕ) → DelimitedExpression delimiter text all left
     → (more : List ℕ) × (lists_from from all ≡ lists ++ lists_from to more) × DelimitedExpression delimiter rest more left
 
--- each expression of the text has these lists, and this is after it
-abbrev pub AreExpressionLists : ℕ → List ℕ → List ℕ → List ℕ → Type 0
-AreExpressionLists delimiter text lists rest = (expression left : List ℕ) → delimiter ≢ 92 → DelimitedExpression delimiter text expression left
-    → (expression_lists expression ≡ lists) × (left ≡ rest)
+-- so far each expression of the text has added its lists to those before, and it goes on in the rest
+abbrev pub HasAdded : ℕ → List ℕ → List ℕ → List ℕ → Position → List ℕ → Type 0
+HasAdded delimiter text before lists position rest =
+    (all left : List ℕ) → DelimitedExpression delimiter text all left
+    → (more : List ℕ) × (before ++ lists_from Outside all ≡ lists ++ lists_from position more) × DelimitedExpression delimiter rest more left
+
+-- each expression of the text adds its lists to those before, and this is after it
+abbrev pub AreAdded : ℕ → List ℕ → List ℕ → List ℕ → List ℕ → Type 0
+AreAdded delimiter text before lists rest = (expression left : List ℕ) → delimiter ≢ 92 → DelimitedExpression delimiter text expression left
+    → (lists ≡ before ++ expression_lists expression) × (left ≡ rest)
 
 -- a byte of an address that begins no expression, or what is between addresses and a verb
 abbrev pub is_passed : ℕ → Bool

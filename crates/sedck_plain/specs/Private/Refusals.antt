@@ -1,4 +1,4 @@
--- Which fault is reported for one of the script's text.
+-- Which fault is reported for one of a text.
 use Rattle.std.specs.Prelude.{Bool, true, false, if◌then◌else◌}
 use Rattle.sedck_commands.specs.declared.fault.ScriptFault.{ScriptFault}
 use Rattle.sedck_commands.specs.declared.fault.ScriptFault.TheVariants as script
@@ -9,5 +9,5 @@ abbrev pub is_memory : ScriptFault → Bool
 is_memory script.OutOfMemory = true
 is_memory _ = false
 
-abbrev pub fault_of : ScriptFault → Fault
-fault_of why = if is_memory why then fault.OutOfMemory else fault.Script why
+abbrev pub unless_memory : ScriptFault → Fault → Fault
+unless_memory why other = if is_memory why then fault.OutOfMemory else other

@@ -12,7 +12,7 @@ pub returns-in-Ok-clause-reported : goal.returns-in-Ok-clause-reported
 returns-in-Ok-clause-reported c = reported_never _ _ c.plain_of.ensures.fault
 
 pub returns-in-Err-clause-refused : goal.returns-in-Err-clause-refused
-returns-in-Err-clause-refused c = refused_none (Vec ℕ Global) _ c.in-Err.fault _ c.refusal.ensures c.in-Err.ensures.refused
+returns-in-Err-clause-refused c = refused_none (Vec ℕ Global) _ c.in-Err.fault _ c.unless_memory.ensures c.in-Err.ensures.refused
 
 pub returns-in-Err-clause-reported : goal.returns-in-Err-clause-reported
-returns-in-Err-clause-reported c = reported_none (Vec ℕ Global) _ c.in-Err.fault _ c.refusal.ensures c.in-Err.ensures.placed
+returns-in-Err-clause-reported c = reported_none (Vec ℕ Global) _ c.in-Err.fault _ c.unless_memory.ensures c.in-Err.ensures.placed
