@@ -1,115 +1,120 @@
--- Where a name goes in a list that rises.
-use Rattle.std.proofs.Common.{◌≡◌, ℕ, zero, suc, ◌<◌, ◌≤◌, true, false, List, [], ◌∷◌, ◌++◌, length, map, get_or, refl, ap, sym, ◌∙◌, subst, subst₂, insert, drop, Option, Some, None, inl, inr, arith}
-use Rattle.std.specs.List.Sorted.{IsPartitionedBy}
-use Rattle.std.specs.Borrow.{Bor}
+-- Names that were put in order, each once, are the sorted names.
+use Rattle.std.proofs.Common.{◌≡◌, ℕ, ◌+◌, ◌<◌, Bool, cond, true, false, List, [], ◌∷◌, ◌++◌, Contains, Bor, bytes_eq, length, map, get_or, take, flat_map, refl, ap, ap₂, sym, ◌∙◌, subst, append-nil, inl, inr, arith}
+use Rattle.std.specs.Cmp.Lexicographic.{slice_cmp, nat_list_eq_equiv, on_texts, texts_ties, same_text}
+use Rattle.std.specs.List.{AllByRecursion, dedup, dedup_from}
+use Rattle.std.specs.List.Sorted.{IsPermutation, IsSorted, IsStrictlySortedBy}
+use Rattle.std.specs.Ordering.{nat_cmp, is_eq}
 use Rattle.std.specs.declared.cmp.Ordering.{Ordering}
-use Rattle.std.specs.declared.cmp.Ordering.TheVariants.{Less, Equal, Greater}
-use Rattle.std.specs.Ordering.{nat_cmp, is_lt, is_eq, ordering_reverse}
-use Rattle.std.specs.Str.{bytes_eq}
-use Rattle.std.proofs.lemmas.Map.Text.{is_eq-slice_cmp}
-use Rattle.std.proofs.lemmas.List.{get_or-map, length-map}
-use Rattle.std.proofs.Math.Nat.{eq-or-lt_of_le}
-use Rattle.indexmap.proofs.SetLemmas.{map-insert}
-use Rattle.std.specs.Cmp.Lexicographic.{slice_cmp}
+use Rattle.std.specs.declared.cmp.Ordering.TheVariants.{Less}
 use Rattle.std.proofs.lemmas.Bool.{false≢true}
-use Rattle.std.proofs.lemmas.Cmp.{nat_list_cmp_total}
-use Rattle.std.specs.Prelude.{option_to_list}
-use Rattle.std.proofs.Math.Seq.{drop-cons}
-use Rattle.sedck_script.specs.Names.{IsBefore, AreIncreasing, placed, with_name, sorted_names, accessed}
+use Rattle.std.proofs.lemmas.Cmp.{nat_list_cmp_total, tied_itself}
+use Rattle.std.proofs.lemmas.List.{map_more}
+use Rattle.std.proofs.lemmas.List.Concat.{flat_map-append}
+use Rattle.std.proofs.lemmas.List.Elements.{All-from_recursion, All-contains}
+use Rattle.std.proofs.lemmas.List.Kept.{Contains-dedup, Contains-from_dedup, IsStrictlySortedBy-dedup}
+use Rattle.std.proofs.lemmas.List.Sorted.{Contains-permutation, IsPermutation-map, IsPermutation-sym}
 use Rattle.sedck_commands.specs.View.{verb_of}
-use Rattle.sedck_script.specs.View.{command_of}
-use Rattle.sedck_script.specs.Private.NameReading.{all_accessed, with_any}
-use Rattle.sedck_script.specs.declared.script.Command.{Command}
 use Rattle.sedck_commands.specs.declared.names.Access.{Access}
-
-is_less : (o : Ordering) → is_lt o ≡ true → o ≡ Less
-is_less Less h = refl
-is_less _ h = absurd (false≢true h)
-
--- what is before the name is in front of what isn't
-pub rising_split : (xs : List (Bor (List ℕ))) (name : List ℕ) → AreIncreasing (map (λ n. n.now) xs) → IsPartitionedBy (λ n. is_lt (slice_cmp nat_cmp n.now name)) xs
-rising_split xs name rising i j d le lt h = elim (eq-or-lt_of_le le) [
-  | inl same ↦ subst (λ k. is_lt (slice_cmp nat_cmp (get_or xs k d).now name) ≡ true) (sym same) h
-  | inr less ↦ (
-      let first = subst₂ (λ a b. IsBefore a b) (get_or-map (λ n. n.now) xs i d d.now (omega arith)) (get_or-map (λ n. n.now) xs j d d.now lt)
-      (rising i j d.now less (omega (arith, length-map xs (λ n. n.now)))) in
-      ap is_lt (nat_list_cmp_total.trans (get_or xs i d).now (get_or xs j d).now name first (is_less _ h)))
-]
-
--- ---- Insertion
-
-turned : (a b : List ℕ) {o : Ordering} → slice_cmp nat_cmp a b ≡ o → slice_cmp nat_cmp b a ≡ ordering_reverse o
-turned a b e = nat_list_cmp_total.antisymm b a ∙ ap ordering_reverse e
-
--- a name goes after those that are before it, unless it is there
-pub with_name_at : (xs : List (List ℕ)) (name : List ℕ) (i : ℕ) → i ≤ length xs
-    → ((k : ℕ) (d : List ℕ) → k < i → is_lt (slice_cmp nat_cmp (get_or xs k d) name) ≡ true)
-    → ((d : List ℕ) → i < length xs → slice_cmp nat_cmp (get_or xs i d) name ≡ Greater) → with_name name xs ≡ insert xs i name
-with_name_at [] name zero le before behind = refl
-with_name_at [] name (suc i) le before behind = absurd (omega arith)
-with_name_at (x ∷ xs) name zero le before behind = ap (λ o. placed o name x xs (with_name name xs)) (turned x name (behind [] (omega arith)))
-with_name_at (x ∷ xs) name (suc i) le before behind =
-    ap (λ o. placed o name x xs (with_name name xs)) (turned x name (is_less _ (before 0 [] (omega arith))))
-    ∙ ap (λ t. x ∷ t) (with_name_at xs name i (omega arith) (λ k d lt. before (suc k) d (omega arith)) (λ d lt. behind d (omega arith)))
-
-pub with_name_there : (xs : List (List ℕ)) (name : List ℕ) (i : ℕ)
-    → ((k : ℕ) (d : List ℕ) → k < i → is_lt (slice_cmp nat_cmp (get_or xs k d) name) ≡ true) → i < length xs
-    → ((d : List ℕ) → slice_cmp nat_cmp (get_or xs i d) name ≡ Equal) → with_name name xs ≡ xs
-with_name_there [] name i before lt here = absurd (omega arith)
-with_name_there (x ∷ xs) name zero before lt here = ap (λ o. placed o name x xs (with_name name xs)) (turned x name (here []))
-with_name_there (x ∷ xs) name (suc i) before lt here =
-    ap (λ o. placed o name x xs (with_name name xs)) (turned x name (is_less _ (before 0 [] (omega arith))))
-    ∙ ap (λ t. x ∷ t) (with_name_there xs name i (λ k d lt'. before (suc k) d (omega arith)) (omega arith) here)
-
--- ---- The same of a list of borrowed names
-
-is_equal : (o : Ordering) → is_eq o ≡ true → o ≡ Equal
-is_equal Equal h = refl
-is_equal _ h = absurd (false≢true h)
-
-is_greater : (o : Ordering) → is_lt o ≡ false → is_eq o ≡ false → o ≡ Greater
-is_greater Less h k = absurd (false≢true (sym h))
-is_greater Equal h k = absurd (false≢true (sym k))
-is_greater Greater h k = refl
-
-abbrev pub AreBefore : List (Bor (List ℕ)) → Bor (List ℕ) → ℕ → Type 0
-AreBefore xs name i = (k : ℕ) (d : Bor (List ℕ)) → k < i → is_lt (slice_cmp nat_cmp (get_or xs k d).now name.now) ≡ true
-
--- a name that is there is not added
-pub name_there : (xs : List (Bor (List ℕ))) (name other : Bor (List ℕ)) (i : ℕ) → AreBefore xs name i → i < length xs → other ≡ get_or xs i other
-    → bytes_eq other.now name.now ≡ true
-    → map (λ n. n.now) xs ≡ with_name name.now (map (λ n. n.now) xs)
-name_there xs name other i before lt at same =
-    let equal : slice_cmp nat_cmp other.now name.now ≡ Equal = is_equal _ (is_eq-slice_cmp other.now name.now ∙ same) in
-    sym (with_name_there (map (λ n. n.now) xs) name.now i
-    (λ k d lt'. ap (λ n. is_lt (slice_cmp nat_cmp n name.now)) (get_or-map (λ n. n.now) xs k name d (omega arith)) ∙ before k name lt')
-    (omega (arith, length-map xs (λ n. n.now)))
-    (λ d. ap (λ n. slice_cmp nat_cmp n name.now) (get_or-map (λ n. n.now) xs i other d lt ∙ ap (λ b. b.now) (sym at)) ∙ equal))
-
-abbrev pub IsBehind : List (Bor (List ℕ)) → Bor (List ℕ) → ℕ → Type 0
-IsBehind xs name i = i < length xs → (is_lt (slice_cmp nat_cmp (get_or xs i name).now name.now) ≡ false) × (bytes_eq (get_or xs i name).now name.now ≡ false)
-
--- another goes to its place
-pub name_new : (xs : List (Bor (List ℕ))) (name : Bor (List ℕ)) (i : ℕ) → AreBefore xs name i → i ≤ length xs
-    → IsBehind xs name i → map (λ n. n.now) (insert xs i name) ≡ with_name name.now (map (λ n. n.now) xs)
-name_new xs name i before le behind =
-    map-insert (λ n. n.now) xs i name ∙ sym (with_name_at (map (λ n. n.now) xs) name.now i (omega (arith, length-map xs (λ n. n.now)))
-    (λ k d lt. ap (λ n. is_lt (slice_cmp nat_cmp n name.now)) (get_or-map (λ n. n.now) xs k name d (omega arith)) ∙ before k name lt)
-    (λ d lt. let both = behind (omega (arith, length-map xs (λ n. n.now))) in
-    ap (λ n. slice_cmp nat_cmp n name.now) (get_or-map (λ n. n.now) xs i name d (omega (arith, length-map xs (λ n. n.now))))
-    ∙ is_greater _ both.0 (is_eq-slice_cmp (get_or xs i name).now name.now ∙ both.1)))
+use Rattle.sedck_script.specs.Names.{IsBefore, sorted_names, accessed}
+use Rattle.sedck_script.specs.View.{command_of}
+use Rattle.sedck_script.specs.Private.NameReading.{all_accessed}
+use Rattle.sedck_script.specs.declared.script.Command.{Command}
+use Rattle.sedck_script.proofs.SortedNames.{Contains-cons_cases, Contains-cons_more, Rises, rises, sorted_names-same}
 
 -- ---- The names of commands
 
-any_before : (o : Option (List ℕ)) (names : List (List ℕ)) → sorted_names (option_to_list o ++ names) ≡ with_any o (sorted_names names)
-any_before None names = refl
-any_before (Some name) names = refl
+-- those of one command more
+pub names_more : (a : Access) (commands : List Command) (i : ℕ) (command : Command) → i < length commands → command ≡ get_or commands i command
+    → all_accessed a (map command_of (take i commands)) ++ accessed a (verb_of command.verb) ≡ all_accessed a (map command_of (take (i + 1) commands))
+names_more a commands i command below is =
+    let more : map command_of (take (i + 1) commands) ≡ map command_of (take i commands) ++ command_of command ∷ [] =
+    map_more command_of commands i command below ∙ ap (λ k. map command_of (take i commands) ++ command_of k ∷ []) (sym is) in
+    sym (ap (all_accessed a) more
+    ∙ flat_map-append (λ c. accessed a c.verb) (map command_of (take i commands)) (command_of command ∷ [])
+    ∙ ap (λ l. all_accessed a (map command_of (take i commands)) ++ l) (append-nil (accessed a (verb_of command.verb))))
 
--- the names from a command on, from those after it
-pub names_from : (a : Access) (commands : List Command) (i : ℕ) (d : Command) (o : Option (List ℕ)) → i < length commands
-    → option_to_list o ≡ accessed a (verb_of (get_or commands i d).verb)
-    → sorted_names (all_accessed a (map command_of (drop i commands))) ≡ with_any o (sorted_names (all_accessed a (map command_of (drop (suc i) commands))))
-names_from a commands i d o lt h =
-    ap (λ l. sorted_names (all_accessed a (map command_of l))) (drop-cons commands i d lt)
-    ∙ ap (λ l. sorted_names (l ++ all_accessed a (map command_of (drop (suc i) commands)))) (sym h)
-    ∙ any_before o (all_accessed a (map command_of (drop (suc i) commands)))
+-- ---- Lists that rise and have the same names
+
+never_before_itself : (name : List ℕ) → ¬ IsBefore name name
+never_before_itself name less = false≢true (ap is_eq (sym less ∙ tied_itself nat_list_cmp_total name))
+
+is_before : (name : List ℕ) (names : List (List ℕ)) → AllByRecursion (IsBefore name) names → (x : List ℕ) → Contains names x → IsBefore name x
+is_before name names h x has = All-contains (IsBefore name) names x (All-from_recursion (IsBefore name) names h) has
+
+-- their first names are the same
+same_first : (a b : List ℕ) (as bs : List (List ℕ)) → AllByRecursion (IsBefore a) as → AllByRecursion (IsBefore b) bs → Contains (b ∷ bs) a
+    → Contains (a ∷ as) b → a ≡ b
+same_first a b as bs h k has_a has_b = elim (Contains-cons_cases b bs a has_a) [
+  | inl same ↦ sym same
+  | inr later_a ↦ elim (Contains-cons_cases a as b has_b) [
+    | inl same ↦ same
+    | inr later_b ↦ absurd (never_before_itself a (nat_list_cmp_total.trans a b a (is_before a as h b later_b) (is_before b bs k a later_a)))
+  ]
+]
+
+-- a later name of the one list is a later one of the other
+later : (a b : List ℕ) (as bs : List (List ℕ)) → a ≡ b → AllByRecursion (IsBefore a) as → (x : List ℕ) → Contains as x → Contains (b ∷ bs) x → Contains bs x
+later a b as bs same h x has at = elim (Contains-cons_cases b bs x at) [
+  | inl first ↦ absurd (never_before_itself a (is_before a as h a (subst (Contains as) (sym (same ∙ first)) has)))
+  | inr more ↦ more
+]
+
+rising_same : (as bs : List (List ℕ)) → Rises as → Rises bs → ((x : List ℕ) → Contains as x → Contains bs x) → ((x : List ℕ) → Contains bs x → Contains as x)
+    → as ≡ bs
+rising_same [] [] h k to back = refl
+rising_same [] (b ∷ bs) h k to back = let none = back b (0, omega arith, refl) in absurd (omega (arith, none.1))
+rising_same (a ∷ as) [] h k to back = let none = to a (0, omega arith, refl) in absurd (omega (arith, none.1))
+rising_same (a ∷ as) (b ∷ bs) h k to back =
+    let first : a ≡ b = same_first a b as bs h.0 k.0 (to a (0, omega arith, refl)) (back b (0, omega arith, refl)) in
+    ap₂ (λ x xs. x ∷ xs) first
+    (rising_same as bs h.1 k.1 (λ x has. later a b as bs first h.0 x has (to x (Contains-cons_more a as x has)))
+    (λ x has. later b a bs as (sym first) k.0 x has (back x (Contains-cons_more b bs x has))))
+
+-- ---- Borrowed names
+
+abbrev Name : Type 0
+Name = Bor (List ℕ)
+
+abbrev texts_of : List Name → List (List ℕ)
+texts_of names = map (λ n. n.now) names
+
+abbrev name_cmp : Name → Name → Ordering
+name_cmp a b = slice_cmp nat_cmp a.now b.now
+
+abbrev same_name : Name → Name → Bool
+same_name a b = bytes_eq a.now b.now
+
+texts_behind : (text : List ℕ) (names : List Name) → AllByRecursion (λ n. slice_cmp nat_cmp text n.now ≡ Less) names
+    → AllByRecursion (IsBefore text) (texts_of names)
+texts_behind text [] h = tt
+texts_behind text (name ∷ names) h = (h.0, texts_behind text names h.1)
+
+texts_rise : (names : List Name) → IsStrictlySortedBy name_cmp names → Rises (texts_of names)
+unfolding IsStrictlySortedBy
+texts_rise [] h = tt
+texts_rise (name ∷ names) h = (texts_behind name.now names h.0, texts_rise names h.1)
+
+texts_of-cond : (b : Bool) (us vs : List Name) → texts_of (cond b us vs) ≡ cond b (texts_of us) (texts_of vs)
+texts_of-cond true us vs = refl
+texts_of-cond false us vs = refl
+
+texts_of-dedup_from : (xs : List Name) (k : Name) → texts_of (dedup_from same_name k xs) ≡ dedup_from bytes_eq k.now (texts_of xs)
+texts_of-dedup_from [] k = refl
+texts_of-dedup_from (x ∷ xs) k = rw (texts_of-cond, texts_of-dedup_from xs k, texts_of-dedup_from xs x)
+
+texts_of-dedup : (xs : List Name) → texts_of (dedup same_name xs) ≡ dedup bytes_eq (texts_of xs)
+texts_of-dedup [] = refl
+texts_of-dedup (x ∷ xs) = texts_of-dedup_from xs x
+
+-- names in another order, which is that of bytes, without those that are there again
+pub sorted_once : (names moved : List Name) (all : List (List ℕ)) → texts_of names ≡ all → IsPermutation names moved → IsSorted name_cmp moved
+    → texts_of (dedup same_name moved) ≡ sorted_names all
+sorted_once names moved all are permuted sorted =
+    let strict = IsStrictlySortedBy-dedup (on_texts (λ (n : Name). n.now)) (λ x y. texts_ties x.now y.now) moved sorted in
+    let same : IsPermutation all (texts_of moved) = subst (λ l. IsPermutation l (texts_of moved)) are (IsPermutation-map (λ (n : Name). n.now) names moved permuted) in
+    let once = texts_of-dedup moved in
+    rising_same (texts_of (dedup same_name moved)) (sorted_names all) (texts_rise (dedup same_name moved) strict) (rises all)
+    (λ x has. (sorted_names-same all x).1 (Contains-permutation (texts_of moved) all x (IsPermutation-sym all (texts_of moved) same)
+    (Contains-from_dedup bytes_eq (texts_of moved) x (subst (λ l. Contains l x) once has))))
+    (λ x has. subst (λ l. Contains l x) (sym once) (Contains-dedup nat_list_eq_equiv (λ y z e. same_text y z (sym e)) (texts_of moved) x
+    (Contains-permutation all (texts_of moved) x same ((sorted_names-same all x).0 has))))
