@@ -146,6 +146,13 @@ def written(size):
     return b"".join(b"w %05d%s\n" % (at, b"n" * 242) for at in range(size // 250))
 
 
+def written_in_random_order(size):
+    """The same names, as they come."""
+    drawn = list(range(size // 250))
+    random.Random(3).shuffle(drawn)
+    return b"".join(b"w %05d%s\n" % (at, b"n" * 242) for at in drawn)
+
+
 # What grows: a name, the subcommand with its status, a function from a size to a script, and three sizes, each twice the one before.
 GROWTH = [
     ("`p`, by commands", "rank", 0, lambda size: b"p\n" * size, 1000),
@@ -154,6 +161,7 @@ GROWTH = [
     ("branches back to the label before, by labels", "rank", 0, back_to_the_last, 500),
     ("an idle loop through labels in random order, by labels", "rank", 1, in_random_order, 340),
     ("names written, in increasing order, by bytes", "files", 0, written, 250000),
+    ("names written, in random order, by bytes", "files", 0, written_in_random_order, 250000),
     ("one expression, by bytes", "files", 0, lambda size: b"/" + b"e" * size + b"/p", 250000),
     ("one text, by bytes", "files", 0, lambda size: b"a\\\n" + b"t" * size + b"\n", 250000),
 ]

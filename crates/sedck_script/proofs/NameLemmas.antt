@@ -1,5 +1,5 @@
 -- Names that were put in order, each once, are the sorted names.
-use Rattle.std.proofs.Common.{◌≡◌, ℕ, ◌+◌, ◌<◌, Bool, cond, true, false, List, [], ◌∷◌, ◌++◌, Contains, Bor, bytes_eq, length, map, get_or, take, flat_map, refl, ap, ap₂, sym, ◌∙◌, subst, append-nil, inl, inr, arith}
+use Rattle.std.proofs.Common.{◌≡◌, ℕ, ◌+◌, ◌<◌, Bool, cond, true, false, List, [], ◌∷◌, ◌++◌, Contains, Bor, bytes_eq, length, map, get_or, take, refl, ap, ap₂, sym, ◌∙◌, subst, append-nil, inl, inr, arith}
 use Rattle.std.specs.Cmp.Lexicographic.{slice_cmp, nat_list_eq_equiv, on_texts, texts_ties, same_text}
 use Rattle.std.specs.List.{AllByRecursion, dedup, dedup_from}
 use Rattle.std.specs.List.Sorted.{IsPermutation, IsSorted, IsStrictlySortedBy}
@@ -42,33 +42,33 @@ is_before : (name : List ℕ) (names : List (List ℕ)) → AllByRecursion (IsBe
 is_before name names h x has = All-contains (IsBefore name) names x (All-from_recursion (IsBefore name) names h) has
 
 -- their first names are the same
-same_first : (a b : List ℕ) (as bs : List (List ℕ)) → AllByRecursion (IsBefore a) as → AllByRecursion (IsBefore b) bs → Contains (b ∷ bs) a
-    → Contains (a ∷ as) b → a ≡ b
-same_first a b as bs h k has_a has_b = elim (Contains-cons_cases b bs a has_a) [
+same_first : (a b : List ℕ) (xs ys : List (List ℕ)) → AllByRecursion (IsBefore a) xs → AllByRecursion (IsBefore b) ys → Contains (b ∷ ys) a
+    → Contains (a ∷ xs) b → a ≡ b
+same_first a b xs ys h k has_a has_b = elim (Contains-cons_cases b ys a has_a) [
   | inl same ↦ sym same
-  | inr later_a ↦ elim (Contains-cons_cases a as b has_b) [
+  | inr later_a ↦ elim (Contains-cons_cases a xs b has_b) [
     | inl same ↦ same
-    | inr later_b ↦ absurd (never_before_itself a (nat_list_cmp_total.trans a b a (is_before a as h b later_b) (is_before b bs k a later_a)))
+    | inr later_b ↦ absurd (never_before_itself a (nat_list_cmp_total.trans a b a (is_before a xs h b later_b) (is_before b ys k a later_a)))
   ]
 ]
 
 -- a later name of the one list is a later one of the other
-later : (a b : List ℕ) (as bs : List (List ℕ)) → a ≡ b → AllByRecursion (IsBefore a) as → (x : List ℕ) → Contains as x → Contains (b ∷ bs) x → Contains bs x
-later a b as bs same h x has at = elim (Contains-cons_cases b bs x at) [
-  | inl first ↦ absurd (never_before_itself a (is_before a as h a (subst (Contains as) (sym (same ∙ first)) has)))
+later : (a b : List ℕ) (xs ys : List (List ℕ)) → a ≡ b → AllByRecursion (IsBefore a) xs → (x : List ℕ) → Contains xs x → Contains (b ∷ ys) x → Contains ys x
+later a b xs ys same h x has at = elim (Contains-cons_cases b ys x at) [
+  | inl first ↦ absurd (never_before_itself a (is_before a xs h a (subst (Contains xs) (sym (same ∙ first)) has)))
   | inr more ↦ more
 ]
 
-rising_same : (as bs : List (List ℕ)) → Rises as → Rises bs → ((x : List ℕ) → Contains as x → Contains bs x) → ((x : List ℕ) → Contains bs x → Contains as x)
-    → as ≡ bs
+rising_same : (xs ys : List (List ℕ)) → Rises xs → Rises ys → ((x : List ℕ) → Contains xs x → Contains ys x) → ((x : List ℕ) → Contains ys x → Contains xs x)
+    → xs ≡ ys
 rising_same [] [] h k to back = refl
-rising_same [] (b ∷ bs) h k to back = let none = back b (0, omega arith, refl) in absurd (omega (arith, none.1))
-rising_same (a ∷ as) [] h k to back = let none = to a (0, omega arith, refl) in absurd (omega (arith, none.1))
-rising_same (a ∷ as) (b ∷ bs) h k to back =
-    let first : a ≡ b = same_first a b as bs h.0 k.0 (to a (0, omega arith, refl)) (back b (0, omega arith, refl)) in
-    ap₂ (λ x xs. x ∷ xs) first
-    (rising_same as bs h.1 k.1 (λ x has. later a b as bs first h.0 x has (to x (Contains-cons_more a as x has)))
-    (λ x has. later b a bs as (sym first) k.0 x has (back x (Contains-cons_more b bs x has))))
+rising_same [] (b ∷ ys) h k to back = let none = back b (0, omega arith, refl) in absurd (omega (arith, none.1))
+rising_same (a ∷ xs) [] h k to back = let none = to a (0, omega arith, refl) in absurd (omega (arith, none.1))
+rising_same (a ∷ xs) (b ∷ ys) h k to back =
+    let first : a ≡ b = same_first a b xs ys h.0 k.0 (to a (0, omega arith, refl)) (back b (0, omega arith, refl)) in
+    ap₂ (λ z zs. z ∷ zs) first
+    (rising_same xs ys h.1 k.1 (λ x has. later a b xs ys first h.0 x has (to x (Contains-cons_more a xs x has)))
+    (λ x has. later b a ys xs (sym first) k.0 x has (back x (Contains-cons_more b ys x has))))
 
 -- ---- Borrowed names
 
