@@ -1,4 +1,5 @@
 pub mod NodeSets
+mod EdgeTables
 mod Totals
 mod LaneCounts
 mod NodeBits

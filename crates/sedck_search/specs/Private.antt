@@ -1,4 +1,5 @@
 -- What functions inside the crate promise each other. No public contract cites it.
+pub mod EdgeTable
 pub mod NodeSet
 pub mod Reaching
 pub mod KeptSets

@@ -6,17 +6,19 @@
 
 ghost use Rattle.std.specs.Prelude.{◌≡◌, ◌<◌, ◌≤◌, length, IfSome};
 ghost use Rattle.sedck_script.specs.Invariant.{IsScript};
+ghost use Rattle.sedck_search.specs.Private.EdgeTable.{IsTable};
 ghost use Rattle.sedck_flow.specs.Nodes.{node_index, node_count};
 ghost use Rattle.sedck_flow.specs.declared.graph.Node.{Node};
 ghost use Rattle.sedck_search.specs.Private.Reaching.{ArePartlyCounted, Reaches};
 ghost use Rattle.sedck_search.specs.Private.Components.{AreBelow, AreLinks, AreSets, IsOrderOf};
 
 use crate::counting::{UNCOUNTED, count_node};
+use crate::edge_table::edges_of;
 use crate::filter::Graph;
 use crate::members::count_component;
 use crate::order::{Order, UNVISITED};
 use crate::sets::Sets;
-use sedck_flow::{Node, edges_of};
+use sedck_flow::Node;
 
 /// Counts what each uncounted node reaches that the root leads to. Each step visits a node or finishes one.
 pub(crate) fn count_from(
@@ -27,6 +29,7 @@ pub(crate) fn count_from(
     counts: &mut [u16],
 )
     requires script { IsScript graph.script.now }
+    requires listed { IsTable graph.script.now graph.table.now }
     requires inside { root < length counts.old }
     requires order { IsOrderOf graph.script.now graph.filter order.old }
     requires sets { AreSets graph.script.now graph.filter sets.old }
@@ -55,12 +58,13 @@ pub(crate) fn count_from(
 /// The first node to which a followed edge leads from this one, and that is neither counted nor visited.
 fn next_unvisited(graph: Graph, node: Node, positions: &[u16], counts: &[u16]) -> Option<usize>
     requires script { IsScript graph.script.now }
+    requires listed { IsTable graph.script.now graph.table.now }
     requires inside { node.at ≤ length graph.script.now.commands }
     requires counts { length counts.now ≡ node_count (length graph.script.now.commands) }
     requires positions { length positions.now ≡ length counts.now }
     ensures { IfSome result (λ to. to < length counts.now) }
 {
-    for edge in edges_of(graph.script, node) {
+    for edge in edges_of(graph, node) {
         let to = edge.to.index();
         if graph.filter.follows(edge.kind)
             && counts[to] == UNCOUNTED
@@ -75,6 +79,7 @@ fn next_unvisited(graph: Graph, node: Node, positions: &[u16], counts: &[u16]) -
 /// Links the node, all of whose targets were visited, and counts its component, where it is the root of it.
 fn finish(graph: Graph, index: usize, order: &mut Order, sets: &mut Sets, counts: &mut [u16])
     requires script { IsScript graph.script.now }
+    requires listed { IsTable graph.script.now graph.table.now }
     requires inside { index < length counts.old }
     requires order { IsOrderOf graph.script.now graph.filter order.old }
     requires sets { AreSets graph.script.now graph.filter sets.old }
@@ -95,6 +100,7 @@ fn finish(graph: Graph, index: usize, order: &mut Order, sets: &mut Sets, counts
 /// Of the node and those that uncounted targets link to the one that was visited first.
 fn lowest_link(graph: Graph, node: Node, links: &[u16], positions: &[u16], counts: &[u16]) -> usize
     requires script { IsScript graph.script.now }
+    requires listed { IsTable graph.script.now graph.table.now }
     requires inside { node.at ≤ length graph.script.now.commands }
     requires counts { length counts.now ≡ node_count (length graph.script.now.commands) }
     requires positions { length positions.now ≡ length counts.now }
@@ -105,7 +111,7 @@ fn lowest_link(graph: Graph, node: Node, links: &[u16], positions: &[u16], count
     ensures reached { (m : Node) → node_index m ≡ result → Reaches graph.entry.script.now graph.entry.filter node m }
 {
     let mut lowest = node.index();
-    for edge in edges_of(graph.script, node) {
+    for edge in edges_of(graph, node) {
         let to = edge.to.index();
         if graph.filter.follows(edge.kind) && counts[to] == UNCOUNTED {
             let link = usize::from(links[to]);

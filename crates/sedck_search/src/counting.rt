@@ -2,6 +2,7 @@
 
 ghost use Rattle.std.specs.Prelude.{◌≡◌, ◌≢◌, ℕ, ◌<◌, ◌≤◌, length, Some, slice_get, IfOk};
 ghost use Rattle.sedck_script.specs.Invariant.{IsScript};
+ghost use Rattle.sedck_search.specs.Private.EdgeTable.{IsTable};
 ghost use Rattle.sedck_flow.specs.Nodes.{node_count};
 ghost use Rattle.sedck_search.specs.Private.Reaching.{AreCounted, ArePartlyCounted};
 ghost use Rattle.sedck_search.specs.Private.Components.{AreSets, IsOrderOf};
@@ -13,7 +14,6 @@ use crate::order::Order;
 use crate::other_side::{asks_for_last, count_turned};
 use crate::sets::{Sets, find_reached};
 use sedck_flow::Node;
-use sedck_script::Script;
 use std::alloc::{AllocError, Global};
 
 /// The mark of a node that is still to be counted: more than any count. Marks and counts share 16 bits a node, which
@@ -27,20 +27,25 @@ pub(crate) const UNREACHED: u16 = 0;
 /// followed edge leads from these to those, and where no command asks for the last line both reach as many.
 pub(crate) fn counts_of(
     alloc: Global,
-    script: &Script,
+    graph: Graph,
     filter: EdgeFilter,
     marks: &[u16],
 ) -> Result<Vec<u16>, AllocError>
-    requires script { IsScript script.now }
+    requires script { IsScript graph.script.now }
+    requires listed { IsTable graph.script.now graph.table.now }
     requires filter { filter ≢ Every }
-    requires marks { ArePartlyCounted script.now filter marks.now }
-    ensures { IfOk result (λ counts. AreCounted script.now filter counts.items) }
+    requires marks { ArePartlyCounted graph.script.now filter marks.now }
+    ensures { IfOk result (λ counts. AreCounted graph.entry.script.now filter counts.items) }
 {
     let mut counts = Vec::new(alloc);
     counts.extend_from_slice(marks)?;
     let mut order = Order::new(alloc, marks.len())?;
     let mut sets = Sets::new(alloc, marks.len())?;
-    let graph = Graph { script, filter };
+    let graph = Graph {
+        script: graph.script,
+        table: graph.table,
+        filter,
+    };
     count_all(graph, &mut order, &mut sets, &mut counts);
     Ok(counts)
 }
@@ -48,6 +53,7 @@ pub(crate) fn counts_of(
 /// Counts what each marked node reaches.
 fn count_all(graph: Graph, order: &mut Order, sets: &mut Sets, counts: &mut [u16])
     requires script { IsScript graph.script.now }
+    requires listed { IsTable graph.script.now graph.table.now }
     requires filter { graph.filter ≢ Every }
     requires order { IsOrderOf graph.script.now graph.filter order.old }
     requires sets { AreSets graph.script.now graph.filter sets.old }
@@ -65,6 +71,7 @@ fn count_all(graph: Graph, order: &mut Order, sets: &mut Sets, counts: &mut [u16
 /// Counts the components of every second node, from this one on.
 fn count_side(graph: Graph, first: usize, order: &mut Order, sets: &mut Sets, counts: &mut [u16])
     requires script { IsScript graph.script.now }
+    requires listed { IsTable graph.script.now graph.table.now }
     requires first { first ≤ 1 }
     requires order { IsOrderOf graph.script.now graph.filter order.old }
     requires sets { AreSets graph.script.now graph.filter sets.old }
@@ -86,6 +93,7 @@ fn count_side(graph: Graph, first: usize, order: &mut Order, sets: &mut Sets, co
 /// Counts the nodes that are left, if any is: the order in which nodes are counted makes none, but no proof rests on it.
 fn count_rest(graph: Graph, sets: &mut Sets, counts: &mut [u16])
     requires script { IsScript graph.script.now }
+    requires listed { IsTable graph.script.now graph.table.now }
     requires sets { AreSets graph.script.now graph.filter sets.old }
     requires counted { ArePartlyCounted graph.script.now graph.filter counts.old }
     ensures { AreCounted graph.entry.script.now graph.entry.filter counts.new }
@@ -98,6 +106,7 @@ fn count_rest(graph: Graph, sets: &mut Sets, counts: &mut [u16])
 /// Counts what the node with this index reaches, where it is marked.
 pub(crate) fn count_node(graph: Graph, index: usize, sets: &mut Sets, counts: &mut [u16])
     requires script { IsScript graph.script.now }
+    requires listed { IsTable graph.script.now graph.table.now }
     requires inside { index < node_count (length graph.script.now.commands) }
     requires sets { AreSets graph.script.now graph.filter sets.old }
     requires counted { ArePartlyCounted graph.script.now graph.filter counts.old }

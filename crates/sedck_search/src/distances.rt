@@ -2,18 +2,20 @@
 
 ghost use Rattle.std.specs.Prelude.{◌≡◌, ◌≢◌, ℕ, suc, true, false, ◌+◌, ◌*◌, ◌<◌, ◌≤◌, length, slice_get, IfOk};
 ghost use Rattle.sedck_script.specs.Invariant.{IsScript};
+ghost use Rattle.sedck_search.specs.Private.EdgeTable.{IsTable};
 ghost use Rattle.sedck_flow.specs.Nodes.{node_index, node_count};
 ghost use Rattle.sedck_flow.specs.declared.graph.Edge.{Edge};
 ghost use Rattle.sedck_flow.specs.declared.graph.Node.{Node};
 ghost use Rattle.sedck_search.specs.Private.Reaching.{FollowedEdge, IsClosed, IsIn};
 ghost use Rattle.sedck_search.specs.Private.Distances.{ArePathLengths, AreDistances, HasNeighborWithin, HasDistance, IsSettled, total};
 
+use crate::edge_table::edges_of;
 use crate::filter::Graph;
 use crate::kept_sets::KeptSets;
 use crate::node_set::NodeSet;
 use crate::reaching::{Known, add_reached};
 use crate::turned::nearest_first;
-use sedck_flow::{Edge, Node, edges_of, node_count};
+use sedck_flow::{Edge, Node, node_count};
 use std::alloc::{AllocError, Global};
 
 /// The mark of a node without a distance: more than any distance.
@@ -22,6 +24,7 @@ const NONE: u16 = u16::MAX;
 /// How many followed edges it takes at least from each node to this one.
 pub(crate) fn distances_to(alloc: Global, graph: Graph, to: Node) -> Result<Vec<u16>, AllocError>
     requires script { IsScript graph.script.now }
+    requires listed { IsTable graph.script.now graph.table.now }
     requires inside { to.at ≤ length graph.script.now.commands }
     ensures { IfOk result (λ distances. AreDistances graph.entry.script.now graph.entry.filter to distances.items) }
 {
@@ -53,6 +56,7 @@ fn relax_in_order(
     distances: &mut [u16],
 )
     requires script { IsScript graph.script.now }
+    requires listed { IsTable graph.script.now graph.table.now }
     requires some { ArePathLengths graph.script.now graph.filter _to distances.old }
     ensures { ArePathLengths graph.entry.script.now graph.entry.filter _to distances.new }
 {
@@ -66,6 +70,7 @@ fn relax_in_order(
 /// Shortens distances, in this order first, and then as long as any gets shorter. `_to` is there for the contract alone.
 fn settle(graph: Graph, _to: Node, reached: &NodeSet, order: &[usize], distances: &mut [u16])
     requires script { IsScript graph.script.now }
+    requires listed { IsTable graph.script.now graph.table.now }
     requires here { IsIn reached.now _to }
     requires closed { IsClosed graph.script.now graph.filter reached.now }
     requires some { ArePathLengths graph.script.now graph.filter _to distances.old }
@@ -79,6 +84,7 @@ fn settle(graph: Graph, _to: Node, reached: &NodeSet, order: &[usize], distances
 /// any is shorter now. `_to` is there for the contract alone.
 fn relax_all(graph: Graph, _to: Node, reached: &NodeSet, distances: &mut [u16]) -> bool
     requires script { IsScript graph.script.now }
+    requires listed { IsTable graph.script.now graph.table.now }
     requires some { ArePathLengths graph.script.now graph.filter _to distances.old }
     ensures some { ArePathLengths graph.entry.script.now graph.entry.filter _to distances.new }
     ensures shorter { result ≡ true → total distances.new < total distances.old }
@@ -98,6 +104,7 @@ fn relax_all(graph: Graph, _to: Node, reached: &NodeSet, distances: &mut [u16]) 
 /// `_to` is there for the contract alone.
 fn relax_at(graph: Graph, _to: Node, reached: &NodeSet, index: usize, distances: &mut [u16]) -> bool
     requires script { IsScript graph.script.now }
+    requires listed { IsTable graph.script.now graph.table.now }
     requires inside { index < node_count (length graph.script.now.commands) }
     requires some { ArePathLengths graph.script.now graph.filter _to distances.old }
     ensures some { ArePathLengths graph.entry.script.now graph.entry.filter _to distances.new }
@@ -119,13 +126,14 @@ fn relax_at(graph: Graph, _to: Node, reached: &NodeSet, index: usize, distances:
 /// The shortest distance from the node that its edges give.
 fn relaxed(graph: Graph, node: Node, distances: &[u16]) -> u16
     requires script { IsScript graph.script.now }
+    requires listed { IsTable graph.script.now graph.table.now }
     requires inside { node.at ≤ length graph.script.now.commands }
     requires long { length distances.now ≡ node_count (length graph.script.now.commands) }
     ensures least { (e : Edge) → FollowedEdge graph.entry.script.now graph.entry.filter e → e.from ≡ node → (after : ℕ) → HasDistance distances.now e.to after → result ≤ suc after }
     ensures some { result < 65535 → (distance : ℕ) × (result ≡ suc distance) × HasNeighborWithin graph.entry.script.now graph.entry.filter distances.now node distance }
 {
     let mut least = NONE;
-    for edge in edges_of(graph.script, node) {
+    for edge in edges_of(graph, node) {
         if graph.filter.follows(edge.kind) {
             least = least.min(distances[edge.to.index()].saturating_add(1));
         }
@@ -136,6 +144,7 @@ fn relaxed(graph: Graph, node: Node, distances: &[u16]) -> u16
 /// The first followed edge from the node to one from which the distance is so long.
 pub(crate) fn nearer_edge(graph: Graph, node: Node, distance: u16, distances: &[u16]) -> Edge
     requires script { IsScript graph.script.now }
+    requires listed { IsTable graph.script.now graph.table.now }
     requires inside { node.at ≤ length graph.script.now.commands }
     requires long { length distances.now ≡ node_count (length graph.script.now.commands) }
     requires some { (e : Edge) × FollowedEdge graph.script.now graph.filter e × (e.from ≡ node) × HasDistance distances.now e.to distance }
@@ -143,7 +152,7 @@ pub(crate) fn nearer_edge(graph: Graph, node: Node, distance: u16, distances: &[
     ensures leaves { result.from ≡ node }
     ensures distance { HasDistance distances.now result.to distance }
 {
-    for edge in edges_of(graph.script, node) {
+    for edge in edges_of(graph, node) {
         if graph.filter.follows(edge.kind) && distances[edge.to.index()] == distance {
             return edge;
         }

@@ -3,6 +3,7 @@
 ghost use Rattle.std.specs.Prelude.{◌↔◌, IsTrue};
 ghost use Rattle.sedck_search.specs.Private.Reaching.{IsFollowed};
 
+use crate::edge_table::EdgeTable;
 use sedck_flow::Kind;
 use sedck_script::Script;
 
@@ -30,9 +31,10 @@ impl EdgeFilter {
     }
 }
 
-/// The flow graph of a script, of which some edges are followed.
+/// The flow graph of a script, a table of its edges, and which of them are followed.
 #[derive(Clone, Copy)]
 pub(crate) struct Graph<'a> {
     pub(crate) script: &'a Script<'a>,
+    pub(crate) table: &'a EdgeTable,
     pub(crate) filter: EdgeFilter,
 }

@@ -10,6 +10,7 @@ mod answer;
 mod components;
 mod counting;
 mod distances;
+mod edge_table;
 mod filter;
 mod kept_sets;
 pub mod laws;

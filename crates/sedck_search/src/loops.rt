@@ -5,24 +5,26 @@ ghost use Rattle.sedck_flow.specs.declared.graph.Edge.{Edge};
 ghost use Rattle.sedck_script.specs.Invariant.{IsScript};
 ghost use Rattle.sedck_flow.specs.Nodes.{node_count};
 ghost use Rattle.sedck_flow.specs.Flow.{Flow};
+ghost use Rattle.sedck_search.specs.Private.EdgeTable.{IsTable};
 ghost use Rattle.sedck_search.specs.Private.Closing.{Closes, IsFirstClosing, back_filter as back_filter_of};
 ghost use Rattle.sedck_search.specs.Private.ShortestLoop.{IsClosing, IsNearest, IsShortestLoop};
 
 use crate::answer::{Form, Walk};
 use crate::distances::{distances_to, nearer_edge};
+use crate::edge_table::edges_of;
 use crate::filter::{EdgeFilter, Graph};
-use sedck_flow::{Edge, Kind, Node, edges_of};
-use sedck_script::Script;
+use sedck_flow::{Edge, Kind, Node};
 use std::alloc::{AllocError, Global};
 
 /// The first edge of the kind between two nodes with one count.
-pub(crate) fn first_closing(script: &Script, kind: Kind, counts: &[u16]) -> Option<Edge>
-    requires script { IsScript script.now }
-    requires long { length counts.now ≡ node_count (length script.now.commands) }
-    ensures { MatchOption result ((e : Edge) → ¬ Closes script.now kind counts.now e) (IsFirstClosing script.now kind counts.now) }
+pub(crate) fn first_closing(graph: Graph, kind: Kind, counts: &[u16]) -> Option<Edge>
+    requires script { IsScript graph.script.now }
+    requires listed { IsTable graph.script.now graph.table.now }
+    requires long { length counts.now ≡ node_count (length graph.script.now.commands) }
+    ensures { MatchOption result ((e : Edge) → ¬ Closes graph.entry.script.now kind counts.now e) (IsFirstClosing graph.entry.script.now kind counts.now) }
 {
     for index in 0..counts.len() {
-        let edge = first_closing_from(script, kind, counts, Node::nth(index));
+        let edge = first_closing_from(graph, kind, counts, Node::nth(index));
         if edge.is_some() {
             return edge;
         }
@@ -31,17 +33,19 @@ pub(crate) fn first_closing(script: &Script, kind: Kind, counts: &[u16]) -> Opti
 }
 
 /// The first such edge that leaves the node.
-fn first_closing_from(script: &Script, kind: Kind, counts: &[u16], node: Node) -> Option<Edge>
-    requires script { IsScript script.now }
-    requires inside { node.at ≤ length script.now.commands }
-    requires long { length counts.now ≡ node_count (length script.now.commands) }
-    ensures { MatchOption result ((e : Edge) → Closes script.now kind counts.now e → e.from ≢ node) (λ e. Closes script.now kind counts.now e × (e.from ≡ node)) }
+fn first_closing_from(graph: Graph, kind: Kind, counts: &[u16], node: Node) -> Option<Edge>
+    requires script { IsScript graph.script.now }
+    requires listed { IsTable graph.script.now graph.table.now }
+    requires inside { node.at ≤ length graph.script.now.commands }
+    requires long { length counts.now ≡ node_count (length graph.script.now.commands) }
+    ensures { MatchOption result ((e : Edge) → Closes graph.entry.script.now kind counts.now e → e.from ≢ node)
+        (λ e. Closes graph.entry.script.now kind counts.now e × (e.from ≡ node)) }
 {
     let count = counts[node.index()];
     if count == 0 {
         return None;
     }
-    for edge in edges_of(script, node) {
+    for edge in edges_of(graph, node) {
         if is_of(edge, kind) && counts[edge.to.index()] == count {
             return Some(edge);
         }
@@ -52,18 +56,23 @@ fn first_closing_from(script: &Script, kind: Kind, counts: &[u16], node: Node) -
 /// The shortest closed walk that begins with an edge as this one. Of several it takes the first edge each time.
 pub(crate) fn loop_from(
     alloc: Global,
-    script: &Script,
+    graph: Graph,
     form: Form,
     closing: Edge,
 ) -> Result<Walk, AllocError>
-    requires script { IsScript script.now }
-    requires closing { IsClosing script.now form closing }
-    ensures { IfOk result (IsShortestLoop script.now form closing.from) }
+    requires script { IsScript graph.script.now }
+    requires listed { IsTable graph.script.now graph.table.now }
+    requires closing { IsClosing graph.script.now form closing }
+    ensures { IfOk result (IsShortestLoop graph.entry.script.now form closing.from) }
 {
     let filter = back_filter(form);
-    let graph = Graph { script, filter };
-    let distances = distances_to(alloc, graph, closing.from)?;
-    let first = nearest(script, closing, &distances);
+    let back = Graph {
+        script: graph.script,
+        table: graph.table,
+        filter,
+    };
+    let distances = distances_to(alloc, back, closing.from)?;
+    let first = nearest(graph, closing, &distances);
     let mut nodes = Vec::new(alloc);
     let mut kinds = Vec::new(alloc);
     nodes.push(first.from)?;
@@ -72,7 +81,7 @@ pub(crate) fn loop_from(
     let mut at = first.to;
     let distance = distances[at.index()];
     for step in 0..distance {
-        let edge = nearer_edge(graph, at, distance - 1 - step, &distances);
+        let edge = nearer_edge(back, at, distance - 1 - step, &distances);
         nodes.push(edge.to)?;
         kinds.push(edge.kind)?;
         at = edge.to;
@@ -81,14 +90,15 @@ pub(crate) fn loop_from(
 }
 
 /// Of the edges of the same node and kind the first from whose target the distance is shortest.
-fn nearest(script: &Script, closing: Edge, distances: &[u16]) -> Edge
-    requires script { IsScript script.now }
-    requires edge { Flow script.now closing }
-    requires long { length distances.now ≡ node_count (length script.now.commands) }
-    ensures { IsNearest script.now distances.now closing result }
+fn nearest(graph: Graph, closing: Edge, distances: &[u16]) -> Edge
+    requires script { IsScript graph.script.now }
+    requires listed { IsTable graph.script.now graph.table.now }
+    requires edge { Flow graph.script.now closing }
+    requires long { length distances.now ≡ node_count (length graph.script.now.commands) }
+    ensures { IsNearest graph.entry.script.now distances.now closing result }
 {
     let mut nearest = closing;
-    for edge in edges_of(script, closing.from) {
+    for edge in edges_of(graph, closing.from) {
         if is_of(edge, closing.kind) && distances[edge.to.index()] < distances[nearest.to.index()] {
             nearest = edge;
         }

@@ -3,10 +3,12 @@
 ghost use Rattle.std.specs.Prelude.{IfOk};
 ghost use Rattle.sedck_script.specs.Invariant.{IsScript};
 ghost use Rattle.sedck_search.specs.Obstacle.{MarkReachable};
+ghost use Rattle.sedck_search.specs.Private.EdgeTable.{IsTable};
 ghost use Rattle.sedck_search.specs.Private.Reaching.{ArePartlyCounted};
 ghost use Rattle.sedck_search.specs.declared.filter.EdgeFilter.{EdgeFilter};
 
 use crate::counting::{UNCOUNTED, UNREACHED};
+use crate::edge_table::EdgeTable;
 use crate::filter::{EdgeFilter, Graph};
 use crate::kept_sets::KeptSets;
 use crate::node_set::NodeSet;
@@ -20,13 +22,32 @@ pub fn reachability(alloc: Global, script: &Script) -> Result<Vec<bool>, AllocEr
     ensures script { IsScript script.now }
     ensures marks { IfOk result (λ marks. MarkReachable script.now marks.items) }
 {
-    let count = node_count(script.commands().len());
+    let table = EdgeTable::of(alloc, script)?;
+    let filter = EdgeFilter::Every;
+    let graph = Graph {
+        script,
+        table: &table,
+        filter,
+    };
+    reached_from_starts(alloc, graph)
+}
+
+/// The same of a graph, whichever of its edges are followed.
+fn reached_from_starts(alloc: Global, graph: Graph) -> Result<Vec<bool>, AllocError>
+    requires script { IsScript graph.script.now }
+    requires listed { IsTable graph.script.now graph.table.now }
+    ensures { IfOk result (λ marks. MarkReachable graph.entry.script.now marks.items) }
+{
+    let count = node_count(graph.script.commands().len());
     let none = KeptSets::none(alloc);
     let mut reached = NodeSet::new();
     let mut frontier = NodeSet::new();
-    let filter = EdgeFilter::Every;
     let known = Known {
-        graph: Graph { script, filter },
+        graph: Graph {
+            script: graph.script,
+            table: graph.table,
+            filter: EdgeFilter::Every,
+        },
         kept: &none,
         counts: &[],
     };
@@ -39,12 +60,13 @@ pub fn reachability(alloc: Global, script: &Script) -> Result<Vec<bool>, AllocEr
     Ok(marks)
 }
 
-/// The same as counts: each reachable node is still to be counted.
-pub(crate) fn reachable_marks(alloc: Global, script: &Script) -> Result<Vec<u16>, AllocError>
-    ensures script { IsScript script.now }
-    ensures marks { IfOk result (λ marks. (filter : EdgeFilter) → ArePartlyCounted script.now filter marks.items) }
+/// The same as counts: each node that can be reached is still to be counted.
+pub(crate) fn reachable_marks(alloc: Global, graph: Graph) -> Result<Vec<u16>, AllocError>
+    requires script { IsScript graph.script.now }
+    requires listed { IsTable graph.script.now graph.table.now }
+    ensures marks { IfOk result (λ marks. (filter : EdgeFilter) → ArePartlyCounted graph.entry.script.now filter marks.items) }
 {
-    let reachable = reachability(alloc, script)?;
+    let reachable = reached_from_starts(alloc, graph)?;
     let mut marks = Vec::new(alloc);
     for is_reachable in &reachable {
         marks.push(if *is_reachable { UNCOUNTED } else { UNREACHED })?;

@@ -2,6 +2,7 @@
 
 ghost use Rattle.std.specs.Prelude.{◌≡◌, ◌<◌, ◌≤◌, length};
 ghost use Rattle.sedck_script.specs.Invariant.{IsScript};
+ghost use Rattle.sedck_search.specs.Private.EdgeTable.{IsTable};
 ghost use Rattle.sedck_flow.specs.Nodes.{node_index};
 ghost use Rattle.sedck_search.specs.Private.NodeSet.{IsEmpty, IsNodeSet};
 ghost use Rattle.sedck_search.specs.Private.Reaching.{FollowedEdge, IsClosed, IsIn};
@@ -9,10 +10,11 @@ ghost use Rattle.sedck_search.specs.Private.KeptSets.{AreCounts, AreKept};
 ghost use Rattle.sedck_search.specs.Private.Frontier.{AddsNode, AddsReached, AddsTarget, AddsTargets, AreSearchSets};
 ghost use Rattle.sedck_flow.specs.declared.graph.Edge.{Edge};
 
+use crate::edge_table::edges_of;
 use crate::filter::Graph;
 use crate::kept_sets::KeptSets;
 use crate::node_set::NodeSet;
-use sedck_flow::{Node, edges_of};
+use sedck_flow::Node;
 
 /// A graph, and what is known of it: sets that are kept, and the counts that say for which nodes they are.
 #[derive(Clone, Copy)]
@@ -25,6 +27,7 @@ pub(crate) struct Known<'a> {
 /// Adds all that the node reaches to the set, out of which no edge leads. The frontier is empty before and after.
 pub(crate) fn add_reached(known: Known, node: Node, reached: &mut NodeSet, frontier: &mut NodeSet)
     requires script { IsScript known.graph.script.now }
+    requires listed { IsTable known.graph.script.now known.graph.table.now }
     requires kept { AreKept known.graph.script.now known.graph.filter known.kept.now.sets.items }
     requires counts { AreCounts known.graph.script.now known.graph.filter known.counts.now }
     requires inside { node.at ≤ length known.graph.script.now.commands }
@@ -53,6 +56,7 @@ fn visit(
     first: usize,
 ) -> usize
     requires script { IsScript known.graph.script.now }
+    requires listed { IsTable known.graph.script.now known.graph.table.now }
     requires kept { AreKept known.graph.script.now known.graph.filter known.kept.now.sets.items }
     requires counts { AreCounts known.graph.script.now known.graph.filter known.counts.now }
     requires inside { node.at ≤ length known.graph.script.now.commands }
@@ -62,7 +66,7 @@ fn visit(
     ensures added { (e : Edge) → FollowedEdge known.entry.graph.script.now known.entry.graph.filter e → e.from ≡ node → IsIn reached.new e.to }
 {
     let mut first = first;
-    for edge in edges_of(known.graph.script, node) {
+    for edge in edges_of(known.graph, node) {
         if known.graph.filter.follows(edge.kind) {
             first = add_target(known, edge.to, reached, frontier, first);
         }

@@ -13,7 +13,8 @@ ghost use Rattle.sedck_search.specs.declared.filter.EdgeFilter.TheVariants.{Kept
 
 use crate::answer::{Form, Found};
 use crate::counting::counts_of;
-use crate::filter::EdgeFilter;
+use crate::edge_table::EdgeTable;
+use crate::filter::{EdgeFilter, Graph};
 use crate::loops::{first_closing, loop_from};
 use crate::reachable::reachable_marks;
 use sedck_cert::Cert;
@@ -28,14 +29,21 @@ use std::alloc::{AllocError, Global};
 pub fn search(alloc: Global, script: &Script) -> Result<Found, AllocError>
     ensures { IfOk result (IsFound script.now) }
 {
-    let marks = reachable_marks(alloc, script)?;
-    let seconds = counts_of(alloc, script, EdgeFilter::Kept, &marks)?;
-    if let Some(edge) = first_closing(script, Kind::Keep, &seconds) {
-        return Ok(Found::Loop(loop_from(alloc, script, Form::Idle, edge)?));
+    let table = EdgeTable::of(alloc, script)?;
+    let filter = EdgeFilter::Every;
+    let graph = Graph {
+        script,
+        table: &table,
+        filter,
+    };
+    let marks = reachable_marks(alloc, graph)?;
+    let seconds = counts_of(alloc, graph, EdgeFilter::Kept, &marks)?;
+    if let Some(edge) = first_closing(graph, Kind::Keep, &seconds) {
+        return Ok(Found::Loop(loop_from(alloc, graph, Form::Idle, edge)?));
     }
-    let firsts = counts_of(alloc, script, EdgeFilter::Unread, &marks)?;
-    if let Some(edge) = first_closing(script, Kind::Grow, &firsts) {
-        return Ok(Found::Loop(loop_from(alloc, script, Form::Growing, edge)?));
+    let firsts = counts_of(alloc, graph, EdgeFilter::Unread, &marks)?;
+    if let Some(edge) = first_closing(graph, Kind::Grow, &firsts) {
+        return Ok(Found::Loop(loop_from(alloc, graph, Form::Growing, edge)?));
     }
     Ok(Found::Ranks(certificate(alloc, script, &firsts, &seconds)?))
 }

@@ -2,10 +2,12 @@
 
 ghost use Rattle.std.specs.Prelude.{◌<◌, length};
 ghost use Rattle.sedck_script.specs.Invariant.{IsScript};
+ghost use Rattle.sedck_search.specs.Private.EdgeTable.{IsTable};
 ghost use Rattle.sedck_flow.specs.Nodes.{node_count};
 
+use crate::edge_table::edges_of;
 use crate::filter::Graph;
-use sedck_flow::{Node, edges_of, node_count};
+use sedck_flow::{Node, node_count};
 use std::alloc::{AllocError, Global};
 
 /// Of each node, by its index, the edges that lead to it, as a list that begins with the last one.
@@ -20,7 +22,8 @@ struct Turned {
 impl Turned {
     /// The followed edges of the graph.
     fn of(alloc: Global, graph: Graph) -> Result<Turned, AllocError>
-        requires { IsScript graph.script.now }
+        requires script { IsScript graph.script.now }
+        requires listed { IsTable graph.script.now graph.table.now }
     {
         let count = node_count(graph.script.commands().len());
         let mut turned = Turned {
@@ -37,9 +40,10 @@ impl Turned {
     /// Adds the followed edges of the node with this index.
     fn add_edges(&mut self, graph: Graph, index: usize) -> Result<(), AllocError>
         requires script { IsScript graph.script.now }
+        requires listed { IsTable graph.script.now graph.table.now }
         requires inside { index < node_count (length graph.script.now.commands) }
     {
-        for edge in edges_of(graph.script, Node::nth(index)) {
+        for edge in edges_of(graph, Node::nth(index)) {
             if graph.filter.follows(edge.kind)
                 && let Some(last) = self.last.get_mut(edge.to.index())
             {
@@ -58,7 +62,8 @@ pub(crate) fn nearest_first(
     graph: Graph,
     to: usize,
 ) -> Result<Vec<usize>, AllocError>
-    requires { IsScript graph.script.now }
+    requires script { IsScript graph.script.now }
+    requires listed { IsTable graph.script.now graph.table.now }
 {
     let turned = Turned::of(alloc, graph)?;
     let mut seen = Vec::new(alloc);

@@ -40,3 +40,9 @@ loop-step-preserved c =
             ];
           }
     ]
+
+pub returns-clause-settled : goal.returns-clause-settled
+returns-clause-settled c = λ is n reached.
+    let inv = c.loop-step.invariant in
+    subst (λ distances. IsSettled c.args.graph.script.now c.args.graph.filter distances n) (sym (inv.same is))
+    (inv.settled is n reached (omega (arith, c.loop-step-test.false)))

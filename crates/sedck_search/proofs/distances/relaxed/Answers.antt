@@ -1,7 +1,7 @@
 use Rattle.std.proofs.Common.{◌≡◌, ◌<◌, ◌≤◌, ℕ, length, suc, get_or, sym, ◌∙◌, arith, inl, inr, refl}
 use Rattle.std.proofs.lemmas.Bool.{true≢false, cases_lt}
 use Rattle.sedck_search.specs.Private.Distances.{HasDistance}
-use Rattle.sedck_search.proofs.Scans.{scan_next, scan_more, edge_coming, target_coming, place_in, entry_is, entry_of}
+use Rattle.sedck_search.proofs.Scans.{scan_next, scan_more, scan_end, edge_coming, target_coming, place_in, entry_is, entry_of}
 use Rattle.sedck_search.proofs.distances.relaxed.Goals as goal
 
 pub bounds-distances-index : goal.bounds-distances-index
@@ -45,3 +45,7 @@ loop-edge-preserved c =
           (λ followed after h. absurd (true≢false (sym (c.follows.ensures.1 followed) ∙ c.if-follows.false)));
       some = c.loop-edge.invariant.some;
     }
+
+pub returns-clause-least : goal.returns-clause-least
+returns-clause-least c = λ e followed leaves after has.
+    scan_end c.in-None.ensures.steps.0 c.loop-edge.invariant.edges e (followed.0, leaves) followed.1 after has

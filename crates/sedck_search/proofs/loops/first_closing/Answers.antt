@@ -29,7 +29,7 @@ found p kind counts n (Some e) before h is = record {
 
 pub returns-then-is_some : goal.returns-then-is_some
 returns-then-is_some c =
-    found c.args.script.now c.args.kind c.args.counts.now c.nth.result c.first_closing_from-edge.result
+    found c.args.graph.script.now c.args.kind c.args.counts.now c.nth.result c.first_closing_from-edge.result
     (λ e less. c.loop-index.invariant e (omega (arith, less, c.nth.ensures)))
     c.first_closing_from-edge.ensures (sym c.is_some.ensures ∙ c.if-is_some.true)
 
@@ -45,12 +45,12 @@ loop-index-preserved c = λ e less closes. elim (cases_lt (node_index e.from) c.
   | inl before ↦ c.loop-index.invariant e before closes
   | inr more ↦
       let same : node_index e.from ≡ node_index c.nth.result = omega (arith, less, more, c.nth.ensures) in
-      none c.args.script.now c.args.kind c.args.counts.now c.nth.result c.first_closing_from-edge.result c.first_closing_from-edge.ensures
+      none c.args.graph.script.now c.args.kind c.args.counts.now c.nth.result c.first_closing_from-edge.result c.first_closing_from-edge.ensures
       (sym c.is_some.ensures ∙ c.if-is_some.false) e closes (node_same e.from c.nth.result same)
 ]
 
 pub returns : goal.returns
 returns c = λ e closes.
     let below : node_index e.from < c.loop-index.index =
-    omega (arith, leaves_below c.args.script.now e closes.is_edge, c.requires.long, c.loop-index-test.false) in
+    omega (arith, leaves_below c.args.graph.script.now e closes.is_edge, c.requires.long, c.loop-index-test.false) in
     c.loop-index.invariant e below closes

@@ -8,7 +8,7 @@ use Rattle.sedck_search.proofs.loops.first_closing_from.Goals as goal
 pub bounds-counts-index-then-is_of : goal.bounds-counts-index-then-is_of
 bounds-counts-index-then-is_of c =
     let scan = scan_next c.in-Some.ensures.steps c.loop-edge.invariant in
-    omega (arith, c.index-then-is_of.ensures, place_in c.args.script.now c.args.counts.now c.requires.long c.in-Some.edge.to (target_coming c.requires.script scan))
+    omega (arith, c.index-then-is_of.ensures, place_in c.args.graph.script.now c.args.counts.now c.requires.long c.in-Some.edge.to (target_coming c.requires.script scan))
 
 -- a node without a count closes nothing
 pub returns-then-count-eq0 : goal.returns-then-count-eq0
@@ -21,7 +21,7 @@ returns-then-count-eq0 c = λ e closes leaves.
 -- both ends have one count
 pub returns-then-counts-index : goal.returns-then-counts-index
 returns-then-counts-index c =
-    let p = c.args.script.now in
+    let p = c.args.graph.script.now in
     let counts = c.args.counts.now in
     let e = c.in-Some.edge in
     let scan = scan_next c.in-Some.ensures.steps c.loop-edge.invariant in

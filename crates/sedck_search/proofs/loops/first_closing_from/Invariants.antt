@@ -4,4 +4,4 @@ use Rattle.sedck_search.proofs.loops.first_closing_from.Given as goal
 
 -- none of the edges so far closes a walk
 abbrev pub invariant-loop-edge : goal.invariant-loop-edge
-invariant-loop-edge l = AreScanned l.script l.fn.node l.yielded l.edge-iterator (λ e. ¬ Closes l.script l.fn.kind l.counts e)
+invariant-loop-edge l = AreScanned l.fn.graph.script.now l.fn.node l.yielded l.edge-iterator (λ e. ¬ Closes l.fn.graph.script.now l.fn.kind l.counts e)

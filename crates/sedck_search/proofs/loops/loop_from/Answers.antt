@@ -1,19 +1,36 @@
-use Rattle.std.proofs.Common.{◌≡◌, ◌<◌, ◌+◌, ◌-◌, ℕ, suc, [], ◌∷◌, ◌++◌, refl, sym, ap, ◌∙◌, subst, subst₂, arith}
+use Rattle.std.proofs.Common.{◌≡◌, ◌<◌, ◌+◌, ◌-◌, ℕ, suc, [], ◌∷◌, ◌++◌, length, refl, sym, ap, ◌∙◌, subst, subst₂, arith}
 use Rattle.std.specs.Prelude.{slice_get}
 use Rattle.std.proofs.lemmas.Option.{get_or_from_slice_get}
 use Rattle.sedck_flow.specs.declared.graph.Edge.{Edge}
+use Rattle.sedck_flow.proofs.EdgesInside.{inside}
 use Rattle.sedck_search.specs.Private.Distances.{HasDistance, AreDistances}
 use Rattle.sedck_search.specs.Private.Reaching.{AreFollowed, FollowedEdge}
 use Rattle.sedck_search.specs.Private.Closing.{back_filter}
 use Rattle.sedck_search.proofs.Paths.{closed_reaches}
 use Rattle.sedck_search.specs.Private.ShortestLoop.{IsNearest}
 use Rattle.sedck_search.proofs.DistanceLemmas.{next_distance}
+use Rattle.sedck_search.proofs.Scans.{place_in}
 use Rattle.sedck_search.proofs.ShortestLoops.{IsWalking, walking_begins, walking_goes_on, near_small, begin_reached, shortest_loop}
 use Rattle.sedck_search.proofs.loops.loop_from.Goals as goal
 
+pub distances_to-requires-clause-inside : goal.distances_to-requires-clause-inside
+distances_to-requires-clause-inside c = (inside c.args.graph.script.now c.requires.script.targets c.args.closing c.requires.closing.is_edge).0
+
+pub index-distance-requires : goal.index-distance-requires
+index-distance-requires c =
+    let p = c.args.graph.script.now in
+    let to = (inside p c.requires.script.targets c.nearest-first.result c.nearest-first.ensures.is_edge).1 in
+    omega (
+      arith,
+      c.index.ensures,
+      place_in p c.in_ok-distances.distances.items c.in_ok-distances.ensures.some.long c.nearest-first.result.to to,
+      ap length c.deref.ensures.value,
+      c.deref.ensures.len,
+    )
+
 pub loop-step-init : goal.loop-step-init
 loop-step-init c =
-    let p = c.args.script.now in
+    let p = c.args.graph.script.now in
     let distances = c.in_ok-distances.distances.items in
     let first : Edge = c.nearest-first.result in
     let near = subst (λ w. IsNearest p w c.args.closing first) c.deref.ensures.value c.nearest-first.ensures in
@@ -37,7 +54,7 @@ nearer_edge-edge-requires-clause-inside c = c.loop-step.invariant.walking.inside
 -- the distance is left by one edge more
 pub nearer_edge-edge-requires-clause-some : goal.nearer_edge-edge-requires-clause-some
 nearer_edge-edge-requires-clause-some c =
-    let p = c.args.script.now in
+    let p = c.args.graph.script.now in
     let distances = c.in_ok-distances.distances.items in
     let inv = c.loop-step.invariant in
     let left : ℕ = c.index-distance.result.now - 1 - c.loop-step.step in
@@ -56,7 +73,7 @@ nearer_edge-edge-requires-clause-some c =
 
 pub loop-step-preserved : goal.loop-step-preserved
 loop-step-preserved c =
-    let p = c.args.script.now in
+    let p = c.args.graph.script.now in
     let distances = c.in_ok-distances.distances.items in
     let inv = c.loop-step.invariant in
     let e : Edge = c.nearer_edge-edge.result in
@@ -77,7 +94,7 @@ loop-step-preserved c =
 -- the distance is scan
 pub returns : goal.returns
 returns c =
-    let p = c.args.script.now in
+    let p = c.args.graph.script.now in
     let distances = c.in_ok-distances.distances.items in
     let inv = c.loop-step.invariant in
     let none : c.index-distance.result.now - c.loop-step.step ≡ 0 = omega (arith, c.loop-step-test.false) in

@@ -12,13 +12,13 @@ use Rattle.sedck_search.proofs.Scans.{scan_none, scan_next, scan_more, scan_end,
 use Rattle.sedck_search.proofs.loops.nearest.Goals.{else-is_of-via-then-is_of+else-distances-index, else-is_of-via-else-is_of}
 use Rattle.sedck_search.proofs.loops.nearest.Goals as goal
 
-pub edges_of-edge-items-requires : goal.edges_of-edge-items-requires
-edges_of-edge-items-requires c = record { inside = (inside c.args.script.now c.requires.script.targets c.args.closing c.requires.edge).0 }
+pub edges_of-edge-items-requires-clause-inside : goal.edges_of-edge-items-requires-clause-inside
+edges_of-edge-items-requires-clause-inside c = (inside c.args.graph.script.now c.requires.script.targets c.args.closing c.requires.edge).0
 
 pub loop-edge-init : goal.loop-edge-init
 loop-edge-init c =
-    let distance = distance_at c.args.script.now c.args.distances.now c.requires.long c.args.closing.to
-    (inside c.args.script.now c.requires.script.targets c.args.closing c.requires.edge).1 in
+    let distance = distance_at c.args.graph.script.now c.args.distances.now c.requires.long c.args.closing.to
+    (inside c.args.graph.script.now c.requires.script.targets c.args.closing c.requires.edge).1 in
     record {
       is_edge = c.requires.edge;
       is_kind = refl;
@@ -26,13 +26,13 @@ loop-edge-init c =
       distance = distance.0;
       has_distance = distance.1;
       edges = scan_none c.into_iter-edge-iterator.result
-          (subst (λ edges. ListsEdges edges (FlowFrom c.args.script.now c.args.closing.from))
+          (subst (λ edges. ListsEdges edges (FlowFrom c.args.graph.script.now c.args.closing.from))
           (sym c.into_iter-edge-iterator.ensures.into_iter_gives) c.edges_of-edge-items.ensures.edges);
     }
 
 pub bounds-distances-index : goal.bounds-distances-index
 bounds-distances-index c =
-    let p = c.args.script.now in
+    let p = c.args.graph.script.now in
     let from = c.args.closing.from in
     let scan = scan_next c.in-Some.ensures.steps c.loop-edge.invariant.edges in
     omega (arith, c.index.ensures, place_in p c.args.distances.now c.requires.long c.in-Some.edge.to (target_coming c.requires.script scan))
@@ -47,14 +47,14 @@ offset_bounds-distances-index-then-is_of c =
     let small : c.index-then-is_of.result < 16384 = omega (
       arith,
       c.index-then-is_of.ensures,
-      index_below c.args.script.now c.requires.script c.loop-edge.nearest.to
-          (inside c.args.script.now c.requires.script.targets c.loop-edge.nearest c.loop-edge.invariant.is_edge).1,
+      index_below c.args.graph.script.now c.requires.script c.loop-edge.nearest.to
+          (inside c.args.graph.script.now c.requires.script.targets c.loop-edge.nearest c.loop-edge.invariant.is_edge).1,
     ) in
     omega (arith, small)
 
 pub bounds-distances-index-then-is_of : goal.bounds-distances-index-then-is_of
 bounds-distances-index-then-is_of c =
-    nearest_place c.args.script.now c.requires.script c.args.distances.now c.requires.long c.loop-edge.nearest c.loop-edge.invariant.is_edge
+    nearest_place c.args.graph.script.now c.requires.script c.args.distances.now c.requires.long c.loop-edge.nearest c.loop-edge.invariant.is_edge
     c.index-then-is_of.result c.index-then-is_of.ensures
 
 -- this edge is nearer
@@ -68,7 +68,7 @@ loop-edge-preserved-then-distances-index c =
     let flow = edge_coming scan in
     let distance : ℕ = get_or distances c.index.result 0 in
     let below : c.index.result < length distances = omega
-    (arith, c.index.ensures, place_in c.args.script.now distances c.requires.long e.to (target_coming c.requires.script scan)) in
+    (arith, c.index.ensures, place_in c.args.graph.script.now distances c.requires.long e.to (target_coming c.requires.script scan)) in
     let less : distance < inv.distance = omega (
       arith,
       c.if-distances-index.true,

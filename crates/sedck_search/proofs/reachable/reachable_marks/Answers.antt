@@ -26,14 +26,16 @@ partly_counted p flags marks given long entries filter = record {
       ];
 }
 
-pub returns-clause-marks : goal.returns-clause-marks
-returns-clause-marks c =
+pub returns : goal.returns
+returns c =
     let inv = c.loop-is_reachable.invariant in
     let flags = c.deref-is_reachable-items.result.now in
-    partly_counted c.args.script.now flags c.loop-is_reachable.marks.items
-    (subst (MarkReachable c.args.script.now) (sym c.deref-is_reachable-items.ensures.value) c.in_ok-reachable.ensures.marks)
-    (omega (arith, inv.long, c.loop-is_reachable-test.false, c.loop-is_reachable.auto.is_reachable-index-end))
-    (λ i below. inv.entries i (omega (arith, below, inv.long)))
+    record {
+      marks = partly_counted c.args.graph.script.now flags c.loop-is_reachable.marks.items
+          (subst (MarkReachable c.args.graph.script.now) (sym c.deref-is_reachable-items.ensures.value) c.in_ok-reachable.ensures)
+          (omega (arith, inv.long, c.loop-is_reachable-test.false, c.loop-is_reachable.auto.is_reachable-index-end))
+          (λ i below. inv.entries i (omega (arith, below, inv.long)));
+    }
 
 -- one mark more
 pub loop-is_reachable-preserved : goal.loop-is_reachable-preserved

@@ -12,27 +12,27 @@ pub loop_from-requires-clause-closing : goal.loop_from-requires-clause-closing
 loop_from-requires-clause-closing c =
     let p = c.args.script.now in
     let first = subst (λ counts. IsFirstClosing p Keep counts c.in-Some.edge) c.deref-2.ensures.value c.in-Some.ensures in
-    closes_back p c.in_ok-marks.ensures.script Idle c.in_ok-seconds.seconds.items c.in_ok-seconds.ensures c.in-Some.edge first.closes
+    closes_back p c.in_ok-table.ensures.script Idle c.in_ok-seconds.seconds.items c.in_ok-seconds.ensures c.in-Some.edge first.closes
 
 pub returns-in-Some : goal.returns-in-Some
 returns-in-Some c =
     let p = c.args.script.now in
     let first = subst (λ counts. IsFirstClosing p Keep counts c.in-Some.edge) c.deref-2.ensures.value c.in-Some.ensures in
-    idle_loop p c.in_ok-marks.ensures.script c.in_ok-seconds.seconds.items c.in_ok-seconds.ensures c.in-Some.edge first
+    idle_loop p c.in_ok-table.ensures.script c.in_ok-seconds.seconds.items c.in_ok-seconds.ensures c.in-Some.edge first
     c.in_ok-loop_from.field-0 c.in_ok-loop_from.ensures
 
 pub loop_from-requires-in-Some-first_closing-clause-closing : goal.loop_from-requires-in-Some-first_closing-clause-closing
 loop_from-requires-in-Some-first_closing-clause-closing c =
     let p = c.args.script.now in
     let first = subst (λ counts. IsFirstClosing p Grow counts c.in-Some-first_closing.edge) c.deref-4.ensures.value c.in-Some-first_closing.ensures in
-    closes_back p c.in_ok-marks.ensures.script Growing c.in_ok-firsts.firsts.items c.in_ok-firsts.ensures c.in-Some-first_closing.edge first.closes
+    closes_back p c.in_ok-table.ensures.script Growing c.in_ok-firsts.firsts.items c.in_ok-firsts.ensures c.in-Some-first_closing.edge first.closes
 
 pub returns-in-Some-first_closing : goal.returns-in-Some-first_closing
 returns-in-Some-first_closing c =
     let p = c.args.script.now in
     let none = subst (λ counts. (e : Edge) → ¬ Closes p Keep counts e) c.deref-2.ensures.value c.in_default.ensures in
     let first = subst (λ counts. IsFirstClosing p Grow counts c.in-Some-first_closing.edge) c.deref-4.ensures.value c.in-Some-first_closing.ensures in
-    growing_loop p c.in_ok-marks.ensures.script c.in_ok-seconds.seconds.items c.in_ok-seconds.ensures none c.in_ok-firsts.firsts.items
+    growing_loop p c.in_ok-table.ensures.script c.in_ok-seconds.seconds.items c.in_ok-seconds.ensures none c.in_ok-firsts.firsts.items
     c.in_ok-firsts.ensures c.in-Some-first_closing.edge first c.in_ok-loop_from-2.field-0 c.in_ok-loop_from-2.ensures
 
 pub certificate-requires-clause-idle : goal.certificate-requires-clause-idle

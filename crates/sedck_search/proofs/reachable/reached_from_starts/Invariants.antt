@@ -1,7 +1,7 @@
 use Rattle.std.proofs.Common.{◌≡◌, ℕ, ◌<◌, length}
 use Rattle.std.specs.Prelude.{Some, slice_get}
 use Rattle.sedck_search.specs.Private.NodeSet.{has}
-use Rattle.sedck_search.proofs.reachable.reachability.Given as goal
+use Rattle.sedck_search.proofs.reachable.reached_from_starts.Given as goal
 
 -- the marks so far
 abbrev pub invariant-loop-index : goal.invariant-loop-index

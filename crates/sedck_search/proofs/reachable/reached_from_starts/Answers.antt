@@ -13,7 +13,7 @@ use Rattle.sedck_search.specs.Private.Reaching.{IsClosed, IsIn}
 use Rattle.sedck_search.specs.Private.Frontier.{AddsReached}
 use Rattle.sedck_search.proofs.Paths.{closed_reaches, all_followed}
 use Rattle.sedck_search.proofs.Scans.{place_in, entries_push}
-use Rattle.sedck_search.proofs.reachable.reachability.Goals as goal
+use Rattle.sedck_search.proofs.reachable.reached_from_starts.Goals as goal
 
 -- a node is marked exactly where it is reached
 module _ (p : Program) (none half members : List ℕ) (marks : List Bool) (empty : IsEmpty none) (closed : IsClosed p Every members)
@@ -46,14 +46,14 @@ module _ (p : Program) (none half members : List ℕ) (marks : List Bool) (empty
         entries (node_index n) (place_in p marks long n inside) ∙ ap Some is,
       )
 
-pub returns-clause-marks : goal.returns-clause-marks
-returns-clause-marks c =
-    let count : length c.commands.result.now ≡ length c.args.script.now.commands = sym (length-map c.commands.result.now command_of)
+pub returns : goal.returns
+returns c =
+    let count : length c.commands.result.now ≡ length c.args.graph.script.now.commands = sym (length-map c.commands.result.now command_of)
     ∙ ap length c.commands.ensures.commands in
     let inv = c.loop-index.invariant in
-    let end : c.loop-index.index ≡ node_count (length c.args.script.now.commands) =
+    let end : c.loop-index.index ≡ node_count (length c.args.graph.script.now.commands) =
     omega (arith, count, c.loop-index-test.false, c.loop-index.auto.index-end) in
-    marked c.args.script.now c.new-reached.result c.add_reached.new.reached c.add_reached-2.new.reached c.loop-index.marks.items c.new-reached.ensures.nodes c.add_reached-2.ensures.closed
+    marked c.args.graph.script.now c.new-reached.result c.add_reached.new.reached c.add_reached-2.new.reached c.loop-index.marks.items c.new-reached.ensures.nodes c.add_reached-2.ensures.closed
     (rw c.start.ensures at c.add_reached.ensures.grown) (rw c.start-2.ensures at c.add_reached-2.ensures.grown) (inv.long ∙ end) (λ i below. inv.entries i (omega (arith, below, inv.long)))
 
 -- one mark more
