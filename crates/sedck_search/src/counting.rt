@@ -40,7 +40,7 @@ pub(crate) fn counts_of(
     let mut counts = Vec::new(alloc);
     counts.extend_from_slice(marks)?;
     let mut order = Order::new(alloc, marks.len())?;
-    let mut sets = Sets::new(alloc, marks.len())?;
+    let mut sets = Sets::new(alloc, marks.len(), most_on_one_side(marks))?;
     let graph = Graph {
         script: graph.script,
         table: graph.table,
@@ -48,6 +48,21 @@ pub(crate) fn counts_of(
     };
     count_all(graph, &mut order, &mut sets, &mut counts);
     Ok(counts)
+}
+
+/// How many nodes are marked on that side of the last line on which more are.
+fn most_on_one_side(marks: &[u16]) -> usize {
+    let mut before: usize = 0;
+    let mut on: usize = 0;
+    for step in 0..marks.len() / 2 {
+        if marks[2 * step] == UNCOUNTED {
+            before = before.saturating_add(1);
+        }
+        if marks[2 * step + 1] == UNCOUNTED {
+            on = on.saturating_add(1);
+        }
+    }
+    before.max(on)
 }
 
 /// Counts what each marked node reaches.

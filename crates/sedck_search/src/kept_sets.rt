@@ -43,15 +43,17 @@ impl KeptSets {
         }
     }
 
-    /// Empty sets, enough for the nodes on one side of the last line, and a slot number for each of so many nodes.
-    pub(crate) fn new(alloc: Global, nodes: usize) -> Result<KeptSets, AllocError>
+    /// Empty sets, enough for so many nodes to be counted on one side of the last line, and a slot number for each node.
+    pub(crate) fn new(alloc: Global, nodes: usize, side: usize) -> Result<KeptSets, AllocError>
         requires { nodes < 65536 }
         ensures { IfOk result (λ kept. All IsEmpty kept.sets.items × (length kept.slots.items ≡ nodes)) }
     {
         let mut kept = KeptSets::none(alloc);
-        let side = nodes as u32 / 2;
+        let side = side.min(nodes / 2) as u32;
         kept.latest = LATEST.min(side);
-        for _ in 0..kept.latest + side / STRIDE + 1 {
+        let count = kept.latest + side / STRIDE + 1;
+        kept.sets.reserve_exact(count as usize)?;
+        for _ in 0..count {
             kept.sets.push(NodeSet::new())?;
         }
         kept.slots.resize(nodes, 0)?;

@@ -26,15 +26,15 @@ pub(crate) struct Sets {
 }
 
 impl Sets {
-    /// Empty sets for so many nodes.
-    pub(crate) fn new(alloc: Global, nodes: usize) -> Result<Sets, AllocError>
+    /// Empty sets for so many nodes, of which so many are to be counted on one side of the last line.
+    pub(crate) fn new(alloc: Global, nodes: usize, side: usize) -> Result<Sets, AllocError>
         requires { nodes < 65536 }
         ensures kept { IfOk result (λ sets. All IsEmpty sets.kept.sets.items) }
         ensures slots { IfOk result (λ sets. length sets.kept.slots.items ≡ nodes) }
         ensures reached { IfOk result (λ sets. IsNodeSet sets.reached × IsEmpty sets.reached) }
         ensures frontier { IfOk result (λ sets. IsNodeSet sets.frontier × IsEmpty sets.frontier) }
     {
-        let kept = KeptSets::new(alloc, nodes)?;
+        let kept = KeptSets::new(alloc, nodes, side)?;
         Ok(Sets {
             kept,
             reached: NodeSet::new(),
