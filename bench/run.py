@@ -130,8 +130,8 @@ def scripts():
 
 
 def back_to_the_last(labels):
-    """Labels, each followed by a branch to the label before it; the last one is where a run begins."""
-    back = b":l0\n" + b"".join(b":l%d\nb l%d\n" % (at, at - 1) for at in range(1, labels))
+    """Labels, each followed by a branch to the label before it; a run begins at the last one and ends at the first."""
+    back = b":l0\nq\n" + b"".join(b":l%d\nb l%d\n" % (at, at - 1) for at in range(1, labels))
     return b"b l%d\n" % (labels - 1) + back
 
 
@@ -139,6 +139,12 @@ def in_random_order(labels):
     drawn = list(range(labels))
     random.Random(3).shuffle(drawn)
     return round_trip(drawn)
+
+
+def forward_in_random_order(labels):
+    """Labels, each followed by a branch that may be skipped, its target drawn among the labels after it."""
+    draw = random.Random(3)
+    return b"".join(b":l%d\n/x/b l%d\n" % (at, draw.randrange(at + 1, labels + 1)) for at in range(labels)) + b":l%d\n" % labels
 
 
 def written(size):
@@ -157,12 +163,20 @@ def written_in_random_order(size):
 GROWTH = [
     ("`p`, by commands", "rank", 0, lambda size: b"p\n" * size, 1000),
     ("`s/abc/ab/`, by commands", "rank", 0, lambda size: b"s/abc/ab/\n" * size, 1000),
+    ("`/x/D`, by commands", "rank", 0, lambda size: b"/x/D\n" * size, 1000),
+    ("blocks, by commands", "rank", 0, lambda size: b"/x/{\np\n}\n" * (size // 2), 1000),
+    ("`y`, by commands", "rank", 0, lambda size: b"y/abc/bca/\n" * size, 1000),
     ("an idle loop of `p`, by commands", "rank", 1, lambda size: b":a\n" + b"p\n" * (size - 2) + b"ba\n", 1000),
+    ("branches forward to labels in random order, by labels", "rank", 0, forward_in_random_order, 500),
     ("branches back to the label before, by labels", "rank", 0, back_to_the_last, 500),
     ("an idle loop through labels in random order, by labels", "rank", 1, in_random_order, 340),
     ("names written, in increasing order, by bytes", "files", 0, written, 250000),
     ("names written, in random order, by bytes", "files", 0, written_in_random_order, 250000),
     ("one expression, by bytes", "files", 0, lambda size: b"/" + b"e" * size + b"/p", 250000),
+    ("lists in one expression, by bytes", "files", 0, lambda size: b"/" + b"[a-z]" * (size // 5) + b"/p", 250000),
+    ("intervals in one expression, by bytes", "files", 0, lambda size: b"/" + b"a\\{1,2\\}" * (size // 8) + b"/p", 250000),
+    ("`&` in one replacement, by bytes", "files", 0, lambda size: b"s/a/" + b"&" * size + b"/", 250000),
+    ("comments, by bytes", "files", 0, lambda size: b"# c\n" * (size // 4) + b"p\n", 250000),
     ("one text, by bytes", "files", 0, lambda size: b"a\\\n" + b"t" * size + b"\n", 250000),
 ]
 
