@@ -1,7 +1,8 @@
 //! Commands and expansions that set variables, and the locale of a call.
 
+use crate::mentions::writes_sed;
 use crate::names::{Names, Scope, Spot};
-use crate::programs::{has_sed_default, is_path_command, is_sed_path, is_sed_variable};
+use crate::programs::{is_sed_path, is_sed_variable};
 use crate::units::{bytes_of, has_hole, variable_length};
 use crate::values::written_value;
 use sedck_origin::{
@@ -142,7 +143,7 @@ impl Names<'_> {
         };
         match named(UTILITIES, &bytes) {
             Some(Utility::Optioning) => self.note_options(operands),
-            Some(Utility::Hashing) => self.note_hashed(operands)?,
+            Some(Utility::Hashing) => self.note_hashed(operands),
             Some(Utility::Aliasing) => self.note_aliases(operands)?,
             _ => {}
         }
@@ -171,7 +172,10 @@ impl Names<'_> {
                 self.note_options(operands);
                 Ok(())
             }
-            Utility::Hashing => self.note_hashed(operands),
+            Utility::Hashing => {
+                self.note_hashed(operands);
+                Ok(())
+            }
             Utility::Aliasing => {
                 self.note_aliases(operands)?;
                 self.note_open(spot)
@@ -240,14 +244,14 @@ impl Names<'_> {
         )
     }
 
-    /// Whether the units are a command that writes the path of a sed, or a variable with such a value if it has no other.
+    /// Whether the units are a command that writes the path of a sed, or a variable that may have one.
     fn gives_sed(&self, units: &[Unit]) -> bool {
         let [Unit::Hole(hole)] = *units else {
             return false;
         };
         let written = self.written_hole(hole);
-        let has_default = hole_name(written).is_some_and(|name| has_sed_default(written, name));
-        written.len() <= LONGEST && (is_path_command(written) || has_default)
+        let may_have = hole_name(written).is_some_and(|name| self.may_be_sed(name));
+        written.len() <= LONGEST && (may_have || writes_sed(written))
     }
 
     /// Notes the name that a loop sets to each of its words, of which one may be the name of a sed.

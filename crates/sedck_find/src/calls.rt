@@ -17,7 +17,7 @@ use crate::units::bytes_of;
 use crate::values::{has_placeholder, line_starts, written_value};
 use crate::words::{CallWord, Filler};
 use sedck_hosts::{Assignment, Kind, host_of, is_run_by_sed, kind_of, reads_dollar_quotes};
-use sedck_origin::{Hole, Result, Text, Traced, Unit, Way};
+use sedck_origin::{Hole, Result, Text, Traced, Unit, Way, has_hole};
 use sedck_shell::{Dialect, Form, ShellWord, Site};
 use std::alloc::Global;
 use std::collections::BTreeMap;
@@ -62,7 +62,6 @@ pub fn calls_in(
         is_open: false,
         may_fix_locale: false,
         functions: BTreeMap::new(alloc),
-        hashed: Vec::new(alloc),
         settings: settings_of(file),
         macros: macros_of(alloc, kind, file)?,
         lines: line_starts(alloc, file)?,
@@ -200,7 +199,7 @@ fn add_calls(
 ) -> Result<()> {
     filler.followed.clear();
     let here = match &held.command.here {
-        Some(units) if parts.len() == 1 => {
+        Some(units) if parts.len() == 1 && !held.command.has_other_here => {
             let traced = filler.filled(units, held.spot())?;
             Some(CallWord::of(traced, quoted(0, 0)))
         }
@@ -332,10 +331,8 @@ fn changed_by(
     if is_redefined(names, name, part)? {
         return Ok(Some(Unknown::Function));
     }
-    if names.settings.has_keywords && has_assignment {
-        return Ok(Some(Unknown::Setting));
-    }
-    Ok(None)
+    let is_changed = names.settings.has_signs || (names.settings.has_keywords && has_assignment);
+    Ok(is_changed.then_some(Unknown::Setting))
 }
 
 /// The words of a call behind its name, with the options in the value of a variable that is the name, and whether all that is put into them
@@ -366,6 +363,7 @@ fn words_of(
             note_named(named, units, Role::Runner)?;
         }
     }
+    note_before(filler, held, part, named)?;
     let Some(texts) = part.replaced.texts(alloc, command)? else {
         return Ok((words, false));
     };
@@ -376,6 +374,48 @@ fn words_of(
         words.push(word)?;
     }
     Ok((words, are_known))
+}
+
+/// Notes each hole before the name of a call, and in redirections, in whose place there may be several words. A shell splits none that it
+/// assigns.
+fn note_before(
+    filler: &mut Filler<'_>,
+    held: &Held,
+    part: Part,
+    named: &mut Vec<OpenHole>,
+) -> Result<()> {
+    let mut is_assigned = true;
+    for (number, word) in held.command.words.iter().enumerate().take(part.name) {
+        is_assigned = is_assigned && is_assignment(&word.units);
+        for unit in &word.units {
+            match *unit {
+                Unit::Hole(hole) if hole.way.is_made() || (hole.way.is_split() && !is_assigned) => {
+                    if part.unknown != Some(number) {
+                        note_hole(filler, held, hole, named)?;
+                    }
+                }
+                _ => {}
+            }
+        }
+    }
+    for hole in &held.command.made {
+        note_hole(filler, held, *hole, named)?;
+    }
+    Ok(())
+}
+
+/// Notes the hole, unless its value is known and is a part of one word.
+fn note_hole(
+    filler: &mut Filler<'_>,
+    held: &Held,
+    hole: Hole,
+    named: &mut Vec<OpenHole>,
+) -> Result<()> {
+    let filled = filler.filled(&[Unit::Hole(hole)], held.spot())?;
+    if has_hole(&filled.origins) {
+        named.push(OpenHole::outside(hole, Role::Word))?;
+    }
+    Ok(())
 }
 
 /// Notes each hole of a name of which a shell may make several words.
@@ -410,7 +450,7 @@ fn is_redefined(names: &Names<'_>, name: &ShellWord, part: Part) -> Result<bool>
     let units = name.units.get(part.glued..).unwrap_or(&[]);
     let name = bytes_of(names.alloc, units)?;
     Ok(name.is_some_and(|name| {
-        names.is_hashed(&name) || (part.is_direct && names.is_function(&name))
+        names.is_replaced(&name) || (part.is_direct && names.is_function(&name))
     }))
 }
 

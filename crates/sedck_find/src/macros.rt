@@ -104,14 +104,16 @@ fn is_macro(text: &[u8], macros: &[Vec<u8>]) -> bool {
         return false;
     }
     let is_called = text.get(name.len()) == Some(&b'(');
-    let is_defined = |name: &[u8]| {
-        let found = macros.binary_search_by(|one| one.as_slice().cmp(name));
-        found.is_ok()
-    };
     begins_macro(name)
         || is_one_among(name, BARE)
         || (is_called && is_one_among(name, CALLED))
-        || is_defined(name)
+        || is_defined(macros, name)
+}
+
+/// Whether one of these macros, which are in order, has the name.
+pub(crate) fn is_defined(macros: &[Vec<u8>], name: &[u8]) -> bool {
+    let found = macros.binary_search_by(|one| one.as_slice().cmp(name));
+    found.is_ok()
 }
 
 /// Whether the name begins like those of Autoconf, Automake, Libtool, pkg-config or M4.

@@ -170,7 +170,7 @@ fn ends_with_sed(units: &[Unit]) -> bool {
 }
 
 /// Whether what is written in place of a hole has the name `sed`. In a command that is one which writes the name, and no call.
-fn writes_sed(written: &[u8]) -> bool {
+pub(crate) fn writes_sed(written: &[u8]) -> bool {
     let is_command = matches!(written, [b'$', b'(', ..] | [b'`', ..]);
     for index in 0..written.len() {
         let rest = written.get(index..).unwrap_or(&[]);

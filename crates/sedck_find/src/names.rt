@@ -1,11 +1,12 @@
 //! What is known of the values of variables.
 
 use crate::found::Assumptions;
+use crate::macros::is_defined;
 use crate::settings::Settings;
-use crate::units::is_one_among;
+use crate::units::{bytes_of, is_one_among};
 use crate::values::Value;
 use sedck_hosts::Kind;
-use sedck_origin::{Hole, Result, Unit, hole_name};
+use sedck_origin::{Hole, Result, Unit, hole_name, is_among};
 use sedck_shell::{Form, Site};
 use std::alloc::Global;
 use std::collections::BTreeMap;
@@ -75,8 +76,6 @@ pub(crate) struct Names<'a> {
     pub may_fix_locale: bool,
     /// The names of functions and of aliases.
     pub functions: BTreeMap<Vec<u8>, ()>,
-    /// The names in whose place a shell may run other programs.
-    pub hashed: Vec<Vec<u8>>,
     pub settings: Settings,
     /// The names of the macros of M4 that the file defines, in order.
     pub macros: Vec<Vec<u8>>,
@@ -133,9 +132,25 @@ impl<'a> Names<'a> {
         self.file.get(hole.start..hole.end).unwrap_or(&[])
     }
 
+    /// Notes the name of a function or an alias. Where it isn't known, or is a prefix that some shells know as a reserved word, any may be run.
+    pub fn note_function(&mut self, name: &[Unit]) -> Result<()> {
+        match bytes_of(self.alloc, name)? {
+            Some(name) if !is_among(&name, PREFIXES) => {
+                self.functions.insert(name, ())?;
+            }
+            _ => self.settings.has_tables = true,
+        }
+        Ok(())
+    }
+
     /// Whether a function or an alias has the name.
     pub fn is_function(&self, name: &[u8]) -> bool {
         self.functions.get(name).is_some()
+    }
+
+    /// Whether another program may run in place of the one that is named so, also where another command runs it.
+    pub fn is_replaced(&self, name: &[u8]) -> bool {
+        self.settings.has_tables || is_defined(&self.macros, name)
     }
 
     /// Whether the file may have prose among its commands: it is a source of Autoconf.
@@ -206,6 +221,9 @@ fn is_followed(fact: &Fact, used: Spot, open: Option<usize>) -> bool {
     let is_kept = open.is_none_or(|offset| is_once && used.at < offset);
     is_before && is_reached && is_kept
 }
+
+/// Words before a command that aren't reserved in each shell.
+static PREFIXES: &'static [&'static str] = &["time", "coproc"];
 
 /// Variables that a shell sets by itself.
 static SET_BY_SHELL: &'static [&'static str] = &[

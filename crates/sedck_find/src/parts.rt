@@ -14,6 +14,9 @@ use std::alloc::Global;
 /// What `find` runs a command for.
 static EXECUTING: &'static [&'static str] = &["-exec", "-execdir", "-ok", "-okdir"];
 
+/// Those of them that ask first, whose commands don't end at `+`.
+static ASKING: &'static [&'static str] = &["-ok", "-okdir"];
+
 /// Reserved words behind which a command begins.
 static RESERVED: &'static [&'static str] = &[
     "if", "then", "else", "elif", "do", "while", "until", "{", "!", "time",
@@ -111,6 +114,8 @@ struct Finder<'a> {
     state: State,
     /// Whether the command is run by `find`.
     is_found: bool,
+    /// Whether `find` asks first.
+    asks: bool,
     /// How many commands run the next one, and the number of the word that is the name of the last one.
     wrappers: usize,
     runner_name: usize,
@@ -137,6 +142,7 @@ pub(crate) fn parts_of(names: &Names<'_>, words: &[ShellWord], spot: Spot) -> Re
         c_locale: false,
         state: State::Name,
         is_found: false,
+        asks: false,
         wrappers: 0,
         runner_name: 0,
         follows_braces: false,
@@ -163,6 +169,7 @@ impl Finder<'_> {
             State::Find if is_one_of(&word.units, EXECUTING) => {
                 self.state = State::Name;
                 self.is_found = true;
+                self.asks = is_one_of(&word.units, ASKING);
                 if self.runner == Runner::Plain && self.is_listed {
                     self.runner = Runner::Replacing;
                 } else if self.runner == Runner::Plain {
@@ -174,7 +181,8 @@ impl Finder<'_> {
             }
             State::Find => return self.read_in_find(index, word),
             State::Word(_) => {
-                let is_end = word.is(";") || (self.follows_braces && word.is("+"));
+                let is_last = self.follows_braces && !self.asks && word.is("+");
+                let is_end = is_last || word.is(";");
                 if self.is_found && is_end {
                     self.end(index)?;
                     self.state = State::Find;
@@ -268,7 +276,7 @@ impl Finder<'_> {
     /// Notes the name of a command that runs another one.
     fn note_runner(&mut self, units: &[Unit]) -> Result<()> {
         if let Some(name) = bytes_of(self.names.alloc, units)? {
-            self.is_redefined = self.is_redefined || self.names.is_function(&name);
+            self.is_redefined |= self.names.is_function(&name) || self.names.is_replaced(&name);
         }
         Ok(())
     }

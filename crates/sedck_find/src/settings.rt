@@ -1,7 +1,7 @@
 //! Settings of a shell by which a call may have other words, or another program runs in place of the sed.
 
 use crate::names::Names;
-use crate::units::bytes_of;
+use crate::units::has_hole;
 use sedck_hosts::Assignment;
 use sedck_origin::{Result, Unit, byte_at, is_one_of, is_text};
 use sedck_shell::ShellWord;
@@ -13,6 +13,8 @@ pub(crate) struct Settings {
     pub has_keywords: bool,
     /// A pattern without a match may vanish: `nullglob`.
     pub has_no_match: bool,
+    /// Quotes or signs of zsh may mean something else than elsewhere.
+    pub has_signs: bool,
     /// Another program may run in place of any that is named without a path.
     pub has_tables: bool,
 }
@@ -27,12 +29,22 @@ const WORDS: &str = "${1+\"$@\"}=\"$@\"";
 static TABLES_OF_ZSH: &'static [&'static str] = &[
     "aliases[",
     "functions[",
+    "commands[",
     "aliases=",
     "functions=",
+    "commands=",
 ];
 
 /// What has patterns without a match vanish.
-static NO_MATCH: &'static [&'static str] = &["nullglob", "null_glob", "NULL_GLOB", "NULLGLOB"];
+const NO_MATCH: &str = "nullglob";
+
+/// What changes the quotes or the signs of zsh.
+static SIGNS: &'static [&'static str] = &[
+    "rcquotes",
+    "cshjunkiequotes",
+    "extendedglob",
+    "braceccl",
+];
 
 /// The settings that the text of a file shows, whatever commands it has.
 pub(crate) fn settings_of(file: &[u8]) -> Settings {
@@ -45,7 +57,8 @@ pub(crate) fn settings_of(file: &[u8]) -> Settings {
     let is_zsh = is_program && has_text(line, "zsh");
     Settings {
         has_keywords: is_program && names_keywords(line),
-        has_no_match: has_any(file, NO_MATCH),
+        has_no_match: has_option_name(file, NO_MATCH),
+        has_signs: SIGNS.iter().any(|name| has_option_name(file, name)),
         has_tables: has_any(file, TABLES) || (is_zsh && has_any(file, TABLES_OF_ZSH)),
     }
 }
@@ -54,6 +67,20 @@ pub(crate) fn settings_of(file: &[u8]) -> Settings {
 fn names_keywords(line: &[u8]) -> bool {
     line.split(|byte| matches!(*byte, b' ' | b'\t'))
         .any(|word| word.starts_with(b"-") && word.contains(&b'k'))
+}
+
+/// Whether the name of an option is in these bytes, in any letters: zsh reads it also with underscores in it.
+fn has_option_name(bytes: &[u8], name: &str) -> bool {
+    let mut rest = name.as_bytes();
+    for byte in bytes {
+        rest = match rest {
+            [] => return true,
+            [first, others @ ..] if byte.to_ascii_lowercase() == *first => others,
+            _ if *byte == b'_' => rest,
+            _ => name.as_bytes(),
+        };
+    }
+    rest.is_empty()
 }
 
 /// Whether one of the texts is in these bytes.
@@ -80,22 +107,13 @@ impl Names<'_> {
         }
     }
 
-    /// Notes what `hash` and `enable` put in place of programs: with an option `-p` or `-f` what is named behind it.
-    pub fn note_hashed(&mut self, operands: &[ShellWord]) -> Result<()> {
-        let is_put = operands.iter().any(|word| {
+    /// Notes that `hash` and `enable` put other programs in place of some: with an option `-p` or `-f`, or as `name=path`.
+    pub fn note_hashed(&mut self, operands: &[ShellWord]) {
+        self.settings.has_tables |= operands.iter().any(|word| {
             let is_option = byte_at(&word.units, 0) == Some(b'-');
-            is_hole_first(&word.units) || (is_option && has_letter(&word.units, b"pf"))
+            is_hole_first(&word.units)
+                || has_letter(&word.units, if is_option { b"=pf" } else { b"=" })
         });
-        if !is_put {
-            return Ok(());
-        }
-        for word in operands {
-            match bytes_of(self.alloc, &word.units)? {
-                Some(name) => self.hashed.push(name)?,
-                None => self.settings.has_tables = true,
-            }
-        }
-        Ok(())
     }
 
     /// Notes what aliases with these operands replace: their names, and with an option any word.
@@ -108,9 +126,8 @@ impl Names<'_> {
             if is_option && has_letter(&word.units, b"gs") {
                 self.settings.has_tables = true;
             }
-            if let Some(name) = self.name_of(word)? {
-                self.functions.insert(name, ())?;
-            }
+            let mut parts = word.units.split(|unit| unit.byte() == Some(b'='));
+            self.note_function(parts.next().unwrap_or(&[]))?;
         }
         Ok(())
     }
@@ -120,15 +137,9 @@ impl Names<'_> {
         let value = assignment.value.as_slice();
         let is_flags = assignment.name.as_slice() == b".SHELLFLAGS".as_slice();
         let is_shell = assignment.name.as_slice() == b"SHELL".as_slice();
-        let has_hole = is_flags && value.iter().any(|unit| matches!(*unit, Unit::Hole(_)));
-        if has_hole || ((is_flags || is_shell) && has_option(value, b'k')) {
+        if (is_flags || is_shell) && (has_hole(value) || has_option(value, b'k')) {
             self.settings.has_keywords = true;
         }
-    }
-
-    /// Whether another program may run in place of the one that is named so, also where another command runs it.
-    pub fn is_hashed(&self, name: &[u8]) -> bool {
-        self.settings.has_tables || self.hashed.iter().any(|other| other.as_slice() == name)
     }
 }
 

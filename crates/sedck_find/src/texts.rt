@@ -65,9 +65,7 @@ impl Reading<'_> {
             self.unread.extend_from_slice(&read.unread)?;
         }
         for name in &read.functions {
-            if let Some(name) = bytes_of(self.names.alloc, &name.units)? {
-                self.names.functions.insert(name, ())?;
-            }
+            self.names.note_function(&name.units)?;
         }
         for command in read.commands {
             self.note(&command, form, scope)?;

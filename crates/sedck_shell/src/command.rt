@@ -1,6 +1,6 @@
 //! What shell text has: commands, and their words.
 
-use sedck_origin::{Unit, is_text};
+use sedck_origin::{Hole, Unit, is_text};
 use std::alloc::Global;
 
 /// A word of a command, without its quoting.
@@ -36,10 +36,12 @@ pub struct ShellCommand {
     pub source: Option<ShellWord>,
     /// The here-string that is its standard input, in the shells that have such, if there is one.
     pub here_string: Option<ShellWord>,
-    /// Whether a here-document is for another of its descriptors.
+    /// Whether a here-document is for another of its descriptors, or isn't its only input: some shells read all inputs.
     pub has_other_here: bool,
     /// The files that it opens for writing: all that are emptied, and the one to which its standard output goes.
     pub targets: Vec<Target>,
+    /// What is put into its redirections before a shell reads them, where there may be other words then.
+    pub made: Vec<Hole>,
 }
 
 /// A file that is opened for writing.

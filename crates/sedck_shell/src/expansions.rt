@@ -13,6 +13,10 @@ impl Reader<'_> {
     pub fn read_expansion(&mut self, index: usize, unit: Unit) -> Result<()> {
         let next = index.saturating_add(1);
         let after = next.saturating_add(1);
+        let behind = self.joined(self.name_end(next));
+        if behind.is_some_and(|byte| !b" \t".contains(&byte)) {
+            self.output.unread.push(unit.start())?;
+        }
         match self.text.byte(next) {
             Some(b'(') => self.open_substitution(index, after),
             Some(b'{') => self.open_parameter(index, after),

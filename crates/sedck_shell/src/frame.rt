@@ -1,6 +1,7 @@
 //! What encloses a byte of shell text.
 
 use crate::command::{ShellWord, Site, Target};
+use sedck_origin::Hole;
 use std::alloc::Global;
 
 /// The quoting of a byte (XCU 2.2).
@@ -84,9 +85,10 @@ pub(crate) struct Draft {
     pub here_string: Option<ShellWord>,
     pub has_other_here: bool,
     pub targets: Vec<Target>,
+    pub made: Vec<Hole>,
     /// The number of the one to which its standard output goes.
     pub output: Option<usize>,
-    /// How many words there were before `&>`, where some shells begin another command.
+    /// How many words there were before what some shells read as another word or the end of the command, as `&>` and `{x}>`.
     pub parted: Option<usize>,
     pub around: Around,
 }
@@ -186,6 +188,7 @@ impl Draft {
             here_string: None,
             has_other_here: false,
             targets: Vec::new(alloc),
+            made: Vec::new(alloc),
             output: None,
             parted: None,
             around: Around::default(),

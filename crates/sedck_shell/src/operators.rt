@@ -1,6 +1,5 @@
 //! Operators: ends of commands, parentheses and redirections (XCU 2.7, 2.9).
 
-use crate::command::ShellWord;
 use crate::frame::{Awaited, Delimiter, Enclosure};
 use crate::reader::{Dialect, Reader};
 use crate::words::begins_with;
@@ -11,6 +10,10 @@ impl Reader<'_> {
     pub fn read_operator(&mut self, index: usize, unit: Unit, byte: u8) -> Result<()> {
         if self.top.is_test && byte != b';' {
             return self.read_in_test(index, unit, byte);
+        }
+        let behind = self.joined(index.saturating_add(1));
+        if behind.is_some_and(|byte| b";&|<>(".contains(&byte)) {
+            self.output.unread.push(unit.start())?;
         }
         match byte {
             b';' => self.read_semicolon(index),
@@ -93,13 +96,11 @@ impl Reader<'_> {
         if self.opens_words() {
             return self.open(index, next, Enclosure::Array, true);
         }
-        self.end_word()?;
         if let Some(end) = self.empty_end(next) {
             self.resume = end;
-            let name = self.top.command.words.pop();
-            self.top.command.words.clear();
-            return self.begin_function(name);
+            return self.begin_named();
         }
+        self.end_word()?;
         let inner = next.saturating_add(1);
         if self.text.byte(next) == Some(b'(')
             && self.begins_expression()
@@ -108,7 +109,25 @@ impl Reader<'_> {
             self.note_commands_within(inner)?;
             return self.open(index, inner, Enclosure::Arithmetic, false);
         }
+        self.note_parenthesis(index)?;
         self.open(index, next, Enclosure::Group, false)
+    }
+
+    /// Tells of a parenthesis behind words of a command, which is a pattern in some shells, unless it begins the body of a function. Values of
+    /// make's may be nothing.
+    fn note_parenthesis(&mut self, index: usize) -> Result<()> {
+        let words = &self.top.command.words;
+        if begins_with(words, "function") {
+            return self.end_command();
+        }
+        let is_known = words
+            .iter()
+            .any(|word| word.units.iter().any(|unit| unit.byte().is_some()));
+        if is_known && !begins_with(words, "[[") && self.form.dialect != Dialect::Macros {
+            let before = self.start_at(index);
+            self.output.unread.push(before)?;
+        }
+        Ok(())
     }
 
     /// Whether `((` begins an expression where a command may begin, and behind `for`.
@@ -169,13 +188,14 @@ impl Reader<'_> {
             return Ok(());
         }
         let stream = match self.take_descriptor()? {
-            Some(word) => stream_of(&word),
+            Some(stream) => stream,
             None if byte == b'<' => Stream::Input,
             None => Stream::Output,
         };
         // The last redirection counts, but each one that empties a file does so.
         match stream {
             Stream::Input => {
+                self.top.command.has_other_here |= self.top.command.around.has_input;
                 self.top.command.around.has_input = true;
                 self.top.command.here = None;
                 self.top.command.source = None;
@@ -197,15 +217,17 @@ impl Reader<'_> {
         self.top.command.output = None;
     }
 
-    /// Ends the word before an operator; answers it in place of that if it is a descriptor.
-    fn take_descriptor(&mut self) -> Result<Option<ShellWord>> {
+    /// Ends the word before an operator; answers its stream in place of that if it is a descriptor. To some shells only a digit is one.
+    fn take_descriptor(&mut self) -> Result<Option<Stream>> {
         if !self.top.has_word || self.top.word.is_quoted || !is_descriptor(&self.top.word.units) {
             self.end_word()?;
             return Ok(None);
         }
-        self.top.has_word = false;
-        let word = std::mem::replace(&mut self.top.word, ShellWord::new(self.alloc));
-        Ok(Some(word))
+        let word = self.take_word();
+        if word.units.len() > 1 {
+            self.part_command();
+        }
+        Ok(Some(stream_of(&word.units)))
     }
 }
 
@@ -220,8 +242,7 @@ enum Stream {
 }
 
 /// The stream with this descriptor. Zeros before a number don't count.
-fn stream_of(descriptor: &ShellWord) -> Stream {
-    let units = descriptor.units.as_slice();
+fn stream_of(units: &[Unit]) -> Stream {
     let zeros = units
         .iter()
         .position(|unit| unit.byte() != Some(b'0'))

@@ -122,9 +122,8 @@ fn new_reader<'a>(
 
 /// The commands with their here-documents.
 fn finished(alloc: Global, output: Output) -> Result<ShellText> {
-    let (mut bodies, mut unread) = (output.bodies, output.unread);
+    let (mut bodies, mut unread, groups) = (output.bodies, output.unread, output.groups);
     let mut commands = Vec::new(alloc);
-    let groups = output.groups;
     let mut left = COPIED;
     for draft in output.commands {
         let mut draft = draft;
@@ -133,34 +132,7 @@ fn finished(alloc: Global, output: Output) -> Result<ShellText> {
         if is_more && left == 0 {
             unread.push(draft.words.first().map_or(0, |word| word.start))?;
         }
-        let Draft {
-            words,
-            site,
-            here,
-            source,
-            here_string,
-            has_other_here,
-            targets,
-            output: last,
-            parted: _,
-            around: _,
-        } = draft;
-        let mut targets = targets;
-        if let Some(number) = last {
-            if let Some(target) = targets.get_mut(number) {
-                target.is_output = true;
-            }
-        }
-        let here = here.and_then(|number| bodies.get_mut(number)?.take());
-        commands.push(ShellCommand {
-            words,
-            site,
-            here,
-            source,
-            here_string,
-            has_other_here,
-            targets,
-        })?;
+        commands.push(command_of(draft, &mut bodies))?;
     }
     for job in &output.jobs {
         if let Some(unit) = job.units.first() {
@@ -172,6 +144,25 @@ fn finished(alloc: Global, output: Output) -> Result<ShellText> {
         functions: output.functions,
         unread,
     })
+}
+
+/// The command with its here-document, which is one of these.
+fn command_of(draft: Draft, bodies: &mut Vec<Option<Vec<Unit>>>) -> ShellCommand {
+    let mut targets = draft.targets;
+    let last = draft.output.and_then(|number| targets.get_mut(number));
+    if let Some(target) = last {
+        target.is_output = true;
+    }
+    ShellCommand {
+        words: draft.words,
+        site: draft.site,
+        here: draft.here.and_then(|number| bodies.get_mut(number)?.take()),
+        source: draft.source,
+        here_string: draft.here_string,
+        has_other_here: draft.has_other_here,
+        targets,
+        made: draft.made,
+    }
 }
 
 /// A here-document that is awaited.

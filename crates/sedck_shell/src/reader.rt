@@ -373,6 +373,17 @@ impl Reader<'_> {
         self.text.get(index).map_or(0, Unit::end)
     }
 
+    /// The byte behind a backslash and a newline at this index, which a shell leaves out before it looks for operators and expansions.
+    pub fn joined(&self, index: usize) -> Option<u8> {
+        let next = index.saturating_add(1);
+        let is_joined = self.text.byte(index) == Some(b'\\') && self.text.byte(next) == Some(b'\n');
+        if is_joined {
+            self.text.byte(next.saturating_add(1))
+        } else {
+            None
+        }
+    }
+
     /// Where the name that begins at this index ends.
     pub fn name_end(&self, from: usize) -> usize {
         let length = self.text.len();

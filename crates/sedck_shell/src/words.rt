@@ -3,7 +3,7 @@
 use crate::command::{ShellWord, Site, Target};
 use crate::frame::{Awaited, Braces, Draft, Enclosure, Quote};
 use crate::reader::{Dialect, MOST, Reader};
-use sedck_origin::{Hole, Result, Unit, Way, is_one_of, is_text};
+use sedck_origin::{Hole, Result, Unit, Way, byte_at, is_one_of, is_text};
 
 /// Reserved words before a command, which are no words of it.
 static RESERVED: &'static [&'static str] = &[
@@ -76,13 +76,14 @@ impl Reader<'_> {
         if !self.top.has_word {
             return Ok(());
         }
-        self.expand_braces();
-        let word = std::mem::replace(&mut self.top.word, ShellWord::new(self.alloc));
-        self.top.has_word = false;
+        let word = self.take_word();
         self.top.flow.is_awaited = false;
         let awaited = std::mem::replace(&mut self.top.awaited, Awaited::Word);
+        if let Awaited::Word = awaited {
+            return self.add_word(word);
+        }
+        self.note_redirection(&word)?;
         match awaited {
-            Awaited::Word => return self.add_word(word),
             Awaited::Delimiter(delimiter) => return self.await_body(word, delimiter),
             Awaited::Source => self.top.command.source = Some(word),
             Awaited::HereString => self.top.command.here_string = Some(word),
@@ -93,7 +94,28 @@ impl Reader<'_> {
             Awaited::Copied if !is_descriptor_copy(&word) => {
                 return self.add_target(word, true, true);
             }
-            Awaited::Copied | Awaited::Skipped => {}
+            _ => {}
+        }
+        Ok(())
+    }
+
+    /// Takes the word that is begun.
+    pub fn take_word(&mut self) -> ShellWord {
+        self.expand_braces();
+        self.top.has_word = false;
+        std::mem::replace(&mut self.top.word, ShellWord::new(self.alloc))
+    }
+
+    /// Notes what may be other words in the word of a redirection: what is there before a shell reads it, and what some shells have behind `>!`.
+    fn note_redirection(&mut self, word: &ShellWord) -> Result<()> {
+        if !word.is_quoted && byte_at(&word.units, 0) == Some(b'!') {
+            self.output.unread.push(word.start)?;
+        }
+        for unit in &word.units {
+            match *unit {
+                Unit::Hole(hole) if hole.way.is_made() => self.top.command.made.push(hole)?,
+                _ => {}
+            }
         }
         Ok(())
     }
@@ -112,7 +134,7 @@ impl Reader<'_> {
         )
     }
 
-    /// Notes that some shells begin another command behind the word that comes next.
+    /// Notes that some shells read another word here, or the end of the command.
     pub fn part_command(&mut self) {
         if self.top.command.parted.is_none() {
             self.top.command.parted = Some(self.top.command.words.len());
@@ -195,7 +217,7 @@ impl Reader<'_> {
         let words = &self.top.command.words;
         let is_third = words.len() == 2;
         let begins_case = is_third && is_text(units, "in") && begins_with(words, "case");
-        let begins_body = is_third && is_text(units, "{") && begins_with(words, "function");
+        let begins_body = is_text(units, "{") && begins_with(words, "function");
         let begins_loop = is_third && is_text(units, "do") && begins_with(words, "for");
         if begins_case {
             self.top.cases = self.top.cases.saturating_add(1);
@@ -203,8 +225,7 @@ impl Reader<'_> {
             self.top.parentheses = 0;
         }
         if begins_body {
-            let name = self.top.command.words.pop();
-            self.begin_function(name)?;
+            self.begin_named()?;
             self.note_flow(units)?;
         }
         let is_reserved = begins_case || begins_body || begins_loop;
@@ -218,7 +239,12 @@ impl Reader<'_> {
     pub fn end_command(&mut self) -> Result<()> {
         self.end_word()?;
         self.note_parted()?;
-        self.top.awaited = Awaited::Word;
+        // Some shells have other words behind the operator of a redirection.
+        let awaited = std::mem::replace(&mut self.top.awaited, Awaited::Word);
+        if !matches!(awaited, Awaited::Word) && self.form.dialect != Dialect::Macros {
+            let before = self.start_at(self.resume.saturating_sub(1));
+            self.output.unread.push(before)?;
+        }
         self.top.is_test = false;
         let mut command = std::mem::replace(&mut self.top.command, Draft::new(self.alloc));
         let Some(first) = command.words.first() else {
@@ -235,6 +261,9 @@ impl Reader<'_> {
         }
         if self.top.is_pattern || !self.top.has_commands() {
             return Ok(());
+        }
+        if begins_with(&command.words, "function") {
+            return self.begin_functions(command.words);
         }
         command.site = self.site();
         command.around.group = self.top.flow.group;
@@ -310,11 +339,21 @@ impl Reader<'_> {
         }
     }
 
-    /// Keeps the name of a function whose body comes next.
-    pub fn begin_function(&mut self, name: Option<ShellWord>) -> Result<()> {
-        if let Some(name) = name {
+    /// Keeps the words of the command as the names of functions whose body comes next, also one that is a reserved word elsewhere.
+    pub fn begin_named(&mut self) -> Result<()> {
+        if self.top.has_word {
+            let word = self.take_word();
+            self.top.command.words.push(word)?;
+        }
+        let names = std::mem::replace(&mut self.top.command.words, Vec::new(self.alloc));
+        self.begin_functions(names)
+    }
+
+    /// Keeps the names of functions whose body comes next. Some shells give one body several names.
+    fn begin_functions(&mut self, names: Vec<ShellWord>) -> Result<()> {
+        self.top.flow.begins_function = !names.is_empty();
+        for name in names {
             self.output.functions.push(name)?;
-            self.top.flow.begins_function = true;
         }
         Ok(())
     }
