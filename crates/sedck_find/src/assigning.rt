@@ -2,7 +2,7 @@
 
 use crate::mentions::writes_sed;
 use crate::names::{Names, Scope, Spot};
-use crate::programs::{is_sed_path, is_sed_variable};
+use crate::programs::{LONGEST, is_sed_path, is_sed_variable};
 use crate::units::{bytes_of, has_hole, variable_length};
 use crate::values::written_value;
 use sedck_origin::{
@@ -56,9 +56,6 @@ static UTILITIES: &'static [(Utility, &'static [&'static str])] = &[
 /// Utilities that may make a variable read-only.
 static FIXING: &'static [&'static str] = &["readonly", "declare", "typeset", "local"];
 
-/// The longest path that is looked at.
-const LONGEST: usize = 256;
-
 /// What a word assigns.
 #[derive(Clone, Copy)]
 enum Assigned {
@@ -109,7 +106,7 @@ fn without_prefixes(words: &[ShellWord]) -> &[ShellWord] {
 }
 
 impl Names<'_> {
-    /// Notes what a command sets.
+    /// Notes what a command sets. In a makefile variables are make's.
     pub fn note_command(&mut self, command: &ShellCommand, scope: Scope) -> Result<()> {
         let words = command.words.as_slice();
         let Some(first) = words.first() else {
@@ -123,7 +120,7 @@ impl Names<'_> {
         let is_alone = count == words.len();
         for word in words.iter().take(count) {
             // Before a command IFS is set for that alone.
-            if is_alone || !begins_with(&word.units, "IFS=") {
+            if !self.is_make() && (is_alone || !begins_with(&word.units, "IFS=")) {
                 self.note_word(word, spot, is_alone)?;
             }
         }
@@ -133,67 +130,41 @@ impl Names<'_> {
         }
     }
 
-    /// Notes what a command of a makefile sets beside variables, which are make's there.
-    pub fn note_settings(&mut self, words: &[ShellWord]) -> Result<()> {
-        let [name, operands @ ..] = without_prefixes(words) else {
-            return Ok(());
+    /// Notes what a command of this name sets by its operands.
+    fn note_utility(&mut self, name: &ShellWord, operands: &[ShellWord], spot: Spot) -> Result<()> {
+        let bytes = bytes_of(self.alloc, &name.units)?;
+        let utility = match &bytes {
+            Some(bytes) => named(UTILITIES, bytes),
+            None if self.gives_sed(&name.units) => None,
+            None => Some(Utility::Opening),
         };
-        let Some(bytes) = bytes_of(self.alloc, &name.units)? else {
-            return Ok(());
-        };
-        match named(UTILITIES, &bytes) {
+        match utility {
             Some(Utility::Optioning) => self.note_options(operands),
             Some(Utility::Hashing) => self.note_hashed(operands),
             Some(Utility::Aliasing) => self.note_aliases(operands)?,
             _ => {}
         }
-        Ok(())
+        match utility {
+            Some(utility) if !self.is_make() => self.note_set(utility, operands, spot),
+            _ => Ok(()),
+        }
     }
 
-    /// Notes what a command of this name sets by its operands.
-    fn note_utility(&mut self, name: &ShellWord, operands: &[ShellWord], spot: Spot) -> Result<()> {
-        let Some(bytes) = bytes_of(self.alloc, &name.units)? else {
-            if self.is_sed_name(&name.units) {
-                return Ok(());
-            }
-            return self.note_open(spot);
-        };
-        let Some(utility) = named(UTILITIES, &bytes) else {
-            return Ok(());
-        };
+    /// Notes the variables that a utility sets by its operands.
+    fn note_set(&mut self, utility: Utility, operands: &[ShellWord], spot: Spot) -> Result<()> {
         match utility {
             Utility::Exporting => self.note_declared(operands, spot, false),
             Utility::Declaring => self.note_declared(operands, spot, true),
             Utility::Setting => self.note_names(operands, spot),
             Utility::SettingFirst => self.note_loop(operands, spot),
             Utility::SettingSecond => self.note_names(operands.get(1..2).unwrap_or(&[]), spot),
-            Utility::Opening => self.note_open(spot),
-            Utility::Optioning => {
-                self.note_options(operands);
-                Ok(())
-            }
-            Utility::Hashing => {
-                self.note_hashed(operands);
-                Ok(())
-            }
-            Utility::Aliasing => {
-                self.note_aliases(operands)?;
-                self.note_open(spot)
-            }
+            Utility::Opening | Utility::Aliasing => self.note_open(spot),
             // The texts of words that are known are read by themselves.
             Utility::Running if operands.iter().any(|word| has_hole(&word.units)) => {
                 self.note_open(spot)
             }
-            Utility::Running => Ok(()),
+            Utility::Optioning | Utility::Hashing | Utility::Running => Ok(()),
             Utility::Printing => self.note_printf(operands, spot),
-        }
-    }
-
-    /// Whether the units are a variable that has the path of a sed.
-    fn is_sed_name(&self, units: &[Unit]) -> bool {
-        match *units {
-            [Unit::Hole(hole)] => hole_name(self.written_hole(hole)).is_some_and(is_sed_variable),
-            _ => false,
         }
     }
 
@@ -237,11 +208,7 @@ impl Names<'_> {
             .unwrap_or(value.len());
         let first = value.get(..end.min(LONGEST)).unwrap_or(&[]);
         let path = bytes_of(self.alloc, first)?;
-        Ok(
-            self.is_sed_name(first)
-                || self.gives_sed(first)
-                || path.is_some_and(|path| is_sed_path(&path)),
-        )
+        Ok(self.gives_sed(first) || path.is_some_and(|path| is_sed_path(&path)))
     }
 
     /// Whether the units are a command that writes the path of a sed, or a variable that may have one.
@@ -250,8 +217,9 @@ impl Names<'_> {
             return false;
         };
         let written = self.written_hole(hole);
-        let may_have = hole_name(written).is_some_and(|name| self.may_be_sed(name));
-        written.len() <= LONGEST && (may_have || writes_sed(written))
+        let mut name = hole_name(written);
+        let is_sed = name.is_some_and(|name| is_sed_variable(name) || self.may_be_sed(name));
+        is_sed || (written.len() <= LONGEST && writes_sed(written))
     }
 
     /// Notes the name that a loop sets to each of its words, of which one may be the name of a sed.
@@ -328,16 +296,6 @@ impl Names<'_> {
         }
     }
 
-    /// Notes a variable that is set by an expansion, in which these bytes are behind its name.
-    fn note_default(&mut self, name: Vec<u8>, behind: &[u8]) -> Result<()> {
-        let is_sed = assigns_sed(behind);
-        self.note_unknown(name.clone()?)?;
-        if is_sed {
-            self.note_sed(&name);
-        }
-        Ok(())
-    }
-
     /// Notes the variables that `${NAME=..}`, `${NAME:=..}` and arithmetic may set (XCU 2.6.2 and 2.6.4). `${!NAME=..}` sets one whose name
     /// is a value.
     pub fn note_expansions(&mut self) -> Result<()> {
@@ -348,29 +306,27 @@ impl Names<'_> {
             if is_name_byte(*byte) {
                 continue;
             }
-            if from < index {
-                let before = file.get(from.saturating_sub(2)..from).unwrap_or(&[]);
-                let is_set = matches!(file.get(index..), Some([b'=', ..] | [b':', b'=', ..]));
-                self.is_open |= is_set && is_among(before, &["{!"]);
-                let may_be_set = match before {
-                    [b'$', b'{'] => is_set,
-                    [.., b'$' | b'{'] => false,
-                    _ => is_arithmetic,
-                };
-                if may_be_set {
-                    let mut name = Vec::new(self.alloc);
-                    name.extend_from_slice(file.get(from..index).unwrap_or(&[]))?;
-                    self.note_default(name, file.get(index..).unwrap_or(&[]))?;
-                }
-            }
-            let is_second = file.get(index.saturating_sub(1)) == Some(byte) && index > 0;
-            is_arithmetic = match *byte {
-                b'(' if is_second => true,
-                b')' if is_second => false,
-                b'\n' => false,
+            let name = file.get(from..index).unwrap_or(&[]);
+            let before = file.get(from.saturating_sub(2)..from).unwrap_or(&[]);
+            let behind = file.get(index..).unwrap_or(&[]);
+            let is_set = matches!(behind, [b'=', ..] | [b':', b'=', ..]);
+            let may_be_set = match before {
+                [b'$', b'{'] => is_set,
+                [.., b'$' | b'{'] => false,
                 _ => is_arithmetic,
             };
+            if may_be_set && !name.is_empty() {
+                self.note_unknown(Vec::from_slice(self.alloc, name)?)?;
+                if assigns_sed(behind) {
+                    self.note_sed(name);
+                }
+            }
+            self.is_open |= is_set && !name.is_empty() && is_among(before, &["{!"]);
             from = index.saturating_add(1);
+            let last = file.get(index.saturating_sub(1)..from).unwrap_or(&[]);
+            if *byte == b'\n' || is_among(last, &["((", "))"]) {
+                is_arithmetic = *byte == b'(';
+            }
         }
         Ok(())
     }
@@ -378,13 +334,9 @@ impl Names<'_> {
 
 /// Whether these bytes are the sign of an assignment, and behind it the path of a sed that ends at a brace.
 fn assigns_sed(bytes: &[u8]) -> bool {
-    let value = match bytes {
-        [b'=', value @ ..] | [b':', b'=', value @ ..] => value,
-        _ => return false,
-    };
-    let part = value.get(..value.len().min(LONGEST)).unwrap_or(&[]);
-    let end = part.iter().position(|byte| *byte == b'}');
-    end.is_some_and(|end| is_sed_path(part.get(..end).unwrap_or(&[])))
+    let part = bytes.get(..bytes.len().min(LONGEST)).unwrap_or(&[]);
+    let end = part.iter().position(|byte| *byte == b'}').unwrap_or(0);
+    matches!(part, [b'=', ..] | [b':', b'=', ..]) && writes_sed(part.get(..end).unwrap_or(&[]))
 }
 
 /// Whether an assignment of LC_ALL is one of C or of POSIX, where a character is a byte; none of another variable.

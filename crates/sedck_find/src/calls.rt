@@ -133,7 +133,8 @@ fn add_mentions(
     parts: &[Part],
 ) -> Result<()> {
     let words = held.command.words.as_slice();
-    let is_strict = held.is_value || names.has_prose();
+    // A source of Autoconf may have prose among its commands.
+    let is_strict = held.is_value || names.kind == Kind::Autoconf;
     for part in parts {
         match part.program {
             Program::Other | Program::Shell | Program::User => {
@@ -208,21 +209,13 @@ fn add_calls(
     for part in parts {
         if let Program::Sed = part.program {
             match found_call(filler, held, *part, here.as_ref())? {
-                Some(call) if !held.is_value || has_script(&call.script) => calls.push(call)?,
-                _ => {}
+                Some(call) if held.is_value && matches!(&call.script, FoundScript::Refused(_)) => {}
+                Some(call) => calls.push(call)?,
+                None => {}
             }
         }
     }
     Ok(())
-}
-
-/// Whether there is a script.
-fn has_script(script: &FoundScript) -> bool {
-    match script {
-        FoundScript::Refused(_) => false,
-        FoundScript::Text { call, .. } | FoundScript::Foreign(call) => !call.pieces.is_empty(),
-        FoundScript::Unknown(_) => true,
-    }
 }
 
 /// What the file has between these offsets, of which a shell makes a part of one word.
@@ -328,7 +321,11 @@ fn changed_by(
     part: Part,
 ) -> Result<Option<Unknown>> {
     let has_assignment = others.iter().any(|word| is_assignment(&word.units));
-    if is_redefined(names, name, part)? {
+    let called = bytes_of(names.alloc, name.units.get(part.glued..).unwrap_or(&[]))?;
+    let is_redefined = called.is_some_and(|name| {
+        names.is_replaced(&name) || (part.is_direct && names.is_function(&name))
+    });
+    if part.is_redefined || is_redefined {
         return Ok(Some(Unknown::Function));
     }
     let is_changed = names.settings.has_signs || (names.settings.has_keywords && has_assignment);
@@ -357,12 +354,6 @@ fn words_of(
         },
         _ => note_named(named, called, Role::Word)?,
     }
-    if let Some(runner) = part.unknown.and_then(|number| command.get(number)) {
-        let units = runner.units.get(..1).unwrap_or(&[]);
-        if !filler.is_nothing(units, held.spot())? {
-            note_named(named, units, Role::Runner)?;
-        }
-    }
     note_before(filler, held, part, named)?;
     let Some(texts) = part.replaced.texts(alloc, command)? else {
         return Ok((words, false));
@@ -376,23 +367,29 @@ fn words_of(
     Ok((words, are_known))
 }
 
-/// Notes each hole before the name of a call, and in redirections, in whose place there may be several words. A shell splits none that it
-/// assigns.
+/// Notes what may run the call, and each hole before its name and in redirections in whose place there may be several words. A shell splits
+/// none that it assigns.
 fn note_before(
     filler: &mut Filler<'_>,
     held: &Held,
     part: Part,
     named: &mut Vec<OpenHole>,
 ) -> Result<()> {
+    let command = held.command.words.as_slice();
+    if let Some(runner) = part.unknown.and_then(|number| command.get(number)) {
+        let units = runner.units.get(..1).unwrap_or(&[]);
+        if !filler.is_nothing(units, held.spot())? {
+            note_named(named, units, Role::Runner)?;
+        }
+    }
     let mut is_assigned = true;
-    for (number, word) in held.command.words.iter().enumerate().take(part.name) {
+    for (number, word) in command.iter().enumerate().take(part.name) {
         is_assigned = is_assigned && is_assignment(&word.units);
         for unit in &word.units {
             match *unit {
-                Unit::Hole(hole) if hole.way.is_made() || (hole.way.is_split() && !is_assigned) => {
-                    if part.unknown != Some(number) {
-                        note_hole(filler, held, hole, named)?;
-                    }
+                Unit::Hole(hole)
+                    if part.unknown != Some(number) && may_be_words(hole, is_assigned) => {
+                    note_hole(filler, held, hole, named)?;
                 }
                 _ => {}
             }
@@ -402,6 +399,11 @@ fn note_before(
         note_hole(filler, held, *hole, named)?;
     }
     Ok(())
+}
+
+/// Whether there may be several words in place of the hole, which is a part of an assignment or not.
+fn may_be_words(hole: Hole, is_assigned: bool) -> bool {
+    hole.way.is_made() || (hole.way.is_split() && !is_assigned)
 }
 
 /// Notes the hole, unless its value is known and is a part of one word.
@@ -440,18 +442,6 @@ fn put_in(word: &mut CallWord, runner: Runner, texts: &[Vec<u8>]) -> bool {
         are_there = word.open(text) && are_there;
     }
     are_there
-}
-
-/// Whether the file may have something else run in place of the sed, or of what runs it: a function or an alias, or another program.
-fn is_redefined(names: &Names<'_>, name: &ShellWord, part: Part) -> Result<bool> {
-    if part.is_redefined {
-        return Ok(true);
-    }
-    let units = name.units.get(part.glued..).unwrap_or(&[]);
-    let name = bytes_of(names.alloc, units)?;
-    Ok(name.is_some_and(|name| {
-        names.is_replaced(&name) || (part.is_direct && names.is_function(&name))
-    }))
 }
 
 /// Whether the words are prose within brackets of M4: the name is right behind one, and the next word is letters alone.

@@ -33,7 +33,8 @@ pub(crate) fn macros_of(alloc: Global, kind: Kind, file: &[u8]) -> Result<Vec<Ve
     }
     for index in 0..file.len() {
         let rest = file.get(index..).unwrap_or(&[]);
-        let is_inside = index > 0 && file.get(index.saturating_sub(1)).is_some_and(is_name);
+        let before = file.get(index.saturating_sub(1)).copied();
+        let is_inside = index > 0 && before.is_some_and(is_name_byte);
         if is_inside {
             continue;
         }
@@ -61,11 +62,6 @@ fn without_quotes(text: &[u8]) -> &[u8] {
         .position(|byte| !b"([ \t\n".contains(byte))
         .unwrap_or(text.len());
     text.get(begins..).unwrap_or(&[])
-}
-
-/// Whether a name may have the byte.
-fn is_name(byte: &u8) -> bool {
-    is_name_byte(*byte)
 }
 
 /// The name at the beginning of the text; nothing where it doesn't begin with one.

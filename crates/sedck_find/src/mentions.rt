@@ -4,7 +4,9 @@ use crate::assigning::is_assignment;
 use crate::names::Names;
 use crate::parts::{Part, Runner};
 use crate::programs::{LONGEST, Program, is_sed_word};
-use crate::units::{bytes_of, ends_with, has_hole, is_one_among, last_part, variable_length};
+use crate::units::{
+    bytes_of, ends_with, has_hole, is_letters, is_one_among, last_part, variable_length,
+};
 use sedck_origin::{
     Result, Unit, begins_with, byte_at, hole_name, is_among, is_name_byte, is_one_of, is_text,
 };
@@ -18,12 +20,6 @@ static PLAIN: &'static [&'static str] = &[
     "python python3 ruby apt apt-get aptitude dpkg yum dnf microdnf rpm zypper apk pacman",
     "brew opkg emerge pkg port",
 ];
-
-/// Those whose words are none behind `in`.
-static LOOPS: &'static [&'static str] = &["for", "select"];
-
-/// Words behind which a command may begin in some shells.
-static BRACES: &'static [&'static str] = &["{", "}", "]]"];
 
 /// Commands that run a text, which isn't read.
 static RUNNING: &'static [&'static str] = &[
@@ -110,15 +106,14 @@ fn text_in(words: &[ShellWord], from: usize, is_running: bool) -> Option<usize> 
 
 /// The number of the first word that may be a command: none where the words of a command with this name are no commands.
 fn first_open(names: &Names<'_>, name: &[u8], words: &[ShellWord]) -> usize {
-    let is_loop = is_among(name, LOOPS) && words.get(2).is_none_or(|word| word.is("in"));
+    let is_loop = is_among(name, &["for", "select"])
+        && words.get(2).is_none_or(|word| word.is("in"));
     let is_plain = is_loop || is_one_among(name, PLAIN);
     if !is_plain || names.is_function(name) {
         return 1;
     }
-    let brace = words
-        .iter()
-        .skip(1)
-        .position(|word| !word.is_quoted && is_one_of(&word.units, BRACES));
+    let brace = words.iter().skip(1).position(|word| !word.is_quoted
+        && is_one_of(&word.units, &["{", "}", "]]"]));
     brace.map_or(words.len(), |place| place.saturating_add(1))
 }
 
@@ -244,8 +239,7 @@ fn has_name(units: &[Unit]) -> bool {
 
 /// Whether the word before a text is an option that says that a shell runs it.
 fn is_command_option(units: &[Unit]) -> bool {
-    let is_letters = byte_at(units, 0) == Some(b'-') && byte_at(units, 1) != Some(b'-');
-    (is_letters && ends_with(units, b'c')) || is_one_of(units, &["--command"])
+    (is_letters(units) && ends_with(units, b'c')) || is_one_of(units, &["--command"])
 }
 
 /// Whether the word behind a name looks like an option or a script: it begins with a hyphen, is quoted or has a slash.

@@ -132,10 +132,10 @@ impl<'a> Names<'a> {
         self.file.get(hole.start..hole.end).unwrap_or(&[])
     }
 
-    /// Notes the name of a function or an alias. Where it isn't known, or is a prefix that some shells know as a reserved word, any may be run.
+    /// Notes the name of a function or an alias. Any may be run where it isn't known, or is a word before a command that not each shell reserves.
     pub fn note_function(&mut self, name: &[Unit]) -> Result<()> {
         match bytes_of(self.alloc, name)? {
-            Some(name) if !is_among(&name, PREFIXES) => {
+            Some(name) if !is_among(&name, &["time", "coproc"]) => {
                 self.functions.insert(name, ())?;
             }
             _ => self.settings.has_tables = true,
@@ -153,14 +153,14 @@ impl<'a> Names<'a> {
         self.settings.has_tables || is_defined(&self.macros, name)
     }
 
-    /// Whether the file may have prose among its commands: it is a source of Autoconf.
-    pub fn has_prose(&self) -> bool {
-        self.kind == Kind::Autoconf
+    /// Whether the file is a makefile.
+    pub fn is_make(&self) -> bool {
+        self.kind == Kind::Make
     }
 
     /// Whether make replaces the hole.
     fn is_made(&self, hole: Hole) -> bool {
-        self.kind == Kind::Make && !is_doubled(self.file, hole.start)
+        self.is_make() && !is_doubled(self.file, hole.start)
     }
 
     /// The name of the variable that is the hole, which is there, if its value may be given with the call of this program.
@@ -221,9 +221,6 @@ fn is_followed(fact: &Fact, used: Spot, open: Option<usize>) -> bool {
     let is_kept = open.is_none_or(|offset| is_once && used.at < offset);
     is_before && is_reached && is_kept
 }
-
-/// Words before a command that aren't reserved in each shell.
-static PREFIXES: &'static [&'static str] = &["time", "coproc"];
 
 /// Variables that a shell sets by itself.
 static SET_BY_SHELL: &'static [&'static str] = &[

@@ -14,9 +14,6 @@ use std::alloc::Global;
 /// What `find` runs a command for.
 static EXECUTING: &'static [&'static str] = &["-exec", "-execdir", "-ok", "-okdir"];
 
-/// Those of them that ask first, whose commands don't end at `+`.
-static ASKING: &'static [&'static str] = &["-ok", "-okdir"];
-
 /// Reserved words behind which a command begins.
 static RESERVED: &'static [&'static str] = &[
     "if", "then", "else", "elif", "do", "while", "until", "{", "!", "time",
@@ -47,6 +44,23 @@ pub(crate) struct Part {
     pub has_more_unknown: bool,
     /// Whether the words right before the name set LC_ALL to C or POSIX.
     pub c_locale: bool,
+}
+
+impl Part {
+    /// One that nothing runs.
+    const FIRST: Part = Part {
+        program: Program::Other,
+        name: 0,
+        glued: 0,
+        end: 0,
+        runner: Runner::Plain,
+        replaced: Replaced::NOTHING,
+        is_direct: true,
+        is_redefined: false,
+        unknown: None,
+        has_more_unknown: false,
+        c_locale: false,
+    };
 }
 
 /// What runs a command.
@@ -97,24 +111,18 @@ struct Finder<'a> {
     words: &'a [ShellWord],
     spot: Spot,
     parts: Vec<Part>,
-    runner: Runner,
-    replaced: Replaced,
+    /// What is known of the next command.
+    next: Part,
     /// Whether an option of the last `xargs` has it replace something, and whether it may add operands all the same.
     replaces: bool,
     may_add: bool,
     /// Whether `find` has names from a list, which may begin with a hyphen.
     is_listed: bool,
-    /// Whether a command that runs the next one has the name of a function or an alias.
-    is_redefined: bool,
-    unknown: Option<usize>,
-    has_more_unknown: bool,
     setter: Setter,
-    /// Whether LC_ALL is set to C or POSIX there.
-    c_locale: bool,
     state: State,
     /// Whether the command is run by `find`.
     is_found: bool,
-    /// Whether `find` asks first.
+    /// Whether `find` asks first, so that the command doesn't end at `+`.
     asks: bool,
     /// How many commands run the next one, and the number of the word that is the name of the last one.
     wrappers: usize,
@@ -130,16 +138,11 @@ pub(crate) fn parts_of(names: &Names<'_>, words: &[ShellWord], spot: Spot) -> Re
         words,
         spot,
         parts: Vec::new(names.alloc),
-        runner: Runner::Plain,
-        replaced: Replaced::NOTHING,
+        next: Part::FIRST,
         replaces: false,
         may_add: false,
         is_listed: false,
-        is_redefined: false,
-        unknown: None,
-        has_more_unknown: false,
         setter: Setter::Shell,
-        c_locale: false,
         state: State::Name,
         is_found: false,
         asks: false,
@@ -169,13 +172,13 @@ impl Finder<'_> {
             State::Find if is_one_of(&word.units, EXECUTING) => {
                 self.state = State::Name;
                 self.is_found = true;
-                self.asks = is_one_of(&word.units, ASKING);
-                if self.runner == Runner::Plain && self.is_listed {
-                    self.runner = Runner::Replacing;
-                } else if self.runner == Runner::Plain {
-                    self.runner = Runner::Find;
+                self.asks = is_one_of(&word.units, &["-ok", "-okdir"]);
+                if self.next.runner == Runner::Plain && self.is_listed {
+                    self.next.runner = Runner::Replacing;
+                } else if self.next.runner == Runner::Plain {
+                    self.next.runner = Runner::Find;
                 }
-                self.replaced.has_braces = true;
+                self.next.replaced.has_braces = true;
                 self.wrappers = 0;
                 self.set_by(Setter::Nothing);
             }
@@ -212,15 +215,13 @@ impl Finder<'_> {
         self.state = State::Name;
         if is_assignment(&word.units) {
             if let Some(is_c) = is_c_locale(&word.units) {
-                self.c_locale = is_c && self.is_kept();
+                self.next.c_locale = is_c && self.is_kept();
             }
             return Ok(());
         }
-        if index == 0 && word.is("-p") {
-            return Ok(());
-        }
+        let is_option = index == 0 && word.is("-p");
         let glued = self.pass_glued(index, word);
-        if glued > 0 && is_passed(word.units.get(glued..).unwrap_or(&[])) {
+        if is_option || (glued > 0 && is_passed(word.units.get(glued..).unwrap_or(&[]))) {
             return Ok(());
         }
         let program = program_of(self.names, word, glued, self.spot)?;
@@ -263,28 +264,24 @@ impl Finder<'_> {
             name,
             glued,
             end: name,
-            runner: self.runner,
-            replaced: self.replaced,
-            is_direct: self.runner == Runner::Plain && self.wrappers == 0,
-            is_redefined: self.is_redefined,
-            unknown: self.unknown,
-            has_more_unknown: self.has_more_unknown,
-            c_locale: self.c_locale,
+            is_direct: self.next.runner == Runner::Plain && self.wrappers == 0,
+            ..self.next
         }
     }
 
     /// Notes the name of a command that runs another one.
     fn note_runner(&mut self, units: &[Unit]) -> Result<()> {
         if let Some(name) = bytes_of(self.names.alloc, units)? {
-            self.is_redefined |= self.names.is_function(&name) || self.names.is_replaced(&name);
+            self.next.is_redefined |= self.names.is_function(&name)
+                || self.names.is_replaced(&name);
         }
         Ok(())
     }
 
     /// Notes the number of a word that may run the command or be nothing.
     fn note_unknown(&mut self, index: usize) {
-        self.has_more_unknown = self.has_more_unknown || self.unknown.is_some();
-        self.unknown = Some(index);
+        self.next.has_more_unknown = self.next.has_more_unknown || self.next.unknown.is_some();
+        self.next.unknown = Some(index);
     }
 
     /// Whether an assignment before a name stands.
@@ -300,9 +297,9 @@ impl Finder<'_> {
     fn pass(&mut self, index: usize, wrapper: Wrapper) {
         if wrapper.is_adding {
             // What another one adds goes to this one's command.
-            self.may_add = self.runner == Runner::Adding;
+            self.may_add = self.next.runner == Runner::Adding;
             self.replaces = false;
-            self.runner = Runner::Adding;
+            self.next.runner = Runner::Adding;
         }
         self.runner_name = index;
         if wrapper.is_unknown {
@@ -318,7 +315,7 @@ impl Finder<'_> {
     /// Notes what takes the next assignments.
     fn set_by(&mut self, setter: Setter) {
         self.setter = setter;
-        self.c_locale = false;
+        self.next.c_locale = false;
     }
 
     /// Reads a word behind the name of a wrapper.
@@ -358,10 +355,10 @@ impl Finder<'_> {
         let is_known = known.len() == word.units.len();
         self.may_add = self.may_add || adds_operands(&known);
         if let Some(replacing) = replaced_by(index, &known, is_known) {
-            self.replaced.add(replacing);
+            self.next.replaced.add(replacing);
             self.replaces = true;
         }
-        self.runner = if self.replaces && !self.may_add {
+        self.next.runner = if self.replaces && !self.may_add {
             Runner::Replacing
         } else {
             Runner::Adding
@@ -392,14 +389,10 @@ fn may_list(words: &[ShellWord]) -> bool {
         .unwrap_or(words.len());
     for (index, word) in words.iter().take(end).enumerate() {
         let next = index.saturating_add(1);
-        let is_split = match word.units.first() {
-            Some(Unit::Hole(hole)) => hole.way.is_split(),
-            _ => false,
-        };
         let is_refused = begins_option(words.get(next))
             && begins_path(words.get(next.saturating_add(1)));
         let is_hole = matches!(word.units.first(), Some(Unit::Hole(_)));
-        if word.is("-files0-from") || is_split || (is_hole && !is_refused) {
+        if word.is("-files0-from") || (is_hole && !is_refused) {
             return true;
         }
     }

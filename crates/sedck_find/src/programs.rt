@@ -1,5 +1,6 @@
 //! What the name of a command calls.
 
+use crate::mentions::writes_sed;
 use crate::names::{Names, Spot, replaced_name};
 use crate::units::{bytes_of, is_one_among, last_part};
 use crate::values::{BLANKS, Value};
@@ -99,19 +100,8 @@ static PROGRAMS: &'static [(Program, &'static [&'static str])] = &[
 /// The names of seds.
 static SEDS: &'static [&'static str] = &["sed", "gsed", "ssed"];
 
-/// The names of variables that have the path of a sed.
-static SED_VARIABLES: &'static [&'static str] = &["SED", "GSED"];
-
 /// The names of variables that have the path of a shell.
 static SHELL_VARIABLES: &'static [&'static str] = &["SHELL", "CONFIG_SHELL", "BASH", "POSIX_SHELL"];
-
-/// Commands that write the path of a sed.
-static PATHS: &'static [&'static [&'static str]] = &[
-    &["which sed", "which gsed"],
-    &["command -v sed", "command -v gsed"],
-    &["type -p sed", "type -p gsed"],
-    &["type -P sed", "type -P gsed"],
-];
 
 /// The longest text of a hole, and the longest path, that is looked at, so that the time stays linear.
 pub(crate) const LONGEST: usize = 256;
@@ -180,7 +170,7 @@ pub(crate) fn is_sed_word(names: &Names<'_>, word: &ShellWord) -> Result<bool> {
     if let [Unit::Hole(hole)] = *word.units.as_slice() {
         let written = names.written_hole(hole);
         return Ok(hole_name(written).is_some_and(|name| {
-            is_sed_variable(name) || names.may_be_sed(name) || has_sed_default(written, name)
+            is_sed_variable(name) || names.may_be_sed(name) || writes_sed(written)
         }));
     }
     // What is before the name may be nothing, or a part of its path.
@@ -243,7 +233,7 @@ pub(crate) fn is_sed_path(path: &[u8]) -> bool {
 
 /// Whether a variable of this name has the path of a sed.
 pub(crate) fn is_sed_variable(name: &[u8]) -> bool {
-    is_among(name, SED_VARIABLES)
+    is_among(name, &["SED", "GSED"])
 }
 
 /// What the hole calls, which is the whole word.
@@ -285,7 +275,7 @@ fn first_word(alloc: Global, value: Value<'_>, is_split: bool) -> Result<Vec<u8>
 
 /// What is called by what is written, if no value is known.
 fn called_by_name(written: &[u8], names: &Names<'_>) -> Program {
-    if is_path_command(written) || is_among(written, &["%{__sed}", "%__sed"]) {
+    if writes_sed(written) || is_among(written, &["%{__sed}", "%__sed"]) {
         return Program::Sed;
     }
     let Some(name) = hole_name(written) else {
@@ -293,7 +283,7 @@ fn called_by_name(written: &[u8], names: &Names<'_>) -> Program {
     };
     let is_made = matches!(written, [b'$', b'(', inner @ .., b')'] if inner.len() == name.len());
     let is_whole = is_made || replaced_name(written, names.kind).is_some();
-    let is_sed = (is_whole && is_sed_variable(name)) || has_sed_default(written, name);
+    let is_sed = is_whole && is_sed_variable(name);
     let may_be_sed = names.may_be_sed(name) && (is_whole || !is_sed_variable(name));
     if is_sed || may_be_sed {
         Program::Sed
@@ -303,26 +293,5 @@ fn called_by_name(written: &[u8], names: &Names<'_>) -> Program {
         Program::Wrapper(PREFIX)
     } else {
         Program::Other
-    }
-}
-
-/// Whether it is `${NAME-sed}` or `${NAME:-sed}`, also with `=`, and with another path of a sed.
-pub(crate) fn has_sed_default(written: &[u8], name: &[u8]) -> bool {
-    let from = name.len().saturating_add(2);
-    match written.get(from..) {
-        Some([b'-' | b'=', path @ .., b'}'] | [b':', b'-' | b'=', path @ .., b'}']) => {
-            is_sed_path(path)
-        }
-        _ => false,
-    }
-}
-
-/// Whether it is a command that writes the path of a sed.
-pub(crate) fn is_path_command(written: &[u8]) -> bool {
-    match written {
-        [b'$', b'(', command @ .., b')'] | [b'`', command @ .., b'`'] => {
-            PATHS.iter().any(|paths| is_among(command, paths))
-        }
-        _ => false,
     }
 }

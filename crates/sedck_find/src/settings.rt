@@ -1,7 +1,7 @@
 //! Settings of a shell by which a call may have other words, or another program runs in place of the sed.
 
 use crate::names::Names;
-use crate::units::has_hole;
+use crate::units::{has_hole, is_letters};
 use sedck_hosts::Assignment;
 use sedck_origin::{Result, Unit, byte_at, is_one_of, is_text};
 use sedck_shell::ShellWord;
@@ -20,7 +20,7 @@ pub(crate) struct Settings {
 }
 
 /// Names of variables that are tables of programs and aliases.
-static TABLES: &'static [&'static str] = &["BASH_CMDS", "BASH_ALIASES"];
+static TABLES: &'static [&'static str] = &["bashcmds", "bashaliases"];
 
 /// An alias that each `configure` has for zsh: with it and without it the word is the same words.
 const WORDS: &str = "${1+\"$@\"}=\"$@\"";
@@ -34,9 +34,6 @@ static TABLES_OF_ZSH: &'static [&'static str] = &[
     "functions=",
     "commands=",
 ];
-
-/// What has patterns without a match vanish.
-const NO_MATCH: &str = "nullglob";
 
 /// What changes the quotes or the signs of zsh.
 static SIGNS: &'static [&'static str] = &[
@@ -54,11 +51,11 @@ pub(crate) fn settings_of(file: &[u8]) -> Settings {
         .unwrap_or(file.len());
     let line = file.get(..end).unwrap_or(&[]);
     let is_program = line.starts_with(b"#!");
-    let is_zsh = is_program && has_text(line, "zsh");
+    let is_zsh = is_program && has_any(line, &["zsh"]);
     Settings {
         has_keywords: is_program && names_keywords(line),
-        has_no_match: has_option_name(file, NO_MATCH),
-        has_signs: SIGNS.iter().any(|name| has_option_name(file, name)),
+        has_no_match: has_any(file, &["nullglob"]),
+        has_signs: has_any(file, SIGNS),
         has_tables: has_any(file, TABLES) || (is_zsh && has_any(file, TABLES_OF_ZSH)),
     }
 }
@@ -69,29 +66,26 @@ fn names_keywords(line: &[u8]) -> bool {
         .any(|word| word.starts_with(b"-") && word.contains(&b'k'))
 }
 
-/// Whether the name of an option is in these bytes, in any letters: zsh reads it also with underscores in it.
-fn has_option_name(bytes: &[u8], name: &str) -> bool {
+/// Whether one of the names is in these bytes.
+fn has_any(bytes: &[u8], names: &[&str]) -> bool {
+    (0..bytes.len()).any(|from| {
+        let rest = bytes.get(from..).unwrap_or(&[]);
+        names.iter().any(|name| begins_with_name(rest, name))
+    })
+}
+
+/// Whether the bytes begin with the name, in any letters: zsh reads names of options also with underscores in them.
+fn begins_with_name(bytes: &[u8], name: &str) -> bool {
     let mut rest = name.as_bytes();
     for byte in bytes {
         rest = match rest {
             [] => return true,
             [first, others @ ..] if byte.to_ascii_lowercase() == *first => others,
-            _ if *byte == b'_' => rest,
-            _ => name.as_bytes(),
+            _ if *byte == b'_' && rest.len() < name.len() => rest,
+            _ => return false,
         };
     }
     rest.is_empty()
-}
-
-/// Whether one of the texts is in these bytes.
-fn has_any(bytes: &[u8], texts: &[&str]) -> bool {
-    texts.iter().any(|text| has_text(bytes, text))
-}
-
-/// Whether the text is in these bytes.
-fn has_text(bytes: &[u8], text: &str) -> bool {
-    let text = text.as_bytes();
-    (0..bytes.len()).any(|from| bytes.get(from..from.saturating_add(text.len())) == Some(text))
 }
 
 impl Names<'_> {
@@ -137,7 +131,7 @@ impl Names<'_> {
         let value = assignment.value.as_slice();
         let is_flags = assignment.name.as_slice() == b".SHELLFLAGS".as_slice();
         let is_shell = assignment.name.as_slice() == b"SHELL".as_slice();
-        if (is_flags || is_shell) && (has_hole(value) || has_option(value, b'k')) {
+        if (is_flags || is_shell) && (has_hole(value) || has_keywords(value)) {
             self.settings.has_keywords = true;
         }
     }
@@ -145,10 +139,15 @@ impl Names<'_> {
 
 /// Whether a word behind `set`, `shopt` or the name of a shell may set the option `keyword`.
 pub(crate) fn is_keyword_option(units: &[Unit]) -> bool {
-    let is_letters = byte_at(units, 0) == Some(b'-') && byte_at(units, 1) != Some(b'-');
     is_hole_first(units)
         || is_one_of(units, &["keyword"])
-        || (is_letters && has_letter(units, b"k"))
+        || (is_letters(units) && has_letter(units, b"k"))
+}
+
+/// Whether a word among the units may set it.
+fn has_keywords(units: &[Unit]) -> bool {
+    let mut words = units.split(|unit| matches!(unit.byte(), Some(b' ' | b'\t')));
+    words.any(is_keyword_option)
 }
 
 /// Whether it isn't known how the units begin.
@@ -160,13 +159,4 @@ fn is_hole_first(units: &[Unit]) -> bool {
 fn has_letter(units: &[Unit], letters: &[u8]) -> bool {
     let mut bytes = units.iter().filter_map(|unit| unit.byte());
     bytes.any(|byte| letters.contains(&byte))
-}
-
-/// Whether a word among the units is an option that has the letter, or the option `keyword`.
-fn has_option(units: &[Unit], letter: u8) -> bool {
-    let mut words = units.split(|unit| matches!(unit.byte(), Some(b' ' | b'\t')));
-    words.any(|word| {
-        let is_option = byte_at(word, 0) == Some(b'-');
-        is_text(word, "keyword") || (is_option && has_letter(word, &[letter]))
-    })
 }

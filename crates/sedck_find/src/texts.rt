@@ -6,8 +6,8 @@ use crate::parts::{Part, parts_of};
 use crate::programs::Program;
 use crate::replaced::with_holes;
 use crate::settings::is_keyword_option;
-use crate::units::{bytes_of, last_part};
-use sedck_hosts::{Kind, is_dollar_quoting};
+use crate::units::{bytes_of, is_letters, last_part};
+use sedck_hosts::is_dollar_quoting;
 use sedck_origin::{Result, Text, Unit, begins_with, byte_at};
 use sedck_shell::{Form, ShellCommand, ShellWord, read_shell};
 use std::alloc::Global;
@@ -100,11 +100,7 @@ impl Reading<'_> {
     fn note(&mut self, command: &ShellCommand, form: Form, scope: Scope) -> Result<()> {
         let words = command.words.as_slice();
         self.names.may_fix_locale |= may_fix_locale(words);
-        if self.names.kind == Kind::Make {
-            self.names.note_settings(words)?;
-        } else {
-            self.names.note_command(command, scope)?;
-        }
+        self.names.note_command(command, scope)?;
         let parts = parts_of(&self.names, words, Scope::Other.spot(command.site, 0))?;
         for part in &parts {
             self.note_part(*part, command, form, scope)?;
@@ -314,9 +310,7 @@ fn shell_text(words: &[ShellWord]) -> Input<'_> {
 
 /// Whether the word is a hyphen and letters, of which one is this one.
 fn has_letter(units: &[Unit], letter: u8) -> bool {
-    byte_at(units, 0) == Some(b'-')
-        && byte_at(units, 1) != Some(b'-')
-        && units.iter().any(|unit| unit.byte() == Some(letter))
+    is_letters(units) && units.iter().any(|unit| unit.byte() == Some(letter))
 }
 
 /// How many of the next words are arguments of the option: one for each `o` and `O`.

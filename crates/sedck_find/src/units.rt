@@ -36,6 +36,11 @@ pub(crate) fn has_hole(units: &[Unit]) -> bool {
     units.iter().any(|unit| matches!(*unit, Unit::Hole(_)))
 }
 
+/// Whether the units are a hyphen and no second one behind it: letters of options, if there are any.
+pub(crate) fn is_letters(units: &[Unit]) -> bool {
+    byte_at(units, 0) == Some(b'-') && byte_at(units, 1) != Some(b'-')
+}
+
 /// Whether the last unit is this byte.
 pub(crate) fn ends_with(units: &[Unit], byte: u8) -> bool {
     units.last().is_some_and(|unit| unit.byte() == Some(byte))

@@ -75,6 +75,22 @@ pub struct ShellText {
     pub unread: Vec<usize>,
 }
 
+impl ShellCommand {
+    /// A command of nothing.
+    pub(crate) fn new(alloc: Global) -> ShellCommand {
+        ShellCommand {
+            words: Vec::new(alloc),
+            site: Site::default(),
+            here: None,
+            source: None,
+            here_string: None,
+            has_other_here: false,
+            targets: Vec::new(alloc),
+            made: Vec::new(alloc),
+        }
+    }
+}
+
 impl ShellWord {
     /// A word of nothing.
     pub(crate) fn new(alloc: Global) -> ShellWord {

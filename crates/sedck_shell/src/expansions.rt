@@ -13,17 +13,13 @@ impl Reader<'_> {
     pub fn read_expansion(&mut self, index: usize, unit: Unit) -> Result<()> {
         let next = index.saturating_add(1);
         let after = next.saturating_add(1);
-        let behind = self.joined(self.name_end(next));
-        if behind.is_some_and(|byte| !b" \t".contains(&byte)) {
-            self.output.unread.push(unit.start())?;
-        }
+        self.note_joined(unit, self.name_end(next), false)?;
         match self.text.byte(next) {
             Some(b'(') => self.open_substitution(index, after),
             Some(b'{') => self.open_parameter(index, after),
             Some(b'\'') if self.top.quote == Quote::None => {
-                self.open_dollar_quote(index, unit);
                 self.resume = after;
-                Ok(())
+                Ok(self.open_dollar_quote(index, unit))
             }
             Some(b'"') if self.top.quote == Quote::None => {
                 self.begin_word(unit.start());
@@ -150,27 +146,32 @@ impl Reader<'_> {
     /// Whether the two parentheses before this number begin an expression, and no group within parentheses (XCU 2.6.3): whether the one that
     /// closes the second is followed by another.
     pub fn is_expression(&mut self, from: usize) -> bool {
-        let end = from
-            .saturating_add(LOOKAHEAD.saturating_sub(self.output.looked))
-            .min(self.text.len());
+        let Some(end) = self.parenthesis_end(from) else {
+            if self.output.looked >= LOOKAHEAD && !self.output.has_looked {
+                self.output.has_looked = true;
+                let before = self.end_at(from.saturating_sub(1));
+                let _ = self.output.unread.push(before);
+            }
+            return false;
+        };
+        self.text.byte(end.saturating_add(1)) == Some(b')')
+    }
+
+    /// The number of the unit that closes the parenthesis before this number, if it is looked at.
+    fn parenthesis_end(&mut self, from: usize) -> Option<usize> {
+        let left = LOOKAHEAD.saturating_sub(self.output.looked);
+        let end = from.saturating_add(left).min(self.text.len());
         let mut depth = 0usize;
         for index in from..end {
             self.output.looked = self.output.looked.saturating_add(1);
             match self.text.byte(index) {
                 Some(b'(') => depth = depth.saturating_add(1),
-                Some(b')') if depth == 0 => {
-                    return self.text.byte(index.saturating_add(1)) == Some(b')');
-                }
+                Some(b')') if depth == 0 => return Some(index),
                 Some(b')') => depth = depth.saturating_sub(1),
                 _ => {}
             }
         }
-        if self.output.looked >= LOOKAHEAD && !self.output.has_looked {
-            self.output.has_looked = true;
-            let before = self.end_at(from.saturating_sub(1));
-            let _ = self.output.unread.push(before);
-        }
-        end < self.text.len()
+        None
     }
 
     /// Tells of a sed in the expression that begins at this number, where a shell that doesn't know `((` reads commands within parentheses.
@@ -178,22 +179,10 @@ impl Reader<'_> {
         if self.form.has_dollar_quotes {
             return Ok(());
         }
-        let end = from
-            .saturating_add(LOOKAHEAD.saturating_sub(self.output.looked))
-            .min(self.text.len());
-        let mut depth = 0usize;
-        for index in from..end {
-            self.output.looked = self.output.looked.saturating_add(1);
-            match self.text.byte(index) {
-                Some(b'(') => depth = depth.saturating_add(1),
-                Some(b')') if depth == 0 => return Ok(()),
-                Some(b')') => depth = depth.saturating_sub(1),
-                Some(b's' | b'S') if is_sed_at(self.text, index) => {
-                    let before = self.start_at(index);
-                    return Ok(self.output.unread.push(before)?);
-                }
-                _ => {}
-            }
+        let end = self.parenthesis_end(from).unwrap_or(from);
+        if let Some(index) = (from..end).find(|index| is_sed_at(self.text, *index)) {
+            let before = self.start_at(index);
+            self.output.unread.push(before)?;
         }
         Ok(())
     }
@@ -211,6 +200,7 @@ fn is_sed_at(text: Text, index: usize) -> bool {
     let first = index.saturating_sub(usize::from(has_letter));
     let is_inside = first > 0 && is_name(text.byte(first.saturating_sub(1)));
     !is_inside
+        && matches!(text.byte(index), Some(b's' | b'S'))
         && matches!(text.byte(second), Some(b'e' | b'E'))
         && matches!(text.byte(third), Some(b'd' | b'D'))
         && !is_name(text.byte(third.saturating_add(1)))

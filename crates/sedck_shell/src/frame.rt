@@ -1,7 +1,6 @@
 //! What encloses a byte of shell text.
 
-use crate::command::{ShellWord, Site, Target};
-use sedck_origin::Hole;
+use crate::command::{ShellCommand, ShellWord};
 use std::alloc::Global;
 
 /// The quoting of a byte (XCU 2.2).
@@ -77,16 +76,10 @@ pub(crate) struct Delimiter {
 /// A command of which words may follow.
 #[derive(Drop)]
 pub(crate) struct Draft {
-    pub words: Vec<ShellWord>,
-    pub site: Site,
+    pub command: ShellCommand,
     /// The number of the here-document that is its input.
     pub here: Option<usize>,
-    pub source: Option<ShellWord>,
-    pub here_string: Option<ShellWord>,
-    pub has_other_here: bool,
-    pub targets: Vec<Target>,
-    pub made: Vec<Hole>,
-    /// The number of the one to which its standard output goes.
+    /// The number of the target to which its standard output goes.
     pub output: Option<usize>,
     /// How many words there were before what some shells read as another word or the end of the command, as `&>` and `{x}>`.
     pub parted: Option<usize>,
@@ -126,7 +119,7 @@ pub(crate) struct Frame {
     pub quoted_from: usize,
     /// The offset in the file of a `$"` that isn't closed, and how many units the word had before it.
     pub translated: Option<(usize, usize)>,
-    pub command: Draft,
+    pub draft: Draft,
     pub word: ShellWord,
     pub has_word: bool,
     pub awaited: Awaited,
@@ -181,14 +174,8 @@ pub(crate) struct Flow {
 impl Draft {
     pub fn new(alloc: Global) -> Draft {
         Draft {
-            words: Vec::new(alloc),
-            site: Site::default(),
+            command: ShellCommand::new(alloc),
             here: None,
-            source: None,
-            here_string: None,
-            has_other_here: false,
-            targets: Vec::new(alloc),
-            made: Vec::new(alloc),
             output: None,
             parted: None,
             around: Around::default(),
@@ -210,7 +197,7 @@ impl Frame {
             quote,
             quoted_from: 0,
             translated: None,
-            command: Draft::new(alloc),
+            draft: Draft::new(alloc),
             word: ShellWord::new(alloc),
             has_word: false,
             awaited: Awaited::Word,
@@ -224,13 +211,6 @@ impl Frame {
             flow: Flow::default(),
             outer: Vec::new(alloc),
         }
-    }
-
-    /// The frame around a text in the group of this number.
-    pub fn within(alloc: Global, quote: Quote, group: Option<usize>) -> Frame {
-        let mut frame = Frame::new(alloc, quote);
-        frame.flow.group = group;
-        frame
     }
 
     /// Whether what is in it are commands.

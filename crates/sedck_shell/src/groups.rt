@@ -22,7 +22,7 @@ impl Reader<'_> {
         }
         let mut group = Draft::new(self.alloc);
         group.around.group = self.top.flow.group;
-        group.around.has_input = self.top.command.around.has_input;
+        group.around.has_input = self.top.draft.around.has_input;
         group.around.has_output = is_caught;
         self.output.groups.push(group)?;
         Ok(Some(number))
@@ -31,14 +31,14 @@ impl Reader<'_> {
     /// Begins a group that has its commands in the same frame.
     pub fn begin_group(&mut self, offset: usize) -> Result<()> {
         self.top.flow.group = self.new_group(offset, false)?;
-        self.top.command.around.has_input = false;
+        self.top.draft.around.has_input = false;
         Ok(())
     }
 
     /// Ends such a group, whose redirections may come next.
     pub fn end_group(&mut self) {
         let number = self.top.flow.group;
-        self.top.command.around.closed = number;
+        self.top.draft.around.closed = number;
         if let Some(group) = number.and_then(|number| self.output.groups.get(number)) {
             self.top.flow.group = group.around.group;
         }
@@ -46,8 +46,8 @@ impl Reader<'_> {
 
     /// Gives the redirections that were read to the group that ended right before them, if there is one.
     pub fn redirect_group(&mut self) {
-        if self.top.command.around.closed.is_some() {
-            let draft = std::mem::replace(&mut self.top.command, Draft::new(self.alloc));
+        if self.top.draft.around.closed.is_some() {
+            let draft = std::mem::replace(&mut self.top.draft, Draft::new(self.alloc));
             self.output.redirect(draft);
         }
     }
@@ -73,45 +73,45 @@ impl Output {
 pub(crate) fn inherit(
     alloc: Global,
     groups: &[Draft],
-    command: &mut Draft,
+    draft: &mut Draft,
     left: usize,
 ) -> Result<usize> {
     let mut left = left;
-    let mut around = command.around.group;
+    let mut around = draft.around.group;
     for _ in 0..DEPTH {
         let Some(group) = around.and_then(|number| groups.get(number)) else {
             break;
         };
         around = group.around.group;
-        for target in &group.targets {
+        for target in &group.command.targets {
             left = left.saturating_sub(target.word.units.len());
         }
         if left == 0 {
             break;
         }
-        inherit_from(alloc, group, command)?;
+        inherit_from(alloc, group, draft)?;
     }
     Ok(left)
 }
 
 /// Gives a command all files that a group opens, and its input and output where the command has no others.
-fn inherit_from(alloc: Global, group: &Draft, command: &mut Draft) -> Result<()> {
-    let count = command.targets.len();
-    if !command.around.has_output {
-        command.output = group.output.map(|number| number.saturating_add(count));
+fn inherit_from(alloc: Global, group: &Draft, draft: &mut Draft) -> Result<()> {
+    let count = draft.command.targets.len();
+    if !draft.around.has_output {
+        draft.output = group.output.map(|number| number.saturating_add(count));
     }
-    for target in &group.targets {
-        command.targets.push(Target {
+    for target in &group.command.targets {
+        draft.command.targets.push(Target {
             word: copied(alloc, &target.word)?,
             is_emptied: target.is_emptied,
             is_output: false,
         })?;
     }
-    if let (false, Some(word)) = (command.around.has_input, &group.source) {
-        command.source = Some(copied(alloc, word)?);
+    if let (false, Some(word)) = (draft.around.has_input, &group.command.source) {
+        draft.command.source = Some(copied(alloc, word)?);
     }
-    command.around.has_input |= group.around.has_input;
-    command.around.has_output |= group.around.has_output;
+    draft.around.has_input |= group.around.has_input;
+    draft.around.has_output |= group.around.has_output;
     Ok(())
 }
 

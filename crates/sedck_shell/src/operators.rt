@@ -11,10 +11,7 @@ impl Reader<'_> {
         if self.top.is_test && byte != b';' {
             return self.read_in_test(index, unit, byte);
         }
-        let behind = self.joined(index.saturating_add(1));
-        if behind.is_some_and(|byte| b";&|<>(".contains(&byte)) {
-            self.output.unread.push(unit.start())?;
-        }
+        self.note_joined(unit, index.saturating_add(1), true)?;
         match byte {
             b';' => self.read_semicolon(index),
             b'&' => self.read_ampersand(index),
@@ -32,7 +29,7 @@ impl Reader<'_> {
             return self.add(unit);
         }
         self.end_word()?;
-        self.top.command.words.clear();
+        self.top.draft.command.words.clear();
         self.resume = next.saturating_add(1);
         Ok(())
     }
@@ -116,7 +113,7 @@ impl Reader<'_> {
     /// Tells of a parenthesis behind words of a command, which is a pattern in some shells, unless it begins the body of a function. Values of
     /// make's may be nothing.
     fn note_parenthesis(&mut self, index: usize) -> Result<()> {
-        let words = &self.top.command.words;
+        let words = &self.top.draft.command.words;
         if begins_with(words, "function") {
             return self.end_command();
         }
@@ -132,7 +129,7 @@ impl Reader<'_> {
 
     /// Whether `((` begins an expression where a command may begin, and behind `for`.
     fn begins_expression(&self) -> bool {
-        let words = &self.top.command.words;
+        let words = &self.top.draft.command.words;
         self.form.dialect != Dialect::Macros
             && (words.is_empty() || (words.len() == 1 && begins_with(words, "for")))
     }
@@ -145,7 +142,8 @@ impl Reader<'_> {
         }
         match units.last() {
             Some(Unit::Byte(b'=' | b'@' | b'?' | b'*' | b'+', _)) => true,
-            Some(Unit::Byte(b'!', _)) => units.len() > 1 || !self.top.command.words.is_empty(),
+            Some(Unit::Byte(b'!', _)) => units.len() > 1
+                || !self.top.draft.command.words.is_empty(),
             _ => false,
         }
     }
@@ -195,11 +193,11 @@ impl Reader<'_> {
         // The last redirection counts, but each one that empties a file does so.
         match stream {
             Stream::Input => {
-                self.top.command.has_other_here |= self.top.command.around.has_input;
-                self.top.command.around.has_input = true;
-                self.top.command.here = None;
-                self.top.command.source = None;
-                self.top.command.here_string = None;
+                self.top.draft.command.has_other_here |= self.top.draft.around.has_input;
+                self.top.draft.around.has_input = true;
+                self.top.draft.here = None;
+                self.top.draft.command.source = None;
+                self.top.draft.command.here_string = None;
             }
             Stream::Output => self.forget_output(),
             Stream::Other => {}
@@ -213,8 +211,8 @@ impl Reader<'_> {
 
     /// Notes that the output doesn't go where it went before.
     fn forget_output(&mut self) {
-        self.top.command.around.has_output = true;
-        self.top.command.output = None;
+        self.top.draft.around.has_output = true;
+        self.top.draft.output = None;
     }
 
     /// Ends the word before an operator; answers its stream in place of that if it is a descriptor. To some shells only a digit is one.
@@ -266,7 +264,8 @@ fn redirection(bytes: (u8, Option<u8>, Option<u8>), stream: Stream) -> (Awaited,
         (b'<', Some(b'<'), Some(b'-')) => (Awaited::Delimiter(delimiter), 3),
         (b'<', Some(b'<'), _) => (Awaited::Delimiter(delimiter), 2),
         (b'<', Some(b'&'), _) => (Awaited::Skipped, 2),
-        (b'<', Some(b'>'), _) => (opened(stream), 2),
+        (b'<', Some(b'>'), _) if stream == Stream::Input => (Awaited::Source, 2),
+        (b'<', Some(b'>'), _) => (written(stream, false), 2),
         (b'<', _, _) if stream == Stream::Input => (Awaited::Source, 1),
         (b'<', _, _) => (Awaited::Skipped, 1),
         (_, Some(b'&'), _) if stream == Stream::Output => (Awaited::Copied, 2),
@@ -277,15 +276,7 @@ fn redirection(bytes: (u8, Option<u8>, Option<u8>), stream: Stream) -> (Awaited,
     }
 }
 
-/// What the word behind `<>` is, which opens a file for this stream and leaves what is in it.
-fn opened(stream: Stream) -> Awaited {
-    match stream {
-        Stream::Input => Awaited::Source,
-        _ => written(stream, false),
-    }
-}
-
-/// What the word behind `>` and the like is for this stream.
+/// What the word behind `>` and the like is for this stream, also behind `<>`, which leaves what is in the file.
 fn written(stream: Stream, is_emptied: bool) -> Awaited {
     let is_output = stream == Stream::Output;
     if !is_output && !is_emptied {

@@ -51,7 +51,8 @@ fn read_text(
     let mut output = output;
     let mut from = 0usize;
     for _ in 0..RESTARTS {
-        let top = Frame::within(alloc, Quote::None, group);
+        let mut top = Frame::new(alloc, Quote::None);
+        top.flow.group = group;
         let mut reader = new_reader(alloc, text, form, top, output);
         reader.resume = from;
         reader.opened = from;
@@ -86,7 +87,8 @@ fn read_body(
     form: Form,
     output: Output,
 ) -> Result<Output> {
-    let top = Frame::within(alloc, job.quote, job.group);
+    let mut top = Frame::new(alloc, job.quote);
+    top.flow.group = job.group;
     let mut reader = new_reader(alloc, Text::Units(&job.units), form, top, output);
     reader.read_all()?;
     reader.leave_frames()?;
@@ -130,7 +132,7 @@ fn finished(alloc: Global, output: Output) -> Result<ShellText> {
         let is_more = left > 0;
         left = inherit(alloc, &groups, &mut draft, left)?;
         if is_more && left == 0 {
-            unread.push(draft.words.first().map_or(0, |word| word.start))?;
+            unread.push(draft.command.words.first().map_or(0, |word| word.start))?;
         }
         commands.push(command_of(draft, &mut bodies))?;
     }
@@ -148,21 +150,15 @@ fn finished(alloc: Global, output: Output) -> Result<ShellText> {
 
 /// The command with its here-document, which is one of these.
 fn command_of(draft: Draft, bodies: &mut Vec<Option<Vec<Unit>>>) -> ShellCommand {
-    let mut targets = draft.targets;
-    let last = draft.output.and_then(|number| targets.get_mut(number));
-    if let Some(target) = last {
+    let mut command = draft.command;
+    let output = draft
+        .output
+        .and_then(|number| command.targets.get_mut(number));
+    if let Some(target) = output {
         target.is_output = true;
     }
-    ShellCommand {
-        words: draft.words,
-        site: draft.site,
-        here: draft.here.and_then(|number| bodies.get_mut(number)?.take()),
-        source: draft.source,
-        here_string: draft.here_string,
-        has_other_here: draft.has_other_here,
-        targets,
-        made: draft.made,
-    }
+    command.here = draft.here.and_then(|number| bodies.get_mut(number)?.take());
+    command
 }
 
 /// A here-document that is awaited.
@@ -193,9 +189,9 @@ impl Reader<'_> {
         let number = self.output.bodies.len();
         self.output.bodies.push(None)?;
         if how.is_input {
-            self.top.command.here = Some(number);
+            self.top.draft.here = Some(number);
         } else {
-            self.top.command.has_other_here = true;
+            self.top.draft.command.has_other_here = true;
         }
         let pending = Pending {
             delimiter,

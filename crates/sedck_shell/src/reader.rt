@@ -333,7 +333,7 @@ impl Reader<'_> {
         self.top.flow.begins_function = false;
         if !inner.is_hole {
             if inner.has_commands() {
-                self.top.command.around.closed = inner.flow.group;
+                self.top.draft.around.closed = inner.flow.group;
             }
             return Ok(());
         }
@@ -373,15 +373,20 @@ impl Reader<'_> {
         self.text.get(index).map_or(0, Unit::end)
     }
 
-    /// The byte behind a backslash and a newline at this index, which a shell leaves out before it looks for operators and expansions.
-    pub fn joined(&self, index: usize) -> Option<u8> {
+    /// Tells of a backslash and a newline at this index, which a shell leaves out, where the byte behind them belongs to the operator or the
+    /// expansion that begins with the unit.
+    pub fn note_joined(&mut self, unit: Unit, index: usize, is_operator: bool) -> Result<()> {
         let next = index.saturating_add(1);
-        let is_joined = self.text.byte(index) == Some(b'\\') && self.text.byte(next) == Some(b'\n');
-        if is_joined {
-            self.text.byte(next.saturating_add(1))
+        let behind = self.text.byte(next.saturating_add(1)).unwrap_or(b' ');
+        let is_part = if is_operator {
+            b";&|<>(".contains(&behind)
         } else {
-            None
+            !b" \t".contains(&behind)
+        };
+        if is_part && self.text.byte(index) == Some(b'\\') && self.text.byte(next) == Some(b'\n') {
+            self.output.unread.push(unit.start())?;
         }
+        Ok(())
     }
 
     /// Where the name that begins at this index ends.

@@ -85,15 +85,15 @@ impl Reader<'_> {
         self.note_redirection(&word)?;
         match awaited {
             Awaited::Delimiter(delimiter) => return self.await_body(word, delimiter),
-            Awaited::Source => self.top.command.source = Some(word),
-            Awaited::HereString => self.top.command.here_string = Some(word),
+            Awaited::Source => self.top.draft.command.source = Some(word),
+            Awaited::HereString => self.top.draft.command.here_string = Some(word),
             Awaited::Target {
                 is_emptied,
                 is_output,
             } => return self.add_target(word, is_emptied, is_output),
-            Awaited::Copied if !is_descriptor_copy(&word) => {
-                return self.add_target(word, true, true);
-            }
+            Awaited::Copied if !is_descriptor_copy(&word) => return self.add_target(
+                word, true, true,
+            ),
             _ => {}
         }
         Ok(())
@@ -113,7 +113,7 @@ impl Reader<'_> {
         }
         for unit in &word.units {
             match *unit {
-                Unit::Hole(hole) if hole.way.is_made() => self.top.command.made.push(hole)?,
+                Unit::Hole(hole) if hole.way.is_made() => self.top.draft.command.made.push(hole)?,
                 _ => {}
             }
         }
@@ -123,10 +123,10 @@ impl Reader<'_> {
     /// Notes a file that the command opens for writing.
     fn add_target(&mut self, word: ShellWord, is_emptied: bool, is_output: bool) -> Result<()> {
         if is_output {
-            self.top.command.output = Some(self.top.command.targets.len());
+            self.top.draft.output = Some(self.top.draft.command.targets.len());
         }
         Ok(
-            self.top.command.targets.push(Target {
+            self.top.draft.command.targets.push(Target {
                 word,
                 is_emptied,
                 is_output: false,
@@ -136,20 +136,26 @@ impl Reader<'_> {
 
     /// Notes that some shells read another word here, or the end of the command.
     pub fn part_command(&mut self) {
-        if self.top.command.parted.is_none() {
-            self.top.command.parted = Some(self.top.command.words.len());
+        if self.top.draft.parted.is_none() {
+            self.top.draft.parted = Some(self.top.draft.command.words.len());
         }
     }
 
-    /// Tells of a sed in a command that has words where the shell may begin another command: what bash reads as one may be two to it.
-    pub fn note_parted(&mut self) -> Result<()> {
-        let Some(count) = self.top.command.parted else {
+    /// Tells of an operator that has no word, behind which some shells have others, and of a sed in a command that has words where the shell may
+    /// begin another command: what bash reads as one may be two to it.
+    fn note_parted(&mut self) -> Result<()> {
+        let awaited = std::mem::replace(&mut self.top.awaited, Awaited::Word);
+        if !matches!(awaited, Awaited::Word) && self.form.dialect != Dialect::Macros {
+            let before = self.start_at(self.resume.saturating_sub(1));
+            self.output.unread.push(before)?;
+        }
+        let Some(count) = self.top.draft.parted else {
             return Ok(());
         };
         if self.form.has_dollar_quotes {
             return Ok(());
         }
-        if let Some(start) = parted_sed(&self.top.command.words, count) {
+        if let Some(start) = parted_sed(&self.top.draft.command.words, count) {
             self.output.unread.push(start)?;
         }
         Ok(())
@@ -179,12 +185,12 @@ impl Reader<'_> {
             return Ok(());
         }
         self.top.flow.begins_function = false;
-        Ok(self.top.command.words.push(word)?)
+        Ok(self.top.draft.command.words.push(word)?)
     }
 
     /// Whether the word is a reserved one where it stands. `case` and `esac` change what parentheses mean.
     fn read_reserved(&mut self, units: &[Unit]) -> Result<bool> {
-        let is_first = self.top.command.words.is_empty();
+        let is_first = self.top.draft.command.words.is_empty();
         if is_first {
             self.redirect_group();
         }
@@ -192,14 +198,14 @@ impl Reader<'_> {
             self.end_compound();
             self.top.cases = self.top.cases.saturating_sub(1);
             self.top.is_pattern = false;
-            self.top.command.words.clear();
+            self.top.draft.command.words.clear();
             return Ok(true);
         }
         if self.top.is_test && is_text(units, "]]") {
             self.top.is_test = false;
             // What is behind an operator of a test is no command.
-            if !begins_with(&self.top.command.words, "[[") {
-                self.top.command.words.clear();
+            if !begins_with(&self.top.draft.command.words, "[[") {
+                self.top.draft.command.words.clear();
                 return Ok(true);
             }
         }
@@ -214,7 +220,7 @@ impl Reader<'_> {
 
     /// The same of a word that isn't the first one: `in` of `case`, `do` of `for`, and `{` of a function.
     fn read_second_reserved(&mut self, units: &[Unit]) -> Result<bool> {
-        let words = &self.top.command.words;
+        let words = &self.top.draft.command.words;
         let is_third = words.len() == 2;
         let begins_case = is_third && is_text(units, "in") && begins_with(words, "case");
         let begins_body = is_text(units, "{") && begins_with(words, "function");
@@ -230,7 +236,7 @@ impl Reader<'_> {
         }
         let is_reserved = begins_case || begins_body || begins_loop;
         if is_reserved {
-            self.top.command.words.clear();
+            self.top.draft.command.words.clear();
         }
         Ok(is_reserved)
     }
@@ -239,16 +245,10 @@ impl Reader<'_> {
     pub fn end_command(&mut self) -> Result<()> {
         self.end_word()?;
         self.note_parted()?;
-        // Some shells have other words behind the operator of a redirection.
-        let awaited = std::mem::replace(&mut self.top.awaited, Awaited::Word);
-        if !matches!(awaited, Awaited::Word) && self.form.dialect != Dialect::Macros {
-            let before = self.start_at(self.resume.saturating_sub(1));
-            self.output.unread.push(before)?;
-        }
         self.top.is_test = false;
-        let mut command = std::mem::replace(&mut self.top.command, Draft::new(self.alloc));
-        let Some(first) = command.words.first() else {
-            self.output.redirect(command);
+        let mut draft = std::mem::replace(&mut self.top.draft, Draft::new(self.alloc));
+        let Some(first) = draft.command.words.first() else {
+            self.output.redirect(draft);
             return Ok(());
         };
         let start = first.start;
@@ -262,20 +262,20 @@ impl Reader<'_> {
         if self.top.is_pattern || !self.top.has_commands() {
             return Ok(());
         }
-        if begins_with(&command.words, "function") {
-            return self.begin_functions(command.words);
+        if begins_with(&draft.command.words, "function") {
+            return self.begin_functions(draft.command.words);
         }
-        command.site = self.site();
-        command.around.group = self.top.flow.group;
+        draft.command.site = self.site();
+        draft.around.group = self.top.flow.group;
         if self.output.commands.len() < MOST {
-            return Ok(self.output.commands.push(command)?);
+            return Ok(self.output.commands.push(draft)?);
         }
         self.output.note_full(start)
     }
 
     /// Leaves the command that is read.
     pub fn drop_command(&mut self) {
-        self.top.command = Draft::new(self.alloc);
+        self.top.draft = Draft::new(self.alloc);
         self.top.word = ShellWord::new(self.alloc);
         self.top.has_word = false;
         self.top.translated = None;
@@ -284,9 +284,9 @@ impl Reader<'_> {
 
     /// Whether a newline doesn't end the command: in an array, behind an operator, also in `[[`, and before `in` of `case`.
     fn goes_on(&self) -> bool {
-        let words = &self.top.command.words;
+        let words = &self.top.draft.command.words;
         self.top.enclosure == Enclosure::Array
-            || (self.top.flow.is_awaited && self.top.command.around.closed.is_none())
+            || (self.top.flow.is_awaited && self.top.draft.around.closed.is_none())
             || (self.top.is_test && words.is_empty())
             || (words.len() == 2 && begins_with(words, "case"))
     }
@@ -343,9 +343,9 @@ impl Reader<'_> {
     pub fn begin_named(&mut self) -> Result<()> {
         if self.top.has_word {
             let word = self.take_word();
-            self.top.command.words.push(word)?;
+            self.top.draft.command.words.push(word)?;
         }
-        let names = std::mem::replace(&mut self.top.command.words, Vec::new(self.alloc));
+        let names = std::mem::replace(&mut self.top.draft.command.words, Vec::new(self.alloc));
         self.begin_functions(names)
     }
 
@@ -386,9 +386,9 @@ impl Reader<'_> {
     pub fn join_commands(&mut self, is_pipe: bool) -> Result<()> {
         self.end_word()?;
         self.top.flow.is_conditional |= is_pipe;
-        self.top.command.around.has_output |= is_pipe;
+        self.top.draft.around.has_output |= is_pipe;
         self.end_command()?;
-        self.top.command.around.has_input = is_pipe;
+        self.top.draft.around.has_input = is_pipe;
         self.top.flow.is_conditional = true;
         self.top.flow.is_awaited = true;
         Ok(())
@@ -405,8 +405,8 @@ impl Reader<'_> {
     /// Ends a list of commands that runs beside what follows.
     pub fn end_beside(&mut self) {
         for index in self.top.flow.list..self.output.commands.len() {
-            if let Some(command) = self.output.commands.get_mut(index) {
-                command.site.is_certain = false;
+            if let Some(draft) = self.output.commands.get_mut(index) {
+                draft.command.site.is_certain = false;
             }
         }
         self.end_list();
@@ -425,15 +425,9 @@ fn is_descriptor_copy(word: &ShellWord) -> bool {
 fn parted_sed(words: &[ShellWord], count: usize) -> Option<usize> {
     let has_sed = words.iter().any(|word| ends_with_sed(&word.units));
     let others = words.get(count..)?;
-    let word = others
-        .iter()
-        .find(|word| has_sed || is_bare_hole(&word.units))?;
+    let word = others.iter().find(|word| has_sed
+        || matches!(*word.units, [Unit::Hole(hole)] if hole.way.is_split()))?;
     Some(word.start)
-}
-
-/// Whether the units are a value in whose place there may be several words.
-fn is_bare_hole(units: &[Unit]) -> bool {
-    matches!(*units, [Unit::Hole(hole)] if hole.way.is_split())
 }
 
 /// The names of seds.
