@@ -59,6 +59,8 @@ class Row(NamedTuple):
     # A warning that an accepted call must have.
     warning: str = ""
     may_have_no_call: bool = False
+    # Whether a place that isn't understood must be told, whatever is said of calls.
+    is_told: bool = False
 
 
 # ---- Conditions that must rule out the values of the run
@@ -215,6 +217,67 @@ OTHER_WORDS = [
     Row("an alias with another language", "alias sed='sed -E'\nsed ':a;s/ab?/a/;ta' f\n", "sh a.sh", LOOPS),
 ]
 
+# ---- Words that some shells read in another way: each place must be told
+
+LIST = {"list": "-ewevil\n"}
+LOOP_VALUE = "x='a/b/;:a;ba;s/' "
+OTHER_READINGS = [Row("read otherwise: " + name, text, run, harm, files=files, due=FOUND, is_told=True) for name, run, harm, text, files in [
+    ("a dollar sign before lines that are joined", LOOP_VALUE + "dash a.sh", LOOPS, 'sed "s/$\\\nx/b/" f\n', {}),
+    ("a dollar sign before lines that are joined, in bash", LOOP_VALUE + "bash a.sh", LOOPS, "#!/bin/bash\nsed s/$\\\nx/b/ f\n", {}),
+    ("a name in lines that are joined", "xy='a/b/;:a;ba;s/' dash a.sh", LOOPS, 'sed "s/$x\\\ny/b/" f\n', {}),
+    ("an operator in lines that are joined", "dash a.sh", WRITES, "cat <\\\n<E\nit's\nE\nsed -n 'w evil' f; echo 's; sed -n p f'\n", {}),
+    ("two digits before a redirection", "dash a.sh", WRITES, "#!/bin/sh\nsed -e p -l 12>g -e 'w evil' f\n", {}),
+    ("a name before a redirection", "dash a.sh", REFUSED, "#!/bin/sh\nsed {foo}>g p f\n", {}),
+    (">! of zsh", "zsh a.sh", WRITES, "#!/bin/zsh\nsed >! p 'w evil' f\n", {}),
+    (">>! of zsh", "zsh a.sh", WRITES, "#!/bin/zsh\nsed >>! p 'w evil' f\n", {}),
+    ("&>! of zsh", "zsh a.sh", WRITES, "#!/bin/zsh\nsed &>! p 'w evil' f\n", {}),
+    (">; of ksh", "ksh a.sh", WRITES, "#!/bin/ksh\nsed p >;g -e 'w evil' f\n", {}),
+    ("<# of ksh", "ksh a.sh", WRITES, "#!/bin/ksh\nsed p < f <#((1)) -e 'w evil' f\n", {}),
+    ("a pattern of zsh that vanishes", "zsh a.sh", WRITES, "#!/bin/zsh\nsed p(N) 'w evil' f\n", {}),
+    ("a pattern of zsh that runs a text", "zsh a.sh", WRITES, "#!/bin/zsh\nsed p f(e:'sed wevil f':)\n", {}),
+]] + [Row("a pattern of zsh that vanishes in a makefile", "SHELL = zsh\nall:\n\t@sed p(N) 'w evil' f\n", "make", WRITES, "Makefile", due=FOUND, is_told=True)
+] + [Row("read otherwise: " + name, "#!/bin/zsh\n" + text, "zsh a.sh", harm, files=files) for name, harm, text, files in [
+    ("a here-document behind a pipe", WRITES, "cat es | sed -n -f - f <<'E'\np\nE\n", {}),
+    ("a here-document behind a file", WRITES, "sed -n -f - f < es <<'E'\np\nE\n", {}),
+    ("two here-documents", WRITES, "sed -n -f - f <<'A' <<'E'\nw evil\nA\np\nE\n", {}),
+    ("two quotes that are one", LOOPS, "setopt Rc_Quotes\nsed ':a;s/''*//;ta' f\n", {}),
+    ("a quote that ends with the line", REFUSED, "setopt cshjunkiequotes\nsed 's/a/\\\n/' f\n", {}),
+    ("a sign of patterns", REFUSED, "setopt extendedglob\nsed -n s#a#b# f\n", {"sab": ""}),
+]]
+
+# ---- Programs, functions and aliases in place of a sed, or of what runs it
+
+OTHER_PROGRAMS = [Row("in place of the sed: " + name, text, run, harm, files=files) for name, run, harm, text, files in [
+    ("a function behind a newline", "bash a.sh", RUNS, "function sed\n{ > evil; }\nsed p f\n", {}),
+    ("a function behind a newline in ksh", "ksh a.sh", RUNS, "function sed\n{ > evil; }\nsed p f\n", {}),
+    ("a function in parentheses", "bash a.sh", RUNS, "function sed (> evil)\nsed p f\n", {}),
+    ("a function of two names", "zsh a.sh", RUNS, "#!/bin/zsh\nsed foo () { > evil }\nsed p f\n", {}),
+    ("a function whose name isn't known", "sh a.sh", RUNS, 'n=sed\neval "$n() { > evil; }"\nsed p f\n', {}),
+    ("an alias whose name isn't known", "dash a.sh", WRITES, 'n=sed\nalias "$n=sed -n -f es"\nsed p f\n', {}),
+    ("a function time", "dash a.sh", RUNS, "time() { > evil; }\ntime sed p f\n", {}),
+    ("an alias time", "dash a.sh", WRITES, "alias time='xargs -a list'\ntime sed p f\n", LIST),
+    ("a path of hash", "zsh a.sh", RUNS, "#!/bin/zsh\nchmod +x my\nhash sed=./my\nsed p f\n", {"my": MY}),
+    ("a table of commands", "zsh a.sh", RUNS, "#!/bin/zsh\nzmodload zsh/parameter\nchmod +x my\ncommands[sed]=$PWD/my\nsed p f\n", {"my": MY}),
+]]
+
+# ---- Values before a call and in its redirections, which may be other words of it
+
+BEFORE = [Row("a value " + name, text, run, WRITES, files=LIST) for name, run, text in [
+    ("behind an option of nice", "n='5 xargs -a list' sh a.sh", "nice -n $n sed p f\n"),
+    ("before the call of timeout", "t='5 xargs -a list' sh a.sh", "timeout $t sed p f\n"),
+    ("that env assigns", "y='5 xargs -a list' sh a.sh", "env X=$y sed p f\n"),
+    ("that eval assigns", "y='f xargs -a list' sh a.sh", 'eval "X=$y sed p f"\n'),
+    ("of a redirection in eval", "y='f -ewevil' sh a.sh", 'eval "sed p f > $y"\n'),
+    ("of a redirection in quotes", "y=\"f' -ewevil '\" sh a.sh", "eval \"sed p f > '$y'\"\n"),
+    ("among the folders of find", "dir='f -exec sed -n -f es --' sh a.sh", "find ./$dir -type f -exec sed -n p {} \\;\n"),
+]] + [Row("a value of make " + name, "all:\n\t@%s\n" % text, run, WRITES, "Makefile", files=LIST) for name, run, text in [
+    ("that is assigned", "Y='5 xargs -a list' make", "X=$(Y) sed p f"),
+    ("to which the output goes", "Y='g -ewevil' make", "sed p f > $(Y)"),
+    ("to which the errors go", "Y='g -ewevil' make", "sed p f 2>> $(Y)"),
+    ("from which the input comes", "Y='f -ewevil' make", "sed p < $(Y)"),
+]] + [Row("a command that find asks of", "yes | find f -ok sed p {} + -e 'w evil' \\;\n", "sh a.sh", WRITES),
+      Row("-k of make for a target", "all: SHELL = bash -k\nall:\n\t@sed a=b 'w evil' f\n", "make", WRITES, "Makefile")]
+
 # ---- Macros of M4, of which m4 makes other text
 
 MACROS = [Row("a macro of M4 that is defined by " + how, before + call, "sh made.sh", WRITES, "configure.ac", files={"made.sh": made})
@@ -224,6 +287,7 @@ MACROS = [Row("a macro of M4 that is defined by " + how, before + call, "sh made
     ("m4_define with blanks", "m4_define( [abc], [w evil])\n", "sed -n 'abc' f\n", "sed -n 'w evil' f\n"),
     ("define", "define(abc, w evil)\n", "sed -n 'abc' f\n", "sed -n 'w evil' f\n"),
     ("M4 itself", "", "sed -n \"ifelse(a,a,w evil)\" f\n", "sed -n \"w evil\" f\n"),
+    ("m4_define, as the sed", "m4_define([sed],[sed -n -f es; :])\n", "sed p f\n", "sed -n -f es f; : p f\n"),
     ("AC_DEFUN, as an operand", "AC_DEFUN([MY_FILES],[-e 'w evil' f])\n", "sed p MY_FILES\n", "sed p -e 'w evil' f\n"),
 ]]
 
@@ -385,6 +449,11 @@ TEXTS = [Row("told: " + name, text, run, WRITES, file, files, due=FOUND) for nam
     ("a default that is set", "a.sh", "sh a.sh", ": ${tool:=sed}; $tool -n wevil f\n", {}),
     ("a value with a default", "a.sh", "sh a.sh", "x=${y:-sed}\n$x wevil f\n", {}),
     ("set --", "a.sh", "sh a.sh", "set -- sed -n 'w evil' f; \"$@\"\n", {}),
+    ("a value of a value", "a.sh", "sh a.sh", "a=sed\nb=$a\n$b -n 'w evil' f\n", {}),
+    ("a value of a value of make", "Makefile", "make", "RUN = sed -n\nGO = $(RUN)\nall:\n\t@$(GO) 'w evil' f\n", {}),
+    ("a name that a function of make gives", "Makefile", "make", "X = $(addprefix /bin/,sed)\nall:\n\t@$(X) wevil f\n", {}),
+    ("a name that a command gives", "a.sh", "sh a.sh", "x=$(command -v sed 2>/dev/null)\n$x -n 'w evil' f\n", {}),
+    ("an element of an array", "a.sh", "bash a.sh", "declare -A x\nx[a]=sed\n${x[a]} -n 'w evil' f\n", {}),
     ("$'sed'", "a.sh", "bash a.sh", "$'sed' wevil f\n", {}),
     ("a part of a name", "a.sh", "sh a.sh", "${CROSS}sed wevil f\n", {}),
     ("a quoted part of a name", "a.sh", "sh a.sh", "\"$CROSS\"sed wevil f\n", {}),
@@ -443,7 +512,7 @@ TEXTS = [Row("told: " + name, text, run, WRITES, file, files, due=FOUND) for nam
 ]] + [Row("told: %s" % text, text + "\n", due=FOUND) for text in [
     "watch sed 5d f", "docker exec c sed :x", "ssh h sed p", "ssh h 'cat f | sed 5d'", "git filter-branch --tree-filter \"sed -i ':x;bx' f\"", "git rebase --exec='sed -i p f' x",
     "EDITOR=\"sed -i ':x;bx'\" crontab -e", "export EDITOR=\"sed -i ':x;bx'\"", "env GIT_EDITOR='sed -i p' git commit", "foo \"$SED\" p f", "foo '/bin/sed -i p f'", "runuser -u root -- sed p f",
-    "foo sed p f", "sudo foo sed p f", "time foo sed p f", "foo | bar sed p f", "eval $x sed p f", "sh -c 'foo sed p f'",
+    "unshare --user sed -nfes sed p f", "foo sed p f", "sudo foo sed p f", "time foo sed p f", "foo | bar sed p f", "eval $x sed p f", "sh -c 'foo sed p f'",
 ]] + [Row("told: a file of sed that is given", "w evil\n", file="a.sed", due=FOUND),
       Row("told: env -S in the first line", "#!/usr/bin/env -S sed -n -f es\n", due=FOUND),
       Row("a script of a shell with the name of one of sed", "#!/bin/sh\nsed -n 's/a/b/' f\n", file="a.sed", asked=".", due=FOUND, place="2:1", words=PLAIN)]
@@ -519,7 +588,8 @@ OUTPUTS = [Row("an output behind an operand", LIMITED + "sed p big >> big\n", "s
         "case a in a) sed 's/a/b/' f;; esac > f", "run() { sed 's/a/b/' f; } > f\nrun", "{ sed p; } < f > f", "{ sed p f | cat; } > f", "{ x=$(sed p f); } > f",
         "{ x=`sed p f`; } > f", "{ : <<E; } > f\n$(sed p f)\nE", "for x in $(sed p f); do :; done > f", "{ { sed p f; } 2> g; } > f"]]
 
-ROWS = CONDITIONS + OTHER_WORDS + MACROS + VALUES + VALUES_OF_MAKE + RECALL + TEXTS + NEVER + PROSE + INNOCENT + OUTPUTS
+ROWS = (CONDITIONS + OTHER_WORDS + OTHER_READINGS + OTHER_PROGRAMS + BEFORE + MACROS + VALUES + VALUES_OF_MAKE + RECALL + TEXTS + NEVER + PROSE + INNOCENT
+        + OUTPUTS)
 
 
 def fail(words):
@@ -638,6 +708,8 @@ def answer(row):
     if not calls and not row.may_have_no_call and not (done.returncode == 5 and is_missed or done.returncode == 4 and done.stderr):
         return ["no call is found, and nothing is said of it: " + said]
     wrong = []
+    if row.is_told and not (done.returncode == 5 and is_missed):
+        wrong.append("no place is told that isn't understood: " + said)
     if row.place and ["%d:%d" % (one["call"]["line"], one["call"]["column"]) for one in calls] != [row.place]:
         wrong.append("the call is at %s: %s" % (row.place, said))
     if row.words and any(tuple(one["words"]) != row.words for one in calls if row.place or one["answer"] != "unknown"):

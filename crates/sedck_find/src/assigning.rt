@@ -217,7 +217,7 @@ impl Names<'_> {
             return false;
         };
         let written = self.written_hole(hole);
-        let mut name = hole_name(written);
+        let name = hole_name(written);
         let is_sed = name.is_some_and(|name| is_sed_variable(name) || self.may_be_sed(name));
         is_sed || (written.len() <= LONGEST && writes_sed(written))
     }

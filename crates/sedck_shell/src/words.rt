@@ -263,7 +263,8 @@ impl Reader<'_> {
             return Ok(());
         }
         if begins_with(&draft.command.words, "function") {
-            return self.begin_functions(draft.command.words);
+            let names = std::mem::replace(&mut draft.command.words, Vec::new(self.alloc));
+            return self.begin_functions(names);
         }
         draft.command.site = self.site();
         draft.around.group = self.top.flow.group;
