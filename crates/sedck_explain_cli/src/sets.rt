@@ -18,5 +18,12 @@ pub(crate) static AUTOCONF: &'static [&'static str] = &[
     "as_cr_Letters=abcdefghijklmnopqrstuvwxyzABCDEFGHIJKLMNOPQRSTUVWXYZ",
     "as_cr_digits=0123456789",
     "as_cr_alnum=abcdefghijklmnopqrstuvwxyzABCDEFGHIJKLMNOPQRSTUVWXYZ0123456789",
+    "gl_make_literal_regex_sed=s,[]$^\\\\.*/[],\\\\&,g",
+    "sed_drop_objext=s/\\.o$//;s/\\.obj$//",
+    "sed_dirname1=s,//*,/,g",
+    "sed_dirname2=s,\\(.\\)/$,\\1,",
+    "sed_dirname3=s,^[^/]*$,.,",
+    "sed_dirname4=s,\\(.\\)/[^/]*$,\\1,",
+    "sed_basename1=s,.*/,,",
     "POSIXLY_CORRECT",
 ];
