@@ -217,9 +217,10 @@ impl Names<'_> {
             return false;
         };
         let written = self.written_hole(hole);
-        let name = hole_name(written);
-        let is_sed = name.is_some_and(|name| is_sed_variable(name) || self.may_be_sed(name));
-        is_sed || (written.len() <= LONGEST && writes_sed(written))
+        let is_variable = hole_name(written).is_some_and(is_sed_variable);
+        let fact = hole_name(written).and_then(|name| self.facts.get(name));
+        let is_set = fact.is_some_and(|fact| fact.is_sed && fact.value.is_some());
+        is_variable || is_set || (written.len() <= LONGEST && writes_sed(written))
     }
 
     /// Notes the name that a loop sets to each of its words, of which one may be the name of a sed.

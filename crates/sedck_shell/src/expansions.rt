@@ -13,7 +13,7 @@ impl Reader<'_> {
     pub fn read_expansion(&mut self, index: usize, unit: Unit) -> Result<()> {
         let next = index.saturating_add(1);
         let after = next.saturating_add(1);
-        self.note_joined(unit, self.name_end(next), false)?;
+        self.note_joined(unit, self.name_end(next))?;
         match self.text.byte(next) {
             Some(b'(') => self.open_substitution(index, after),
             Some(b'{') => self.open_parameter(index, after),

@@ -11,7 +11,7 @@ impl Reader<'_> {
         if self.top.is_test && byte != b';' {
             return self.read_in_test(index, unit, byte);
         }
-        self.note_joined(unit, index.saturating_add(1), true)?;
+        self.note_joined(unit, index.saturating_add(1))?;
         match byte {
             b';' => self.read_semicolon(index),
             b'&' => self.read_ampersand(index),

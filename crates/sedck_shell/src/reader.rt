@@ -375,13 +375,13 @@ impl Reader<'_> {
 
     /// Tells of a backslash and a newline at this index, which a shell leaves out, where the byte behind them belongs to the operator or the
     /// expansion that begins with the unit.
-    pub fn note_joined(&mut self, unit: Unit, index: usize, is_operator: bool) -> Result<()> {
+    pub fn note_joined(&mut self, unit: Unit, index: usize) -> Result<()> {
         let next = index.saturating_add(1);
         let behind = self.text.byte(next.saturating_add(1)).unwrap_or(b' ');
-        let is_part = if is_operator {
-            b";&|<>(".contains(&behind)
-        } else {
-            !b" \t".contains(&behind)
+        let is_part = match self.text.byte(index.saturating_sub(1)) {
+            Some(b'$') => !b" \t".contains(&behind),
+            Some(before) if is_name_byte(before) => is_name_byte(behind),
+            _ => b";&|<>(".contains(&behind),
         };
         if is_part && self.text.byte(index) == Some(b'\\') && self.text.byte(next) == Some(b'\n') {
             self.output.unread.push(unit.start())?;
