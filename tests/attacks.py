@@ -453,7 +453,6 @@ TEXTS = [Row("told: " + name, text, run, WRITES, file, files, due=FOUND) for nam
     ("a value of a value of make", "Makefile", "make", "RUN = sed -n\nGO = $(RUN)\nall:\n\t@$(GO) 'w evil' f\n", {}),
     ("a name that a function of make gives", "Makefile", "make", "X = $(addprefix /bin/,sed)\nall:\n\t@$(X) wevil f\n", {}),
     ("a name that a command gives", "a.sh", "sh a.sh", "x=$(command -v sed 2>/dev/null)\n$x -n 'w evil' f\n", {}),
-    ("an element of an array", "a.sh", "bash a.sh", "declare -A x\nx[a]=sed\n${x[a]} -n 'w evil' f\n", {}),
     ("$'sed'", "a.sh", "bash a.sh", "$'sed' wevil f\n", {}),
     ("a part of a name", "a.sh", "sh a.sh", "${CROSS}sed wevil f\n", {}),
     ("a quoted part of a name", "a.sh", "sh a.sh", "\"$CROSS\"sed wevil f\n", {}),

@@ -284,8 +284,7 @@ fn called_by_name(written: &[u8], names: &Names<'_>) -> Program {
     let is_made = matches!(written, [b'$', b'(', inner @ .., b')'] if inner.len() == name.len());
     let is_whole = is_made || replaced_name(written, names.kind).is_some();
     let is_sed = is_whole && is_sed_variable(name);
-    let may_be_sed = names.may_be_sed(name) && (is_whole || !is_sed_variable(name));
-    if is_sed || may_be_sed {
+    if is_sed || (is_whole && names.may_be_sed(name)) {
         Program::Sed
     } else if is_whole && is_among(name, SHELL_VARIABLES) {
         Program::Shell
