@@ -3,8 +3,8 @@
 
 With --bench nothing is run: what the last run cost is put into docs/BENCH.md, in place of what is there.
 
-What it cost is printed, and kept in build/gate-cost: a table of processor seconds by crate, and its sum also in units, the seconds of
-the proof of `sedck_search` in the same run, which hardly changes, so that the speed of the machine goes out of the figure.
+What it cost is printed, and kept in build/gate-cost: a table of processor seconds by crate, and its sum also in units, the processor
+seconds of `rt selftest` right before, so that the speed of the machine goes out of the figure. Nothing here changes what that takes.
 
 The status is that of `rt ci`, but 1 where a wrong body shows nothing: where an edit can't be applied or compiled, or was refused only
 since a proof names what it took away. Edits are also looked at before anything is proved (tools/edits.py).
@@ -26,7 +26,6 @@ from pathlib import Path
 import edits
 
 TOP = Path(__file__).resolve().parent.parent
-UNIT = "sedck_search"
 # What `rt` says of a wrong body that shows nothing, though it may count it as refused.
 SHOWS_NOTHING = re.compile(r"BAD EDIT|NOT REFUSED|names what the edit took away")
 TICKS = os.sysconf("SC_CLK_TCK")
@@ -122,16 +121,29 @@ class Costs:
         return self.proofs.get(name, 0.0), once_more, (self.firsts.get(name, 0.0) - once_more + sum(others)) if bodies else 0.0
 
 
-def table(costs: Costs, names: list[str], bodies: dict[str, int]) -> str:
+def table(costs: Costs, names: list[str], bodies: dict[str, int], unit: float) -> str:
     """The table of BENCH: a row for each crate, first those with wrong bodies, and what all took in seconds and in units."""
     rows = {name: costs.row(name, bodies[name]) for name in names}
-    whole, unit = sum(sum(row) for row in rows.values()), rows.get(UNIT, (0.0,))[0]
+    whole = sum(sum(row) for row in rows.values())
     text = HEAD + "".join("| `%s` | %.0f | %s | %d, %.0f |\n" % (name, proof, "%.0f" % once_more if once_more else "", bodies[name], tried)
                           for name, (proof, once_more, tried) in rows.items() if bodies[name])
     text += "".join("| `%s` | %.0f | | |\n" % (name, row[0]) for name, row in rows.items() if not bodies[name])
     columns = [sum(row[at] for row in rows.values()) for at in range(3)]
     text += "\n%.0f s for proofs, %.0f s once more, %.0f s for %d wrong bodies: %.0f s" % (*columns, sum(bodies.values()), whole)
-    return text + (", or %.1f units of %.0f s. %.0f s more were seen for what starts them.\n" % (whole / unit, unit, costs.rest) if unit else ".\n")
+    return text + (", or %.1f units of %.1f s. %.0f s more were seen for what starts them.\n" % (whole / unit, unit, costs.rest) if unit else ".\n")
+
+
+def used_below() -> float:
+    """The processor seconds of the processes that were started here and have ended."""
+    used = resource.getrusage(resource.RUSAGE_CHILDREN)
+    return used.ru_utime + used.ru_stime
+
+
+def unit_of(rt: str) -> float:
+    """The processor seconds of `rt selftest`, which proves, builds and runs an example of the toolchain; 0 where it fails."""
+    before = used_below()
+    done = subprocess.run(shlex.split(rt) + ["selftest"], cwd=TOP, stdout=subprocess.DEVNULL, stderr=subprocess.DEVNULL, check=False)
+    return 0.0 if done.returncode else used_below() - before
 
 
 def run(rt):
@@ -168,8 +180,9 @@ def main():
         print("gate: " + fault)
     if faults:
         return 1
-    begun = time.monotonic()
     try:
+        unit = unit_of(rt)
+        begun, before = time.monotonic(), resource.getrusage(resource.RUSAGE_CHILDREN)
         status, lines, costs = run(rt)
     except OSError as error:
         print("gate: %s can't be started: %s" % (rt, error.strerror))
@@ -180,7 +193,8 @@ def main():
     names = re.findall(r"^(\w+)[^:#\n]*:", (TOP / "crates.txt").read_text(), re.M)
     bodies = {name: len(list((TOP / "crates" / name / "must-fail").glob("*.edit"))) for name in names}
     cost = "%s\nThe gate took %.1f processor minutes, %.1f of them in the system, and %.1f minutes by the clock, with %s jobs.\n" % (
-        table(costs, names, bodies), (used.ru_utime + used.ru_stime) / 60, used.ru_stime / 60, (time.monotonic() - begun) / 60, os.environ["RT_JOBS"])
+        table(costs, names, bodies, unit), (used.ru_utime + used.ru_stime - before.ru_utime - before.ru_stime) / 60,
+        (used.ru_stime - before.ru_stime) / 60, (time.monotonic() - begun) / 60, os.environ["RT_JOBS"])
     print(cost, end="")
     (TOP / "build").mkdir(exist_ok=True)
     (TOP / "build" / "gate-cost").write_text(cost)

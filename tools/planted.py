@@ -8,9 +8,10 @@ The ledger `planted.sums` has for each crate a checksum of its code, definitions
 refused. Tried are those of the crates that are behind, whose sum is another one now; with `--all` those of all crates, or those of the
 crates that are named. With `--behind` nothing is tried: the crates that are behind are printed, and the status is 1 if there are any.
 
-What the crates need is proved first, but for what the gate has kept on this machine. Then as many crates are tried at a time as there
-are processors, each in a tree of its own, where the planted edits stand as those of the gate. `rt` keeps which of them it has tried. The
-status is 0 only where each edit is refused, by more than a name that a proof has and the edit took away.
+What the crates need is proved first. Where `rt ci` takes names of crates it uses what the gate has kept on this machine; otherwise what is
+proved stays in the crates' folders, as for `make build`. Then as many crates are tried at a time as there are processors, each in a tree of
+its own, where the planted edits stand as those of the gate. The status is 0 only where each edit is refused, by more than a name that a
+proof has and the edit took away.
 """
 import hashlib
 import os
@@ -69,41 +70,54 @@ def entered(name, known):
     LEDGER.write_text("".join("%s  %s\n" % (sums[other], other) for other in sorted(sums)))
 
 
-def in_tree(rt, names, room, edits_of=()):
+def takes_names(rt):
+    """Whether `rt ci` takes names of crates."""
+    return re.search(r"\brt ci \[?NAME", prove.called(shlex.split(rt) + ["help"], TOP)[1]) is not None
+
+
+def in_tree(rt, verb, names, room, edits_of=()):
     """What `rt` prints, and its status, of these crates in a tree with them and all that they need: with the planted edits of some."""
     needs = prove.libraries()
     prove.fill(room, names[-1], [name for name in prove.ordered(needs, names) if name != names[-1]])
     for name in edits_of:
         shutil.copytree(TOP / "crates" / name / "planted", room / "crates" / name / "must-fail")
     try:
-        return prove.called(shlex.split(rt) + ["ci"] + names, room)
+        return prove.called(shlex.split(rt) + [verb] + names, room)
     finally:
         shutil.rmtree(room, ignore_errors=True)
 
 
-def tried(rt, name, room):
+def proved(rt, verb, below, folder):
+    """Proves these crates; whether nothing failed."""
+    if verb == "must-fail":
+        return prove.Proving(rt, below, folder).run()
+    os.environ["RT_JOBS"] = str(prove.lanes())
+    status, printed = in_tree(rt, verb, below, folder / "below")
+    if status:
+        print(printed, end="", flush=True)
+    return not status
+
+
+def tried(rt, verb, name, room):
     """Tries a crate's planted edits: what `rt` printed, and whether each was refused."""
-    status, printed = in_tree(rt, [name], room, [name])
+    status, printed = in_tree(rt, verb, [name], room, [name])
     return printed, not status and sorted(REFUSED.findall(printed)) == sorted(edit.stem for edit in planted(name))
 
 
 def try_all(rt, names):
     """Tries the edits of these crates; whether each was refused."""
     needs, failed = prove.libraries(), []
+    verb = "ci" if takes_names(rt) else "must-fail"
     below = [name for name in prove.ordered(needs, names) if any(name in needs[other] for other in prove.ordered(needs, names))]
     with prove.trees("planted-") as folder:
-        if below:
-            os.environ["RT_JOBS"] = str(prove.lanes())
-            status, printed = in_tree(rt, below, folder / "below")
-            if status:
-                print(printed, end="", flush=True)
-                return False
+        if below and not proved(rt, verb, below, folder):
+            return False
         # The sums are taken before, so that what is changed meanwhile counts as not tried.
         sums = {name: sum_of(name) for name in names}
         os.environ["RT_JOBS"] = "1"
         largest = sorted(names, key=lambda name: -len(planted(name)) * prove.work_of(name))
         with ThreadPoolExecutor(prove.lanes()) as pool:
-            running = {pool.submit(tried, rt, name, folder / name): name for name in largest}
+            running = {pool.submit(tried, rt, verb, name, folder / name): name for name in largest}
             for future in as_completed(running):
                 name, (text, is_refused) = running[future], future.result()
                 print(text, end="", flush=True)
