@@ -366,8 +366,9 @@ cert.Headline
 flow.Run flow.Substitutes flow.Patterns
 bre.Match expressions.Tree
 commands.Program script.Names
-script.Spelling commands.Items script.Resolution commands.Parts commands.BracketLists commands.Cuts
-expressions.Shape expressions.Brackets expressions.WellFormed expressions.Misjudged text.Classes text.Runs text.Text text.Bytes
+script.Spelling commands.Items script.Resolution commands.Parts commands.Narrowings commands.Cuts
+expressions.Shape expressions.Brackets expressions.WellFormed text.Classes text.Runs text.Text text.Bytes
+commands.ReadAlike commands.BracketLists expressions.Misjudged
 cert.Ranked flow.Flow flow.Nodes commands.References bre.Rests
 cert.Certificate cert.Text cert.Versions cert.VersionOne
 cert.Everywhere flow.WideRun bre.WideMatch flow.CharacterRun flow.Characters script.ByteSafe
@@ -426,10 +427,7 @@ LIBRARY = {
     "suc": "`suc n`: n + 1",
     "◌+◌": "the sum",
     "◌-◌": "the difference, but never below 0",
-    "◌*◌": "the product",
     "◌^◌": "the power",
-    "◌/◌": "the quotient, rounded down",
-    "◌%◌": "the remainder",
     "max": "the greater number",
     "◌<◌": "less than",
     "◌≤◌": "at most",
@@ -454,7 +452,6 @@ LIBRARY = {
     "None": "no value",
     "Some": "a value",
     "MatchOption": "`MatchOption o P Q`: P where o is `None`, and `Q x` where it is `Some x`",
-    "IfSome": "`IfSome o P`: `P x` where o is `Some x`, and always where it is `None`",
     "unwrap_or": "the value, or another one where there is none",
     "option_to_list": "the list of the value, or the empty one",
     "Result": "`Ok` with a value, or `Err` with a fault",
@@ -470,17 +467,12 @@ LIBRARY = {
     "range_with_len": "`range_with_len a n`: the n numbers from a on",
     "Contains": "the list has this element",
     "All": "it holds of each element",
-    "AllPairs": "it holds of each element and each later one",
     "list_all": "whether all elements pass a test",
     "list_any": "whether one does",
     "filter": "the elements that pass a test",
     "flat_map": "the lists that a function gives for the elements, joined",
-    "sum_by": "the sum of the numbers that it gives",
     "before_first": "what is before the first element that passes a test, or all",
     "ends_with": "whether a list ends with another, by a test of equal elements",
-    "Less": "that the first of two is before the second",
-    "nat_cmp": "the order of two numbers",
-    "slice_cmp": "the order of two lists, by their first difference, a list before those that it begins",
     "codes": "`codes \"..\"`: the bytes between the quotes (ASCII)",
     "decimal": "a number's decimal digits, without leading zeros",
     "digits_value": "`digits_value 10 text`: the number that decimal digits write",

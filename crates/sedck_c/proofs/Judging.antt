@@ -5,6 +5,7 @@ use Rattle.sedck_script.specs.Spelling.{Spells}
 use Rattle.sedck_commands.specs.declared.fault.ScriptFault.{ScriptFault}
 use Rattle.sedck_commands.specs.declared.fault.ScriptFault.TheVariants as script
 use Rattle.sedck_cert.specs.Certificate.{Certificate}
+use Rattle.sedck_cert.specs.Text.{file_lists}
 use Rattle.sedck_cert.specs.Ranked.{Accepts}
 use Rattle.sedck_cert.specs.Headline.{IsSafe, IsLimit, IsScriptFaultOf}
 use Rattle.sedck_cert.specs.Everywhere.{IsSafeEverywhere, IsLimitEverywhere}
@@ -77,15 +78,15 @@ pub accepted_one : (text : List ℕ) (found : Certified) → IsCertified text (S
 accepted_one text found is = one_of text found Accepts is (λ p spelled accepts limit everywhere. accepts)
 
 pub safe_one : (text : List ℕ) (found : Certified) (room : List ℕ) (needed : ℕ) → IsCertified text (Some found) → IsListed found.cert room needed
-    → HasOne text (λ p c. IsSafe p c × IsListed c room needed)
+    → HasOne text (λ p c. IsSafe p (file_lists c) × IsListed c room needed)
 safe_one text found room needed is listed =
-    one_of text found (λ p c. IsSafe p c × IsListed c room needed) is
+    one_of text found (λ p c. IsSafe p (file_lists c) × IsListed c room needed) is
     (λ p spelled accepts limit everywhere. (safe text p found.cert spelled accepts, listed))
 
 pub safe_one_everywhere : (text : List ℕ) (found : Certified) (room : List ℕ) (needed : ℕ) → IsCertified text (Some found)
-    → IsListed found.cert room needed → HasOne text (λ p c. IsSafeEverywhere p c × IsListed c room needed)
+    → IsListed found.cert room needed → HasOne text (λ p c. IsSafeEverywhere p (file_lists c) × IsListed c room needed)
 safe_one_everywhere text found room needed is listed =
-    one_of text found (λ p c. IsSafeEverywhere p c × IsListed c room needed) is
+    one_of text found (λ p c. IsSafeEverywhere p (file_lists c) × IsListed c room needed) is
     (λ p spelled accepts limit everywhere. (safe_everywhere text p found.cert spelled accepts, listed))
 
 pub limited_one : (text : List ℕ) (found : Certified) (a : Answer) → IsCertified text (Some found) → bound_of a ≡ found.bound

@@ -7,7 +7,8 @@ ghost use Rattle.sedck_engines.specs.declared.answer.Outcome.TheVariants.{Yes, N
 ghost use Rattle.sedck_cert.specs.Certificate.{Certificate};
 ghost use Rattle.sedck_cert.specs.Versions.{SpellsCertificate};
 ghost use Rattle.sedck_cert.specs.Ranked.{Accepts};
-ghost use Rattle.sedck_cert.specs.Headline.{SpellBoth, IsSafe};
+ghost use Rattle.sedck_cert.specs.Text.{file_lists};
+ghost use Rattle.sedck_cert.specs.Headline.{SpellBoth, ReadBoth, IsSafe};
 ghost use Rattle.sedck_cert.specs.Everywhere.{IsSafeEverywhere};
 ghost use Rattle.sedck_engines.specs.Engines.{RanksTo};
 ghost use Rattle.sedck_c.specs.Answers.{HasOne, HasNone, IsListed, IsLimited, IsTooSmall, TellsFaultOf, TellsScriptFaultOf, TellsReason, Gives};
@@ -28,8 +29,8 @@ pub extern "C" fn sedck_check(
     certificate: &[u8],
     answer: &mut Answer,
 ) -> u32
-    ensures promise { result ≡ 0 → SpellBoth script.now certificate.now IsSafe }
-    ensures everywhere { result ≡ 0 → SpellBoth script.now certificate.now IsSafeEverywhere }
+    ensures promise { result ≡ 0 → ReadBoth script.now certificate.now IsSafe }
+    ensures everywhere { result ≡ 0 → ReadBoth script.now certificate.now IsSafeEverywhere }
     ensures within { (result ≤ 2) ⊎ (result ≡ 4) }
     // Each status exactly where it is due, unless memory runs out.
     ensures accepted { result ≢ 4 → (result ≡ 0) ↔ SpellBoth script.now certificate.now Accepts }
@@ -86,8 +87,8 @@ pub extern "C" fn sedck_judge(
     needed: &mut usize,
 ) -> u32
     // The script's runs end, and their files are in the lists that the caller gets.
-    ensures promise { result ≡ 0 → HasOne script.now (λ p c. IsSafe p c × IsListed c room.new needed.new) }
-    ensures everywhere { result ≡ 0 → HasOne script.now (λ p c. IsSafeEverywhere p c × IsListed c room.new needed.new) }
+    ensures promise { result ≡ 0 → HasOne script.now (λ p c. IsSafe p (file_lists c) × IsListed c room.new needed.new) }
+    ensures everywhere { result ≡ 0 → HasOne script.now (λ p c. IsSafeEverywhere p (file_lists c) × IsListed c room.new needed.new) }
     ensures within { (result ≤ 2) ⊎ (result ≡ 4) ⊎ (result ≡ 5) }
     // Each status exactly where it is due, unless memory or the room runs out.
     ensures accepted { result ≢ 4 → result ≢ 5 → (result ≡ 0) ↔ HasOne script.now Accepts }

@@ -29,12 +29,13 @@ pub has_byte : (byte : ℕ) (text f r : List ℕ) → text ≡ f ++ byte ∷ r �
 has_byte byte text [] r e = rw e (0, omega arith, refl)
 has_byte byte text (b ∷ f) r e = rw e (Contains-cons_more b (f ++ byte ∷ r) byte (has_byte byte (f ++ byte ∷ r) f r refl))
 
+pub decimal-in_range : (n byte : ℕ) → n < 2 ^ 64 → Contains (decimal n) byte → IsInRange 48 57 byte
+decimal-in_range n byte small has = All-contains (IsInRange 48 57) (decimal n) byte
+    (All-from_get_or (IsInRange 48 57) (decimal n) 0 (λ k within. decimal-digit (decimal n) n k small refl within)) has
+
 -- a byte below the digits
 pub decimal-lacks : (n byte : ℕ) → n < 2 ^ 64 → byte < 48 → Contains (decimal n) byte → ⊥
-decimal-lacks n byte small below has =
-    let range : IsInRange 48 57 byte = All-contains (IsInRange 48 57) (decimal n) byte
-    (All-from_get_or (IsInRange 48 57) (decimal n) 0 (λ k within. decimal-digit (decimal n) n k small refl within)) has in
-    omega (arith, range)
+decimal-lacks n byte small below has = let range = decimal-in_range n byte small has in omega (arith, range)
 
 pub decimal-cut : (text f r s : List ℕ) (n byte : ℕ) → n < 2 ^ 64 → byte < 48 → IsCut byte text f r → text ≡ decimal n ++ byte ∷ s → (f ≡ decimal n) × (r ≡ s)
 decimal-cut text f r s n byte small below cut is = cut_one byte text f r (decimal n) s cut (record { none = decimal-lacks n byte small below; is_text = is })

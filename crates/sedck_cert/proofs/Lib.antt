@@ -23,3 +23,4 @@ pub mod TextLength
 pub mod Upgraded
 pub mod UpgradeLaw
 pub mod EitherVersion
+pub mod EndingLists

@@ -44,7 +44,7 @@ word-one_line b word above one (suc k, within, is) = one (k, omega arith, is)
 none-one_line : IsOneLine []
 none-one_line (k, within, is) = omega arith
 
-above-one_line : (text : List ℕ) → list_all (λ b. nat_lt 10 b) text ≡ true → IsOneLine text
+pub above-one_line : (text : List ℕ) → list_all (λ b. nat_lt 10 b) text ≡ true → IsOneLine text
 above-one_line [] h = none-one_line
 above-one_line (b ∷ text) h =
     let parts = and_parts (nat_lt 10 b) (list_all (λ b. nat_lt 10 b) text) h in
@@ -71,7 +71,7 @@ words-one_line One node small = decimals-one_line (decimal (node / 2)) (node % 2
 words-one_line Two node small = decimals-one_line (decimal (node / 4) ++ codes " " ++ decimal (node / 2 % 2)) (node % 2) (omega arith)
     (decimals-one_line (decimal (node / 4)) (node / 2 % 2) (omega arith) (decimal-one_line [] (node / 4) (omega arith) none-one_line))
 
-node_text-one_line : (v : Version) (node : ℕ) (ranks : Option (ℕ × ℕ)) → node < 2 ^ 16 → AreWithin ranks → IsOneLine (node_text v node ranks)
+pub node_text-one_line : (v : Version) (node : ℕ) (ranks : Option (ℕ × ℕ)) → node < 2 ^ 16 → AreWithin ranks → IsOneLine (node_text v node ranks)
 node_text-one_line v node ranks small within =
     append-one_line (words_in v node ++ codes " ") (ranks_text ranks)
     (append-one_line (words_in v node) (codes " ") (words-one_line v node small) (above-one_line (codes " ") refl)) (ranks_text-one_line ranks within)

@@ -61,7 +61,7 @@ fault_of_none v text fault f c h =
 
 -- ---- One certificate
 
-no_line : (text rest : List ℕ) → [] ≡ line text ++ rest → ⊥
+pub no_line : (text rest : List ℕ) → [] ≡ line text ++ rest → ⊥
 no_line text rest e = let has = has_byte 10 [] text rest (e ∙ line-behind text rest) in let below : has.0 < 0 = has.1 in omega arith
 
 joined_one : (v : Version) (xs ys : List (List ℕ)) (a b : Due) → joined_lines xs ≡ joined_lines ys → AreDue v a xs b → AreDue v a ys b → xs ≡ ys
@@ -73,7 +73,7 @@ joined_one v (x ∷ xs) (y ∷ ys) a b e h k =
     let same : h.1 ≡ k.1 = due_one v a y h.1 k.1 (subst (λ t. IsDue v a t h.1) both.0 h.2) k.2 in
     cc (both.0, joined_one v xs ys k.1 b both.1 (subst (λ d. AreDue v d xs b) same h.3) k.3)
 
-append_split : {A : Type 0} (xs ys as' bs : List A) → length xs ≡ length ys → xs ++ as' ≡ ys ++ bs → (xs ≡ ys) × (as' ≡ bs)
+pub append_split : {A : Type 0} (xs ys as' bs : List A) → length xs ≡ length ys → xs ++ as' ≡ ys ++ bs → (xs ≡ ys) × (as' ≡ bs)
 append_split xs ys as' bs l e = (
   sym (take-append_seam xs as') ∙ ap (take (length xs)) e ∙ ap (λ n. take n (ys ++ bs)) l ∙ take-append_seam ys bs,
   sym (drop-append_seam xs as') ∙ ap (drop (length xs)) e ∙ ap (λ n. drop n (ys ++ bs)) l ∙ drop-append_seam ys bs,

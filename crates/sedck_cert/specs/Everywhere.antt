@@ -6,7 +6,7 @@ use Rattle.sedck_flow.specs.Run.{Event, Reads, Writes, Creates}
 use Rattle.sedck_flow.specs.WideRun.{Files, WideState, WideRun, all_lines, wide_events}
 use Rattle.sedck_flow.specs.CharacterRun.{CharacterRun}
 use Rattle.sedck_flow.specs.Spaces.{bytes_of}
-use Rattle.sedck_cert.specs.Certificate.{Certificate}
+use Rattle.sedck_cert.specs.Text.{FileLists}
 use Rattle.sedck_cert.specs.declared.limits.Bound.{Bound}
 
 -- which steps are a run, finished or not, by the byte that ends lines and the files
@@ -17,18 +17,18 @@ Runs = ℕ → Files → List (Event × WideState) → Type 0
 abbrev pub AllRunsEnd : Runs → Type 0
 AllRunsEnd IsRun = (d : ℕ) (files : Files) → (limit : ℕ) × ((steps : List (Event × WideState)) → IsRun d files steps → length steps ≤ limit)
 
--- every file that a run creates, writes or reads by a command is in the certificate's lists
-pub record AllFilesAreListed (p : Program) (c : Certificate) (IsRun : Runs) : Type 0 where
-  pub created : (name : List ℕ) → Creates p name → Contains c.writes name
+-- every file that a run creates, writes or reads by a command is in the lists
+pub record AllFilesAreListed (p : Program) (listed : FileLists) (IsRun : Runs) : Type 0 where
+  pub created : (name : List ℕ) → Creates p name → Contains listed.writes name
   pub written : (d : ℕ) (files : Files) (steps : List (Event × WideState)) → IsRun d files steps → (name : List ℕ)
-      → Contains (wide_events steps) (Writes name) → Contains c.writes name
+      → Contains (wide_events steps) (Writes name) → Contains listed.writes name
   pub read : (d : ℕ) (files : Files) (steps : List (Event × WideState)) → IsRun d files steps → (name : List ℕ)
-      → Contains (wide_events steps) (Reads name) → Contains c.reads name
+      → Contains (wide_events steps) (Reads name) → Contains listed.reads name
 
 -- the promise: for the runs of any script in the POSIX locale, and for those of one that is byte safe by characters of UTF-8
-pub record IsSafeEverywhere (p : Program) (c : Certificate) : Type 0 where
-  pub by_bytes : AllRunsEnd (WideRun p) × AllFilesAreListed p c (WideRun p)
-  pub by_characters : IsByteSafe p → AllRunsEnd (CharacterRun p) × AllFilesAreListed p c (CharacterRun p)
+pub record IsSafeEverywhere (p : Program) (listed : FileLists) : Type 0 where
+  pub by_bytes : AllRunsEnd (WideRun p) × AllFilesAreListed p listed (WideRun p)
+  pub by_characters : IsByteSafe p → AllRunsEnd (CharacterRun p) × AllFilesAreListed p listed (CharacterRun p)
 
 -- no run has more steps, by the bytes of the lines of all files, what ends them not counted, and by their number
 abbrev pub BoundsAllRuns : Bound → Runs → Type 0

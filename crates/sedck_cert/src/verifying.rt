@@ -1,7 +1,7 @@
 //! From two texts to the verdict.
 
 ghost use Rattle.std.specs.Prelude.{◌≡◌, IfOk};
-ghost use Rattle.sedck_cert.specs.Headline.{SpellBoth, IsSafe, IsAccepted, IsAnswered, IsOutOfMemory, IsJudged, IsLimit, IsVerdict, SaysWhy, ReportsFault, verdict_of};
+ghost use Rattle.sedck_cert.specs.Headline.{SpellBoth, ReadBoth, IsSafe, IsAccepted, IsAnswered, IsOutOfMemory, IsJudged, IsLimit, IsVerdict, SaysWhy, ReportsFault, verdict_of};
 ghost use Rattle.sedck_cert.specs.Everywhere.{IsSafeEverywhere, IsLimitEverywhere};
 
 use crate::bounding::limit;
@@ -36,8 +36,8 @@ pub struct Judged<'a> {
 /// writes or reads by a command is in the certificate's lists. The same holds `everywhere`: for every list of files and every
 /// byte that ends lines, in each locale in which the script says the same by characters as by bytes.
 pub fn judge<'a>(alloc: Global, script: &'a [u8], certificate: &[u8]) -> Result<Judged<'a>, Fault>
-    ensures promise { IsAccepted (verdict_of result) → SpellBoth script.now certificate.now IsSafe }
-    ensures everywhere { IsAccepted (verdict_of result) → SpellBoth script.now certificate.now IsSafeEverywhere }
+    ensures promise { IsAccepted (verdict_of result) → ReadBoth script.now certificate.now IsSafe }
+    ensures everywhere { IsAccepted (verdict_of result) → ReadBoth script.now certificate.now IsSafeEverywhere }
     ensures answer { (¬ IsOutOfMemory (verdict_of result)) → IsAnswered script.now certificate.now (verdict_of result) }
     ensures reported { ReportsFault script.now certificate.now (verdict_of result) }
     ensures judged { IfOk result (IsJudged script.now certificate.now) }
@@ -81,8 +81,8 @@ fn with_verdict<'a>(script: Script<'a>, cert: Cert) -> Judged<'a>
 /// there is a number of steps that no run of the script exceeds. And every file that a run creates,
 /// writes or reads by a command is in the certificate's lists. The same holds `everywhere`, as `judge` has it.
 pub fn verify(alloc: Global, script: &[u8], certificate: &[u8]) -> Result<Verdict, Fault>
-    ensures promise { IsAccepted result → SpellBoth script.now certificate.now IsSafe }
-    ensures everywhere { IsAccepted result → SpellBoth script.now certificate.now IsSafeEverywhere }
+    ensures promise { IsAccepted result → ReadBoth script.now certificate.now IsSafe }
+    ensures everywhere { IsAccepted result → ReadBoth script.now certificate.now IsSafeEverywhere }
     ensures answer { (¬ IsOutOfMemory result) → IsAnswered script.now certificate.now result }
     ensures why { SaysWhy script.now certificate.now result }
     ensures reported { ReportsFault script.now certificate.now result }

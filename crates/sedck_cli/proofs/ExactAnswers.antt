@@ -4,10 +4,10 @@ use Rattle.std.specs.Str.{bytes_eq}
 use Rattle.std.proofs.lemmas.Bool.{both_ways, cases_lt, cases_order, false≢true}
 use Rattle.std.specs.declared.alloc.Global.{Global}
 use Rattle.sedck_cert.specs.Ranked.{Accepts}
-use Rattle.sedck_cert.specs.Headline.{SpellBoth, IsSafe}
+use Rattle.sedck_cert.specs.Headline.{SpellBoth, ReadBoth, IsSafe}
 use Rattle.sedck_cert.specs.Everywhere.{IsSafeEverywhere}
 use Rattle.sedck_cert.specs.declared.checking.Verdict.TheVariants.{Accepted, Rejected}
-use Rattle.sedck_cert.proofs.Promise.{safe, safe_everywhere, not_accepted}
+use Rattle.sedck_cert.proofs.Promise.{safe, safe_everywhere, read_both, not_accepted}
 use Rattle.sedck_engines.specs.declared.answer.Outcome.TheVariants.{Yes, No}
 use Rattle.sedck_engines.specs.declared.answer.Input.TheVariants as input
 use Rattle.sedck_engines.specs.declared.answer.RunFault.TheVariants as fault
@@ -45,25 +45,25 @@ no_refusal text bytes failed (Run fault.Write) is both = inr refl
 no_refusal text bytes failed (Run fault.OutOfMemory) is both = inr refl
 
 -- an accepted certificate is safe
-pub accepted_safe : (text bytes : List ℕ) → SpellBoth text bytes Accepts → SpellBoth text bytes IsSafe
+pub accepted_safe : (text bytes : List ℕ) → SpellBoth text bytes Accepts → ReadBoth text bytes IsSafe
 accepted_safe text bytes both =
-    record {
+    read_both text bytes (record {
       program = both.program;
       spelled = both.spelled;
       cert = both.cert;
       written = both.written;
       holds = safe text both.program both.cert both.spelled.spells both.holds;
-    }
+    })
 
-pub accepted_safe_everywhere : (text bytes : List ℕ) → SpellBoth text bytes Accepts → SpellBoth text bytes IsSafeEverywhere
+pub accepted_safe_everywhere : (text bytes : List ℕ) → SpellBoth text bytes Accepts → ReadBoth text bytes IsSafeEverywhere
 accepted_safe_everywhere text bytes both =
-    record {
+    read_both text bytes (record {
       program = both.program;
       spelled = both.spelled;
       cert = both.cert;
       written = both.written;
       holds = safe_everywhere text both.program both.cert both.spelled.spells both.holds;
-    }
+    })
 
 -- ---- Words and statuses
 
@@ -126,11 +126,11 @@ exact {status = status} r = elim (cases_order status 4) [
   | inr (inr above) ↦ absurd (omega (arith, above, r.within))
 ]
 
-pub promised : {text bytes : List ℕ} {words : List (String Global)} {status : ℕ} → Ran text bytes words status → status ≡ 0 → SpellBoth text bytes IsSafe
+pub promised : {text bytes : List ℕ} {words : List (String Global)} {status : ℕ} → Ran text bytes words status → status ≡ 0 → ReadBoth text bytes IsSafe
 promised {text} {bytes} r is = accepted_safe text bytes (ran_yes r is)
 
 pub promised_everywhere : {text bytes : List ℕ} {words : List (String Global)} {status : ℕ} → Ran text bytes words status → status ≡ 0
-    → SpellBoth text bytes IsSafeEverywhere
+    → ReadBoth text bytes IsSafeEverywhere
 promised_everywhere {text} {bytes} r is = accepted_safe_everywhere text bytes (ran_yes r is)
 
 -- ---- What has status 4

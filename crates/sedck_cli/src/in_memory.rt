@@ -2,7 +2,7 @@
 
 ghost use Rattle.std.specs.Prelude.{◌≡◌, ◌⊎◌, ◌↔◌, [], None, Some, false, is_some, IfOk};
 ghost use Rattle.sedck_cert.specs.Ranked.{Accepts};
-ghost use Rattle.sedck_cert.specs.Headline.{SpellBoth, IsSafe};
+ghost use Rattle.sedck_cert.specs.Headline.{SpellBoth, ReadBoth, IsSafe};
 ghost use Rattle.sedck_cert.specs.Everywhere.{IsSafeEverywhere};
 ghost use Rattle.sedck_engines.specs.Engines.{ChecksTo};
 ghost use Rattle.sedck_cli.specs.Lines.{refusal_line};
@@ -126,9 +126,9 @@ pub fn check_in_memory(
     // Nothing else is: status 4 comes with this very line.
     ensures memory { IfOk result (λ ended. (ended.status ≡ 4) ↔ (ended.error.items ≡ refusal_line (Refusal.Run RunFault.OutOfMemory))) }
     // At a yes the script's runs end, and their files are listed.
-    ensures promise { IfOk result (λ ended. ended.status ≡ 0 → SpellBoth script.now certificate.now IsSafe) }
+    ensures promise { IfOk result (λ ended. ended.status ≡ 0 → ReadBoth script.now certificate.now IsSafe) }
     // So it is on several files, with other ends of lines, and in other locales, where the script is byte safe.
-    ensures everywhere { IfOk result (λ ended. ended.status ≡ 0 → SpellBoth script.now certificate.now IsSafeEverywhere) }
+    ensures everywhere { IfOk result (λ ended. ended.status ≡ 0 → ReadBoth script.now certificate.now IsSafeEverywhere) }
     // And the output is `accepted`, the limit on steps if there is one, and the files.
     ensures report { IfOk result (λ ended. ended.status ≡ 0 → ChecksTo script.now certificate.now Outcome.Yes ended.output.items) }
 {

@@ -30,7 +30,7 @@ custom_only {behind = behind} {b = b} e h x =
 
 pub no_line : {text behind rest : List ℕ} {b : ℕ} {q : Place} → text ≡ b ∷ behind → b ≢ 36 → b ≢ 47 → b ≢ 92
     → ((n : ℕ) (r : List ℕ) → Number text n r → ⊥) → PlaceText text q rest → ⊥
-no_line e f g h none (p.line {n = n} x) = none n _ x
+no_line e f g h none (p.line {number = n} x) = none n _ x
 no_line e f g h none (p.last i) = f (heads (sym e) ∙ i)
 no_line e f g h none (p.context i x y) = g (heads (sym e) ∙ i)
 no_line e f g h none (p.custom i d x y) = h (heads (sym e) ∙ i)

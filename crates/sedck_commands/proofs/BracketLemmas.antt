@@ -140,8 +140,9 @@ pub no_first_list : {d : ℕ} {text bytes rest written more other end : List ℕ
     → BracketsClose written (91 ∷ more) → ((behind : List ℕ) → BracketList more behind → ⊥) → FirstList d text other end → ⊥
 no_first_list {d} {rest = rest} {written = written} k x cut closed none l =
     let same = (list_one k l.list x).1 in
-    let front : l.written ≡ written = append_cancel_right l.written written (d ∷ rest) (ap (λ t. l.written ++ d ∷ t) (sym same) ∙ sym l.cut ∙ cut) in
-    closed_or_open (subst (λ t. BracketsClose t []) front l.closed) closed none
+    let front : l.alike.written ≡ written =
+    append_cancel_right l.alike.written written (d ∷ rest) (ap (λ t. l.alike.written ++ d ∷ t) (sym same) ∙ sym l.alike.cut ∙ cut) in
+    closed_or_open (subst (λ t. BracketsClose t []) front l.alike.closed) closed none
 
 pub open_place : (text rest : Cursor) {d : ℕ} {bytes written more : List ℕ} → Follows text d → (1 < text.at) × StandsAt text.whole.now (text.at - 2) 121
     → DelimitedList d (unread text) bytes (unread rest) → unread text ≡ written ++ d ∷ unread rest → BracketsClose written (91 ∷ more)

@@ -4,7 +4,7 @@ use Rattle.std.proofs.Math.Seq.{split_at, get_or-append_seam}
 use Rattle.std.proofs.lemmas.List.{nil_from_length, length-drop}
 use Rattle.std.proofs.lemmas.Bool.{eqb-true, eq-eqb, cases_order}
 use Rattle.memchr.specs.Find.{IsFirstByte, is_byte}
-use Rattle.sedck_commands.specs.Items.{HasNoInnerReturn}
+use Rattle.sedck_commands.specs.ReadAlike.{HasNoInnerReturn}
 use Rattle.sedck_commands.specs.Faults.{StandsWhere, is_extra}
 use Rattle.sedck_text.specs.Cursors.{unread}
 use Rattle.sedck_text.specs.declared.cursor.Cursor.{Cursor}

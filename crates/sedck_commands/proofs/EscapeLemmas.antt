@@ -4,7 +4,8 @@ use Rattle.std.specs.Prelude.{IsTrue}
 use Rattle.std.specs.Option.{option_or}
 use Rattle.std.proofs.lemmas.List.{append_cancel_left}
 use Rattle.std.proofs.lemmas.Bool.{and_from}
-use Rattle.sedck_commands.specs.Parts.{DelimitedExpression, is_misread, ExpressionText}
+use Rattle.sedck_commands.specs.Parts.{DelimitedExpression, ExpressionText}
+use Rattle.sedck_commands.specs.ReadAlike.{is_misread}
 use Rattle.sedck_commands.specs.Cuts.{can_be_escaped, is_delimiter}
 use Rattle.sedck_commands.specs.Faults.{IsForbiddenEscape, IsMisreadEscape}
 use Rattle.std.specs.Borrow.{Bor}
@@ -39,8 +40,8 @@ escape_noted {d} rest all e f n same (escaped before after more h g k) =
 pub written_expression : {d : ℕ} {whole text bytes rest : List ℕ} {escape : Option ℕ} → DelimitedExpression d text bytes rest
     → IsFirstEscape d whole text bytes (d ∷ rest) escape → ((place : ℕ) → escape ≡ Some place → IsTrue (is_misread d bytes) → ⊥)
     → ExpressionText d text bytes rest
-written_expression x (as_written h) none = record { cut = x; as_written = λ misread. h }
-written_expression x (escaped {place = place} before after more h g k) none = record { cut = x; as_written = λ misread. absurd (none place refl misread) }
+written_expression x (as_written h) none = record { cut = x; alike = λ misread. h }
+written_expression x (escaped {place = place} before after more h g k) none = record { cut = x; alike = λ misread. absurd (none place refl misread) }
 
 -- where a delimiter is escaped beside a `[`
 pub no_written_expression : {d : ℕ} {whole text bytes rest e r : List ℕ} {escape : Option ℕ} → d ≢ 92 → DelimitedExpression d text bytes rest
@@ -48,7 +49,7 @@ pub no_written_expression : {d : ℕ} {whole text bytes rest e r : List ℕ} {es
 no_written_expression n x (as_written h) place some misread y = absurd (cc some)
 no_written_expression {d} {text = text} {bytes = bytes} {rest = rest} n x (escaped before after more h g k) place some misread y =
     let one = expression_one n y.cut x in
-    let plain : text ≡ bytes ++ d ∷ rest = subst₂ (λ t u. text ≡ t ++ d ∷ u) one.0 one.1 (y.as_written (subst (λ t. IsTrue (is_misread d t)) (sym one.0) misread)) in
+    let plain : text ≡ bytes ++ d ∷ rest = subst₂ (λ t u. text ≡ t ++ d ∷ u) one.0 one.1 (y.alike (subst (λ t. IsTrue (is_misread d t)) (sym one.0) misread)) in
     let same : 92 ∷ d ∷ after ≡ d ∷ (more ++ d ∷ rest) =
     append_cancel_left before _ _ (sym h ∙ plain ∙ ap (λ t. t ++ d ∷ rest) g ∙ append_assoc before (d ∷ more) (d ∷ rest)) in
     n (sym (heads same))

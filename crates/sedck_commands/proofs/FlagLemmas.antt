@@ -4,7 +4,8 @@ use Rattle.std.proofs.Math.Bool.{or-false}
 use Rattle.std.proofs.lemmas.Bool.{false≢true, both_ways, or_from}
 use Rattle.sedck_commands.specs.Cuts.{is_blank, is_digit, is_ending}
 use Rattle.sedck_commands.specs.Program.{Pattern, Part, Substitution}
-use Rattle.sedck_commands.specs.Parts.{Number, Name, Flags}
+use Rattle.sedck_commands.specs.Parts.{Number}
+use Rattle.sedck_commands.specs.Private.Alike.{Name, Flags}
 use Rattle.sedck_commands.specs.Private.Reading.{EndsFlags}
 use Rattle.sedck_commands.specs.Parts as p
 use Rattle.sedck_text.specs.Cursors.{unread}

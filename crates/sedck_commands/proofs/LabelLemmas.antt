@@ -8,7 +8,9 @@ use Rattle.std.specs.Prelude.{◌==◌}
 use Rattle.sedck_commands.proofs.UniqueParts.{ends_first}
 use Rattle.sedck_commands.specs.Cuts.{is_blank, is_separator, is_ending, is_label_byte, IsEmptyOr, Longest}
 use Rattle.sedck_commands.specs.Parts.{Ends, LabelText}
-use Rattle.sedck_commands.specs.Items.{IsNoComment, IsNoBrace, EndsJump, begins_braced_comment}
+use Rattle.sedck_commands.specs.Items.{IsNoComment, IsNoBrace}
+use Rattle.sedck_commands.specs.Private.Alike.{EndsJump}
+use Rattle.sedck_commands.specs.ReadAlike.{begins_braced_comment}
 use Rattle.sedck_commands.specs.Private.Reading.{IsLabelAt}
 use Rattle.sedck_commands.specs.Faults.{EndsOrFails, FollowsLabel, IsLabelBehind}
 use Rattle.sedck_commands.specs.Private.LabelReading.{BranchText, IsBehindVerb, IsBehindLabel}

@@ -32,3 +32,4 @@ pub mod BracketLemmas
 pub mod EscapeLemmas
 pub mod PlacesWithin
 pub mod ReplacementParts
+pub mod NothingAsked

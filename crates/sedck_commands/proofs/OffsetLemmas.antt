@@ -2,11 +2,12 @@
 use Rattle.std.proofs.Common.{◌≡◌, ℕ, Bool, List, [], ◌∷◌, ◌++◌, length, take, drop, ◌-◌, ◌<◌, ◌≤◌, refl, ap, sym, ◌∙◌, subst, length-append, arith, append_assoc}
 use Rattle.sedck_commands.specs.Cuts.{Longest}
 use Rattle.sedck_commands.specs.Program.{Pattern, Part, Substitution}
-use Rattle.sedck_commands.specs.Parts.{Ends, Number, Name, Lines, GivenText, LabelText, DelimitedExpression, DelimitedList, Replacement, Flags}
+use Rattle.sedck_commands.specs.Parts.{Ends, Number, Lines, GivenText, LabelText, DelimitedExpression, DelimitedList, Replacement, NameIn, FlagsIn}
 use Rattle.sedck_commands.specs.Parts as p
-use Rattle.sedck_commands.specs.Items.{WrittenVerb, VerbText}
+use Rattle.sedck_commands.specs.Items.{WrittenVerb, VerbText, VerbTextIn}
 use Rattle.sedck_commands.specs.Items as w
 use Rattle.sedck_commands.specs.Private.Reading.{EndsIn}
+use Rattle.sedck_commands.specs.Narrowings.{Narrowings}
 
 -- what a run, a verb and the end of its line leave is an end of the text
 pub tail_cut : {test : ℕ → Bool} {text front rest : List ℕ} → Longest test text front rest → EndsIn text rest
@@ -30,7 +31,7 @@ ends_tail e = tail_cut e.run
 pub number_tail : {text rest : List ℕ} {n : ℕ} → Number text n rest → EndsIn text rest
 number_tail a = tail_cut a.run
 
-pub name_tail : {text name rest : List ℕ} → Name text name rest → EndsIn text rest
+pub name_tail : {asks : Narrowings} {text name rest : List ℕ} → NameIn asks text name rest → EndsIn text rest
 name_tail n = tail_tail (tail_cut n.skipped) (tail_cut n.run)
 
 pub label_text_tail : {text name rest : List ℕ} → LabelText text name rest → EndsIn text rest
@@ -75,7 +76,7 @@ replacement_tail (p.escaped {a = a} {b = b} f g h x) = tail_cons a (tail_cons b 
 replacement_tail (p.part {a = a} {b = b} f g h x) = tail_cons a (tail_cons b (replacement_tail x))
 replacement_tail (p.run l x) = tail_tail (tail_cut l) (replacement_tail x)
 
-pub flags_tail : {q : Pattern} {ps : List Part} {text rest : List ℕ} {s : Substitution} → Flags q ps text s rest → EndsIn text rest
+pub flags_tail : {asks : Narrowings} {q : Pattern} {ps : List Part} {text rest : List ℕ} {s : Substitution} → FlagsIn asks q ps text s rest → EndsIn text rest
 flags_tail (p.none e m) = ends_tail e
 flags_tail (p.file {b = b} h n) = tail_cons b (name_tail n)
 flags_tail (p.global {b = b} h x g) = tail_cons b (flags_tail x)
@@ -83,7 +84,8 @@ flags_tail (p.print {b = b} h x g) = tail_cons b (flags_tail x)
 flags_tail (p.number a x g) = tail_tail (number_tail a) (flags_tail x)
 
 -- a verb takes its byte at least
-pub verb_takes : {text rest : List ℕ} {v : WrittenVerb} → VerbText text v rest → (b : ℕ) × (behind : List ℕ) × (text ≡ b ∷ behind) × EndsIn behind rest
+pub verb_takes : {asks : Narrowings} {text rest : List ℕ} {v : WrittenVerb} → VerbTextIn asks text v rest
+    → (b : ℕ) × (behind : List ℕ) × (text ≡ b ∷ behind) × EndsIn behind rest
 verb_takes (w.simple x e) = (_, _, refl, ends_tail e)
 verb_takes (w.label h l n e) = (_, _, refl, tail_tail (label_text_tail l) (ends_tail e))
 verb_takes (w.jump h l n e brace) = (_, _, refl, tail_tail (label_text_tail l) (ends_tail e.0))

@@ -1,7 +1,8 @@
 -- Names and texts.
 use Rattle.std.proofs.Common.{◌≡◌, ◌≢◌, ℕ, Bool, true, false, ◌<◌, ◌≤◌, get_or, arith, not, List, [], ◌∷◌, length, ap, sym, ◌∙◌, subst, inl, inr, ◌⊎◌}
 use Rattle.sedck_commands.specs.Cuts.{is_newline, is_blank, is_continued, IsEmptyOr, Longest}
-use Rattle.sedck_commands.specs.Parts.{Name, Lines, GivenText}
+use Rattle.sedck_commands.specs.Parts.{Lines, GivenText}
+use Rattle.sedck_commands.specs.Private.Alike.{Name}
 use Rattle.sedck_commands.specs.Private.NameReading.{is_skipped}
 use Rattle.sedck_commands.specs.Parts as p
 use Rattle.sedck_text.proofs.Runs.{longest_one}
@@ -18,10 +19,10 @@ module _ {text blanks begins front rest name r : List ℕ} (l : Longest is_blank
   name_some = subst (λ t. 0 < length t) same.0 n.some
 
   pub name_plain : IsEmptyOr (λ b. not (is_skipped b)) front
-  name_plain = subst (IsEmptyOr (λ b. not (is_skipped b))) same.0 n.plain
+  name_plain = subst (IsEmptyOr (λ b. not (is_skipped b))) same.0 n.alike.plain
 
   pub name_over : (rest ≡ []) ⊎ (is_continued front ≡ false)
-  name_over = subst (λ t. (t ≡ []) ⊎ (is_continued front ≡ false)) same.1 (subst (λ t. (r ≡ []) ⊎ (is_continued t ≡ false)) same.0 n.over)
+  name_over = subst (λ t. (t ≡ []) ⊎ (is_continued front ≡ false)) same.1 (subst (λ t. (r ≡ []) ⊎ (is_continued t ≡ false)) same.0 n.alike.over)
 
 -- the first byte of a text that isn't empty
 pub first_passes : (test : ℕ → Bool) (text : List ℕ) → 1 ≤ length text → test (get_or text 0 0) ≡ true → IsEmptyOr (λ b. not (test b)) text → ⊥

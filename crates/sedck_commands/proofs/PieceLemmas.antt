@@ -1,6 +1,7 @@
 -- How far a delimited part has been read.
 use Rattle.std.proofs.Common.{◌≡◌, ◌≢◌, ℕ, ◌-◌, ◌<◌, ◌≤◌, take, length-append, Some, None, inl, inr, ◌⊎◌, List, [], ◌∷◌, ◌++◌, length, refl, ap, sym, ◌∙◌, subst, append_assoc, append-nil, arith}
-use Rattle.sedck_commands.specs.Parts.{DelimitedExpression, ExpressionText, DelimitedList, IsExpression, IsPattern, previous, expression}
+use Rattle.sedck_commands.specs.Parts.{DelimitedExpression, ExpressionText, DelimitedList, previous, expression}
+use Rattle.sedck_commands.specs.Private.Alike.{IsExpression, IsPattern}
 use Rattle.sedck_commands.specs.Parts as p
 use Rattle.sedck_commands.specs.declared.delimited.Piece.{Piece}
 use Rattle.sedck_commands.specs.declared.delimited.Piece.TheVariants as piece

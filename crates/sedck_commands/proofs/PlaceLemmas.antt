@@ -13,7 +13,8 @@ use Rattle.sedck_commands.specs.declared.fault.ScriptFault.{ScriptFault}
 use Rattle.sedck_commands.specs.declared.fault.ScriptFault.TheVariants as fault
 use Rattle.sedck_commands.specs.Cuts.{is_digit, is_delimiter, IsEmptyOr, Longest}
 use Rattle.sedck_commands.specs.Program.{Place, Address, Pattern, Previous, Expression, Verb, place_patterns, verb_patterns}
-use Rattle.sedck_commands.specs.Parts.{Number, DelimitedExpression, IsPattern, PlaceText, AddressText}
+use Rattle.sedck_commands.specs.Parts.{Number, DelimitedExpression, PlaceText, AddressText}
+use Rattle.sedck_commands.specs.Private.Alike.{IsPattern}
 use Rattle.sedck_commands.specs.Parts as p
 use Rattle.sedck_commands.specs.Items.{WrittenVerb, Simple, VerbText}
 use Rattle.sedck_commands.specs.Items as w

@@ -2,7 +2,8 @@
 use Rattle.std.proofs.Common.{◌≡◌, ℕ, ◌+◌, ◌≤◌, List, ◌∷◌, length, refl, ap, length-append, arith}
 use Rattle.std.specs.List.{AllByRecursion}
 use Rattle.sedck_commands.specs.Program.{Pattern, Part, Substitution, part_length, literal_length}
-use Rattle.sedck_commands.specs.Parts.{EscapedPart, IsPart, Replacement, Flags}
+use Rattle.sedck_commands.specs.Parts.{EscapedPart, IsPart, Replacement}
+use Rattle.sedck_commands.specs.Private.Alike.{Flags}
 use Rattle.sedck_commands.specs.Parts as p
 
 escaped_size : {b : ℕ} {part : Part} → EscapedPart b part → part_length part ≤ 1

@@ -4,7 +4,8 @@ use Rattle.std.specs.Prelude.{All}
 use Rattle.std.proofs.Math.ListN.{get_or-append}
 use Rattle.sedck_text.specs.Bytes.{ascii}
 use Rattle.sedck_commands.specs.Program.{Address}
-use Rattle.sedck_commands.specs.Items.{WrittenVerb, Known, JumpTo, Opening, Takes, Item, Written, Closing, MayBeBraced}
+use Rattle.sedck_commands.specs.Items.{WrittenVerb, Known, JumpTo, Opening, Takes, Item, Written, Closing}
+use Rattle.sedck_commands.specs.ReadAlike.{MayBeBraced}
 use Rattle.sedck_commands.specs.Faults.{StandsAt}
 use Rattle.sedck_commands.specs.Blocks.{Turn, Opens, Closes, Stays, Jumps, verb_turn}
 use Rattle.sedck_commands.specs.Labels.{commands_among, HasLabels, label_place}

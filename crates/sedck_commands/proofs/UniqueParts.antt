@@ -6,13 +6,14 @@ use Rattle.std.proofs.lemmas.Bool.{false≢true, false_from_ne_true, and_parts, 
 use Rattle.sedck_expressions.proofs.WholeReading.{one_tree}
 use Rattle.sedck_commands.specs.Cuts.{is_newline, is_blank, is_digit, is_letter, is_ending, IsEmptyOr, Longest}
 use Rattle.sedck_commands.specs.Program.{Pattern, Expression, Part, Text, Whole, Substitution}
-use Rattle.sedck_commands.specs.Parts.{Ends, Number, DelimitedExpression, IsPattern, previous, expression, DelimitedList, EscapedPart, Replacement, is_plain, Name, Flags, Lines, GivenText, LabelText}
+use Rattle.sedck_commands.specs.Parts.{Ends, Number, DelimitedExpression, previous, expression, DelimitedList, EscapedPart, Replacement, is_plain, Lines, GivenText, LabelText, NameIn, IsPatternIn, FlagsIn}
 use Rattle.sedck_commands.specs.Parts as p
 use Rattle.sedck_text.proofs.Runs.{longest_one}
 use Rattle.sedck_commands.proofs.FirstBytes.{heads}
 use Rattle.sedck_commands.specs.declared.delimited.Piece.{Piece}
 use Rattle.sedck_commands.specs.declared.delimited.Piece.TheVariants as piece
 use Rattle.sedck_commands.specs.Private.PieceReading.{IsPiece, list_escape}
+use Rattle.sedck_commands.specs.Narrowings.{Narrowings}
 
 pub ends_one : {text r s : List ℕ} → Ends text r → Ends text s → r ≡ s
 ends_one e f = (longest_one e.run f.run).1
@@ -20,8 +21,8 @@ ends_one e f = (longest_one e.run f.run).1
 pub number_one : {text r s : List ℕ} {m n : ℕ} → Number text m r → Number text n s → (m ≡ n) × (r ≡ s)
 number_one a b = let one = longest_one a.run b.run in (a.is ∙ ap (digits_value 10) one.0 ∙ sym b.is, one.1)
 
-pub name_one : {text f g r s : List ℕ} → Name text f r → Name text g s → (f ≡ g) × (r ≡ s)
-name_one {text} {f} {g} {r} {s} l m = longest_one l.run (subst (λ t. Longest (λ b. not (is_newline b)) t g s) (longest_one m.skipped l.skipped).1 m.run)
+pub name_one : {asks : Narrowings} {text f g r s : List ℕ} → NameIn asks text f r → NameIn asks text g s → (f ≡ g) × (r ≡ s)
+name_one {text = text} {f = f} {g = g} {r = r} {s = s} l m = longest_one l.run (subst (λ t. Longest (λ b. not (is_newline b)) t g s) (longest_one m.skipped l.skipped).1 m.run)
 
 -- ---- Pieces
 
@@ -73,7 +74,7 @@ expression_one n (p.pair {b = b} f g h x) y = let more = at_piece (piece.Pair b)
     then_one (then_one (expression_one n x more.3) refl) (cc (f, more.2))
 
 -- an expression has one pattern, since it has one tree
-pub pattern_one : {text : List ℕ} {q r : Pattern} → IsPattern text q → IsPattern text r → q ≡ r
+pub pattern_one : {asks : Narrowings} {text : List ℕ} {q r : Pattern} → IsPatternIn asks text q → IsPatternIn asks text r → q ≡ r
 pattern_one previous previous = refl
 pattern_one (expression h) (expression g) = ap Expression (one_tree _ _ _ h.0 g.0)
 
@@ -243,7 +244,7 @@ abbrev pub head_flag : List ℕ → ℕ
 head_flag [] = 0
 head_flag (b ∷ text) = flag_class b
 
-abbrev pub flag_of : {q : Pattern} {ps : List Part} {text r : List ℕ} {s : Substitution} → Flags q ps text s r → ℕ
+abbrev pub flag_of : {asks : Narrowings} {q : Pattern} {ps : List Part} {text r : List ℕ} {s : Substitution} → FlagsIn asks q ps text s r → ℕ
 flag_of (p.none e m) = 0
 flag_of (p.file e n) = 119
 flag_of (p.global e x y) = 103
@@ -257,21 +258,23 @@ end_flag (b ∷ text) e = let ends = ends_first e in rw (false_from_ne_true (is_
 pub number_flag : {text rest : List ℕ} {n : ℕ} → Number text n rest → head_flag text ≡ 1
 number_flag n = let first = number_first n in ap head_flag first.2 ∙ rw first.3 refl
 
-pub flags_begin : {q : Pattern} {ps : List Part} {text r : List ℕ} {s : Substitution} (x : Flags q ps text s r) → head_flag text ≡ flag_of x
+pub flags_begin : {asks : Narrowings} {q : Pattern} {ps : List Part} {text r : List ℕ} {s : Substitution} (x : FlagsIn asks q ps text s r)
+    → head_flag text ≡ flag_of x
 flags_begin {text = text} (p.none e m) = end_flag text e
 flags_begin (p.number n x y) = number_flag n
 flags_begin (p.file e n) = ap flag_class e
 flags_begin (p.global e x y) = ap flag_class e
 flags_begin (p.print e x y) = ap flag_class e
 
-pub flags_one : {q : Pattern} {ps : List Part} {text r s : List ℕ} {x y : Substitution} → Flags q ps text x r → Flags q ps text y s → (x ≡ y) × (r ≡ s)
+pub flags_one : {asks : Narrowings} {q : Pattern} {ps : List Part} {text r s : List ℕ} {x y : Substitution} → FlagsIn asks q ps text x r
+    → FlagsIn asks q ps text y s → (x ≡ y) × (r ≡ s)
 flags_one (p.none e m) (p.none f n) = (refl, ends_one e f)
 flags_one (p.file f g) (p.file i j) = let one = name_one g j in (ap (with_file _ _) one.0, one.1)
 flags_one (p.global f g h) (p.global i j k) = let one = flags_one g j in (ap (λ (o : Substitution). record o { global = true }) one.0, one.1)
 flags_one (p.print f g h) (p.print i j k) = let one = flags_one g j in (ap (λ (o : Substitution). record o { print = true }) one.0, one.1)
-flags_one {q} {ps} {s = s} (p.number f g h) (p.number {others = o} i j k) =
+flags_one {asks} {q} {ps} {s = s} (p.number f g h) (p.number {others = o} i j k) =
     let n = number_one f i in
-    let one = flags_one g (subst (λ t. Flags q ps t o s) (sym n.1) j) in
+    let one = flags_one g (subst (λ t. FlagsIn asks q ps t o s) (sym n.1) j) in
     (λ l. record (one.0 l) { nth = Some (n.0 l) }, one.1)
 flags_one x y = absurd (omega (arith, sym (flags_begin x) ∙ flags_begin y))
 

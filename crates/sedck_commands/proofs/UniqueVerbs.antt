@@ -6,11 +6,12 @@ use Rattle.std.proofs.lemmas.Bool.{both_ways, and_parts, eq-eqb}
 use Rattle.sedck_text.specs.Text.{one_of, begins as begins_with}
 use Rattle.sedck_commands.specs.Cuts.{is_delimiter, is_ending, is_label_byte, IsEmptyOr}
 use Rattle.sedck_commands.specs.Program.{Pattern, Part, Substitution, Verb, Label, Read, Write, Append, Change, Insert, Substitute, Transliterate}
-use Rattle.sedck_commands.specs.Parts.{Ends, LabelText, ExpressionText, Replacement, Flags, IsPattern, DelimitedList}
-use Rattle.sedck_commands.specs.Items.{WrittenVerb, Known, JumpTo, Simple, VerbText}
+use Rattle.sedck_commands.specs.Parts.{Ends, LabelText, Replacement, DelimitedList, ExpressionTextIn, IsPatternIn, FlagsIn}
+use Rattle.sedck_commands.specs.Items.{WrittenVerb, Known, JumpTo, Simple, VerbText, VerbTextIn}
 use Rattle.sedck_commands.specs.Items as w
 use Rattle.sedck_text.proofs.Runs.{longest_one}
 use Rattle.sedck_commands.proofs.UniqueParts.{label_one, ends_one, name_one, expression_one, pattern_one, list_one, replacement_one, flags_one, given_one}
+use Rattle.sedck_commands.specs.Narrowings.{Narrowings}
 
 pub simple_one : {b : ℕ} {v u : Verb} → Simple b v → Simple b u → v ≡ u
 simple_one w.line_number w.line_number = refl
@@ -36,7 +37,7 @@ abbrev pub head_class : List ℕ → ℕ
 head_class [] = 0
 head_class (b ∷ text) = class b
 
-abbrev pub class_of : {text rest : List ℕ} {v : WrittenVerb} → VerbText text v rest → ℕ
+abbrev pub class_of : {asks : Narrowings} {text rest : List ℕ} {v : WrittenVerb} → VerbTextIn asks text v rest → ℕ
 class_of (w.simple x e) = 0
 class_of (w.label h l n e) = 58
 class_of (w.jump h l n e brace) = 98
@@ -58,7 +59,7 @@ pub jump_class : (tests : Bool) → class (cond tests 116 98) ≡ 98
 jump_class true = refl
 jump_class false = refl
 
-pub begins : {text rest : List ℕ} {v : WrittenVerb} (x : VerbText text v rest) → head_class text ≡ class_of x
+pub begins : {asks : Narrowings} {text rest : List ℕ} {v : WrittenVerb} (x : VerbTextIn asks text v rest) → head_class text ≡ class_of x
 begins (w.simple x e) = simple_class x
 begins (w.label h l n e) = ap class h
 begins (w.jump {tests = t} h l n e brace) = ap class h ∙ jump_class t
@@ -95,14 +96,15 @@ starts_label (b ∷ name) behind (c ∷ rest) e some all h =
 pub label_or_end : {text name behind rest : List ℕ} → LabelText text name behind → Ends text rest → ⊥
 label_or_end {text} {name} {behind} {rest} l e = starts_label name behind rest ((longest_one e.run l.skipped).1 ∙ l.run.cut) l.some l.run.passes e.ending
 
-substitute_one : {d : ℕ} {text x y a b g h r s : List ℕ} {q u : Pattern} {ps qs : List Part} {m n : Substitution} → d ≢ 92
-    → ExpressionText d text x a → IsPattern x q → Replacement d a ps g → Flags q ps g m r
-    → ExpressionText d text y b → IsPattern y u → Replacement d b qs h → Flags u qs h n s → (m ≡ n) × (r ≡ s)
-substitute_one {d} {g = rest} {h = other} {r = r} {q = q} {u = u} {ps = ps} {qs = qs} {m = m} k x p z f y v t e =
+substitute_one : {asks : Narrowings} {d : ℕ} {text x y a b g h r s : List ℕ} {q u : Pattern} {ps qs : List Part} {m n : Substitution} → d ≢ 92
+    → ExpressionTextIn asks d text x a → IsPatternIn asks x q → Replacement d a ps g → FlagsIn asks q ps g m r
+    → ExpressionTextIn asks d text y b → IsPatternIn asks y u → Replacement d b qs h → FlagsIn asks u qs h n s → (m ≡ n) × (r ≡ s)
+substitute_one {asks} {d} {g = rest} {h = other} {r = r} {q = q} {u = u} {ps = ps} {qs = qs} {m = m} k x p z f y v t e =
     let text = expression_one k x.cut y.cut in
-    let pattern : q ≡ u = pattern_one (subst (λ c. IsPattern c q) text.0 p) v in
+    let pattern : q ≡ u = pattern_one (subst (λ c. IsPatternIn asks c q) text.0 p) v in
     let parts = replacement_one k (subst (λ c. Replacement d c ps rest) text.1 z) t in
-    flags_one (subst (λ c. Flags c qs other m r) pattern (subst (λ c. Flags q c other m r) parts.0 (subst (λ c. Flags q ps c m r) parts.1 f))) e
+    flags_one (subst (λ c. FlagsIn asks c qs other m r) pattern
+    (subst (λ c. FlagsIn asks q c other m r) parts.0 (subst (λ c. FlagsIn asks q ps c m r) parts.1 f))) e
 
 tests_of : {b : ℕ} (tests : Bool) → b ≡ cond tests 116 98 → eqb b 116 ≡ tests
 tests_of true h = rw h refl
@@ -115,7 +117,7 @@ jump_one {t = t} {u = u} {label = label} h i one p q =
     let braces = p ∙ ap (begins_with "}") one ∙ sym q in
     λ k. JumpTo (tests k) label (braces k)
 
-pub verb_one : {text r s : List ℕ} {v u : WrittenVerb} → VerbText text v r → VerbText text u s → (v ≡ u) × (r ≡ s)
+pub verb_one : {asks : Narrowings} {text r s : List ℕ} {v u : WrittenVerb} → VerbTextIn asks text v r → VerbTextIn asks text u s → (v ≡ u) × (r ≡ s)
 verb_one (w.simple x e) (w.simple y f) = (ap Known (simple_one x y), ends_one e f)
 verb_one (w.label h l n e) (w.label i m o f) = let one = label_one l m in (ap (λ t. Known (Label t)) one.0, ends_one (rw one.1 at e) f)
 verb_one (w.jump {tests = t} {braced = c} h l n e p) (w.jump i m o f q) = let one = label_one l m in

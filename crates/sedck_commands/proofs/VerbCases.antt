@@ -8,7 +8,8 @@ use Rattle.std.proofs.lemmas.Bool.{false≢true, or_cases, eqb-true, and_parts}
 use Rattle.sedck_text.specs.Text.{is_in, one_of}
 use Rattle.sedck_commands.specs.Cuts.{is_blank, Longest}
 use Rattle.sedck_commands.specs.Program.{Verb}
-use Rattle.sedck_commands.specs.Parts.{Ends, LabelText, Name, GivenText}
+use Rattle.sedck_commands.specs.Parts.{Ends, LabelText, GivenText}
+use Rattle.sedck_commands.specs.Private.Alike.{Name}
 use Rattle.sedck_commands.specs.Items.{WrittenVerb, JumpTo, Simple, VerbText, IsNoBrace}
 use Rattle.sedck_commands.specs.Items as w
 use Rattle.sedck_commands.specs.Private.Forms.{jump_byte}

@@ -3,7 +3,8 @@ use Rattle.std.proofs.Common.{◌≡◌, ◌≢◌, ℕ, List, ◌∷◌, length
 use Rattle.std.specs.Prelude.{IsTrue}
 use Rattle.sedck_commands.specs.Cuts.{is_delimiter}
 use Rattle.sedck_commands.specs.Program.{Pattern, Part, Substitution, Substitute, Transliterate}
-use Rattle.sedck_commands.specs.Parts.{Ends, DelimitedList, FirstList, Replacement, HasGroups, greatest_group, Flags}
+use Rattle.sedck_commands.specs.Parts.{Ends, DelimitedList, FirstList, Replacement, HasGroups, greatest_group}
+use Rattle.sedck_commands.specs.Private.Alike.{Flags}
 use Rattle.sedck_commands.specs.Items.{WrittenVerb, Known, VerbText}
 use Rattle.sedck_commands.specs.Items as w
 use Rattle.sedck_commands.specs.Private.PieceReading.{PatternText}

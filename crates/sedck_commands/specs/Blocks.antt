@@ -1,6 +1,7 @@
 -- Which items close each block that they open.
 use Rattle.std.specs.Prelude.{◌≡◌, ℕ, suc, zero, ◌<◌, Bool, List, [], ◌∷◌}
-use Rattle.sedck_commands.specs.Items.{WrittenVerb, Known, JumpTo, Opening, Item, Written, Closing, MayBeBraced}
+use Rattle.sedck_commands.specs.Items.{WrittenVerb, Known, JumpTo, Opening, Item, Written, Closing}
+use Rattle.sedck_commands.specs.ReadAlike.{MayBeBraced}
 
 -- what an item does to the number of open blocks; a jump leaves it, and says whether a `}` is right after its label
 pub data Turn : Type 0 where

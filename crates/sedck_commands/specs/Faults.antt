@@ -11,7 +11,8 @@ use Rattle.sedck_expressions.specs.declared.fault.ReFault.{ReFault}
 use Rattle.sedck_commands.specs.Cuts.{backslash, is_blank, is_digit, is_label_byte, is_separator, is_ending, can_be_escaped, is_delimiter, Longest}
 use Rattle.sedck_commands.specs.BracketLists.{BracketList, BracketsClose}
 use Rattle.sedck_commands.specs.Program.{Place, Address, NoAddress, Label}
-use Rattle.sedck_commands.specs.Parts.{Number, DelimitedExpression, is_misread, ExpressionText, DelimitedList, PlaceText, AddressText}
+use Rattle.sedck_commands.specs.Parts.{Number, DelimitedExpression, ExpressionText, DelimitedList, PlaceText, AddressText}
+use Rattle.sedck_commands.specs.ReadAlike.{is_misread}
 use Rattle.sedck_commands.specs.Items.{WrittenVerb, Known, VerbText, Item, Written, Items}
 use Rattle.sedck_commands.specs.declared.fault.ScriptFault.{ScriptFault}
 use Rattle.sedck_commands.specs.declared.fault.ScriptFault.TheVariants as fault

@@ -1,12 +1,14 @@
 -- A script's text as items: commands, with labels where targets will be, and closings of blocks (POSIX.1-2024 XCU sed, "Editing Commands in sed").
 -- "Ours" marks what the standard leaves open or undefined.
-use Rattle.std.specs.Prelude.{◌≡◌, ◌≢◌, ℕ, ◌≤◌, Bool, true, false, not, ◌&&◌, ◌||◌, ◌==◌, if◌then◌else◌, List, [], ◌∷◌, ◌++◌, length, Option, Some, None, IsTrue}
+use Rattle.std.specs.Prelude.{◌≡◌, ◌≢◌, ℕ, Bool, false, not, ◌||◌, ◌==◌, if◌then◌else◌, List, [], ◌∷◌, length, Option, Some, None, IsTrue}
 use Rattle.std.specs.List.{list_any}
 use Rattle.sedck_text.specs.Text.{begins}
-use Rattle.sedck_text.specs.Bytes.{carriage_return, ascii}
+use Rattle.sedck_text.specs.Bytes.{ascii}
 use Rattle.sedck_commands.specs.Cuts.{is_newline, is_blank, is_separator, is_delimiter, IsEmptyOr, Longest}
 use Rattle.sedck_commands.specs.Program.{Pattern, Address, NoAddress, Two, Part, Substitution, Verb, Label, Append, Change, Insert, Read, Write, Substitute, Transliterate, Delete, DeleteFirstLine, Get, GetAppend, Hold, HoldAppend, List', Next, NextAppend, Print, PrintFirstLine, Quit, Exchange, LineNumber}
-use Rattle.sedck_commands.specs.Parts.{Ends, ExpressionText, IsPattern, DelimitedList, FirstList, Replacement, HasGroups, Name, Flags, GivenText, LabelText, AddressText}
+use Rattle.sedck_commands.specs.Narrowings.{Narrowings}
+use Rattle.sedck_commands.specs.ReadAlike.{read_alike}
+use Rattle.sedck_commands.specs.Parts.{Ends, ExpressionTextIn, IsPatternIn, DelimitedList, FirstListIn, Replacement, HasGroups, NameIn, FlagsIn, GivenText, LabelText, AddressTextIn}
 
 -- A verb as it is written. A branch or a test names a label, or none for the end of the script, and says whether a `}` is right after it.
 pub data WrittenVerb : Type 0 where
@@ -44,47 +46,38 @@ IsNoComment text = IsEmptyOr (λ b. not (b == ascii "#")) text
 abbrev pub IsNoBrace : List ℕ → Type 0
 IsNoBrace text = IsEmptyOr (λ b. not ((b == ascii "#") || (b == ascii "}"))) text
 
--- one or more `}` begin the text, and a `#` is right after them
-abbrev pub begins_braced_comment : List ℕ → Bool
-begins_braced_comment [] = false
-begins_braced_comment (b ∷ text) = (b == ascii "}") && (begins "#" text || begins_braced_comment text)
-
--- The end of a branch or a test. Some seds take a `}` after a label, and all up to a blank, a newline or a `;`, into the label: no comment is there (ours).
-abbrev pub EndsJump : List ℕ → List ℕ → Type 0
-EndsJump text rest = Ends text rest × (begins_braced_comment rest ≡ false)
+-- the end of a branch or a test
+abbrev pub EndsJumpIn : Narrowings → List ℕ → List ℕ → Type 0
+EndsJumpIn n text rest = Ends text rest × n.AfterJump rest
 
 -- A verb with what it takes and its end. No comment is after a `b` or a `t` without a label (ours): some seds take the `#` for one, up to the next `;`.
-pub data VerbText : List ℕ → WrittenVerb → List ℕ → Type 0 where
-  simple : {b : ℕ} {text rest : List ℕ} {verb : Verb} → Simple b verb → Ends text rest → VerbText (b ∷ text) (Known verb) rest
+pub data VerbTextIn (n : Narrowings) : List ℕ → WrittenVerb → List ℕ → Type 0 where
+  simple : {b : ℕ} {text rest : List ℕ} {verb : Verb} → Simple b verb → Ends text rest → VerbTextIn n (b ∷ text) (Known verb) rest
   label : {b : ℕ} {text name behind rest : List ℕ} → b ≡ ascii ":" → LabelText text name behind → IsNoBrace behind → Ends behind rest
-      → VerbText (b ∷ text) (Known (Label name)) rest
+      → VerbTextIn n (b ∷ text) (Known (Label name)) rest
   jump : {b : ℕ} {text name behind rest : List ℕ} {tests braced : Bool} → b ≡ (if tests then ascii "t" else ascii "b") → LabelText text name behind
-      → IsNoComment behind → EndsJump behind rest → braced ≡ begins "}" behind → VerbText (b ∷ text) (JumpTo tests (Some name) braced) rest
+      → IsNoComment behind → EndsJumpIn n behind rest → braced ≡ begins "}" behind → VerbTextIn n (b ∷ text) (JumpTo tests (Some name) braced) rest
   jump_to_end : {b : ℕ} {text rest : List ℕ} {tests braced : Bool} → b ≡ (if tests then ascii "t" else ascii "b") → IsNoComment rest
-      → EndsJump text rest → braced ≡ begins "}" rest → VerbText (b ∷ text) (JumpTo tests None braced) rest
-  opening : {b : ℕ} {rest : List ℕ} → b ≡ ascii "{" → VerbText (b ∷ rest) Opening rest
+      → EndsJumpIn n text rest → braced ≡ begins "}" rest → VerbTextIn n (b ∷ text) (JumpTo tests None braced) rest
+  opening : {b : ℕ} {rest : List ℕ} → b ≡ ascii "{" → VerbTextIn n (b ∷ rest) Opening rest
   append : {b : ℕ} {text blanks begins bytes rest : List ℕ} → b ≡ ascii "a" → Longest is_blank text blanks begins → GivenText begins bytes rest
-      → VerbText (b ∷ text) (Known (Append bytes)) rest
+      → VerbTextIn n (b ∷ text) (Known (Append bytes)) rest
   change : {b : ℕ} {text blanks begins bytes rest : List ℕ} → b ≡ ascii "c" → Longest is_blank text blanks begins → GivenText begins bytes rest
-      → VerbText (b ∷ text) (Known (Change bytes)) rest
+      → VerbTextIn n (b ∷ text) (Known (Change bytes)) rest
   insert : {b : ℕ} {text blanks begins bytes rest : List ℕ} → b ≡ ascii "i" → Longest is_blank text blanks begins → GivenText begins bytes rest
-      → VerbText (b ∷ text) (Known (Insert bytes)) rest
-  read : {b : ℕ} {text name rest : List ℕ} → b ≡ ascii "r" → Name text name rest → VerbText (b ∷ text) (Known (Read name)) rest
-  write : {b : ℕ} {text name rest : List ℕ} → b ≡ ascii "w" → Name text name rest → VerbText (b ∷ text) (Known (Write name)) rest
+      → VerbTextIn n (b ∷ text) (Known (Insert bytes)) rest
+  read : {b : ℕ} {text name rest : List ℕ} → b ≡ ascii "r" → NameIn n text name rest → VerbTextIn n (b ∷ text) (Known (Read name)) rest
+  write : {b : ℕ} {text name rest : List ℕ} → b ≡ ascii "w" → NameIn n text name rest → VerbTextIn n (b ∷ text) (Known (Write name)) rest
   substitute : {b delimiter : ℕ} {text expression behind flags rest : List ℕ} {pattern : Pattern} {parts : List Part} {substitution : Substitution}
       → b ≡ ascii "s" → IsTrue (is_delimiter delimiter)
-      → ExpressionText delimiter text expression behind → IsPattern expression pattern
+      → ExpressionTextIn n delimiter text expression behind → IsPatternIn n expression pattern
       → Replacement delimiter behind parts flags → HasGroups pattern parts
-      → Flags pattern parts flags substitution rest
-      → VerbText (b ∷ delimiter ∷ text) (Known (Substitute substitution)) rest
+      → FlagsIn n pattern parts flags substitution rest
+      → VerbTextIn n (b ∷ delimiter ∷ text) (Known (Substitute substitution)) rest
   transliterate : {b delimiter : ℕ} {text from behind to after rest : List ℕ}
       → b ≡ ascii "y" → IsTrue (is_delimiter delimiter)
-      → FirstList delimiter text from behind → DelimitedList delimiter behind to after → length from ≡ length to → Ends after rest
-      → VerbText (b ∷ delimiter ∷ text) (Known (Transliterate from to)) rest
-
--- Where a `}` is right after a label, at most one block is open (ours): seds that take it into the label would end an inner block only with the outer one.
-abbrev pub MayBeBraced : Bool → ℕ → Type 0
-MayBeBraced braced depth = braced ≡ true → depth ≤ 1
+      → FirstListIn n delimiter text from behind → DelimitedList delimiter behind to after → length from ≡ length to → Ends after rest
+      → VerbTextIn n (b ∷ delimiter ∷ text) (Known (Transliterate from to)) rest
 
 -- The verb takes these addresses and this `!`: a label takes none, and `q` no two addresses.
 abbrev pub Takes : WrittenVerb → Address → Bool → Type 0
@@ -93,27 +86,34 @@ Takes (Known Quit) given negated = (p q : _) → given ≢ Two p q
 Takes _ given negated = Unit {0}
 
 -- A command: its addresses, then blanks (ours) and any number of `!`, then its verb. It is negated where there is a `!`.
-pub record CommandText (text : List ℕ) (address : Address) (negated : Bool) (verb : WrittenVerb) (rest : List ℕ) : Type 0 where
+pub record CommandTextIn (n : Narrowings) (text : List ℕ) (address : Address) (negated : Bool) (verb : WrittenVerb) (rest : List ℕ) : Type 0 where
   pub behind : List ℕ
-  pub addresses : AddressText text address behind
+  pub addresses : AddressTextIn n text address behind
   pub marks : List ℕ
   pub begins : List ℕ
   pub run : Longest (λ b. is_blank b || (b == ascii "!")) behind marks begins
   pub mark : negated ≡ list_any (λ b. b == ascii "!") marks
-  pub verbs : VerbText begins verb rest
+  pub verbs : VerbTextIn n begins verb rest
   pub taken : Takes verb address negated
 
--- A carriage return in a comment is the last byte of its line (ours): some seds end the comment there, and read commands after it.
-abbrev pub HasNoInnerReturn : List ℕ → Type 0
-HasNoInnerReturn comment = (front behind : List ℕ) → comment ≡ front ++ carriage_return ∷ behind → behind ≡ []
-
 -- The items of a text. Any number of blanks, newlines and `;` may precede an item, and a comment runs to the end of its line.
-pub data Items : List ℕ → List Item → Type 0 where
-  nothing : {text separators : List ℕ} → Longest is_separator text separators [] → Items text []
+pub data ItemsIn (n : Narrowings) : List ℕ → List Item → Type 0 where
+  nothing : {text separators : List ℕ} → Longest is_separator text separators [] → ItemsIn n text []
   comment : {b : ℕ} {text separators begins line rest : List ℕ} {items : List Item} → Longest is_separator text separators (b ∷ begins) → b ≡ ascii "#"
-      → Longest (λ c. not (is_newline c)) begins line rest → HasNoInnerReturn line → Items rest items → Items text items
+      → Longest (λ c. not (is_newline c)) begins line rest → n.Commented line → ItemsIn n rest items → ItemsIn n text items
   closing : {b : ℕ} {text separators begins rest : List ℕ} {items : List Item} → Longest is_separator text separators (b ∷ begins) → b ≡ ascii "}"
-      → Ends begins rest → Items rest items → Items text (Closing ∷ items)
+      → Ends begins rest → ItemsIn n rest items → ItemsIn n text (Closing ∷ items)
   command : {text separators begins rest : List ℕ} {address : Address} {negated : Bool} {verb : WrittenVerb} {items : List Item}
-      → Longest is_separator text separators begins → CommandText begins address negated verb rest → Items rest items
-      → Items text (Written address negated verb ∷ items)
+      → Longest is_separator text separators begins → CommandTextIn n begins address negated verb rest → ItemsIn n rest items
+      → ItemsIn n text (Written address negated verb ∷ items)
+
+-- ---- The same as seds read them alike
+
+abbrev pub VerbText : List ℕ → WrittenVerb → List ℕ → Type 0
+VerbText = VerbTextIn read_alike
+
+abbrev pub CommandText : List ℕ → Address → Bool → WrittenVerb → List ℕ → Type 0
+CommandText = CommandTextIn read_alike
+
+abbrev pub Items : List ℕ → List Item → Type 0
+Items = ItemsIn read_alike

@@ -12,7 +12,9 @@ pub mod View
 pub mod ReplacementView
 pub mod Items
 pub mod Locations
+pub mod Narrowings
 pub mod BracketLists
+pub mod ReadAlike
 pub mod Parts
 pub mod Cuts
 pub mod References

@@ -1,16 +1,15 @@
 -- The parts of a command (POSIX.1-2024 XCU sed, "Addresses in sed", "Regular Expressions in sed" and "Editing Commands in sed"). Each relation takes the
--- text from where the part begins, what the part means, and the rest of the text. "Ours" marks what the standard leaves open or undefined.
-use Rattle.std.specs.Prelude.{◌≡◌, ◌≢◌, ℕ, ◌<◌, ◌≤◌, ◌^◌, ◌-◌, Bool, true, false, not, ◌&&◌, ◌||◌, ◌==◌, if◌then◌else◌, List, [], ◌∷◌, ◌++◌, length, Some, None, IsTrue, Contains, ◌⊎◌}
+-- text from where the part begins, what the part means, and the rest of the text; some take first what is asked besides. "Ours" marks what the standard
+-- leaves open or undefined.
+use Rattle.std.specs.Prelude.{◌≡◌, ◌≢◌, ℕ, ◌<◌, ◌≤◌, ◌^◌, ◌-◌, true, false, not, List, [], ◌∷◌, length, Some, None, IsTrue, Contains}
 use Rattle.std.specs.Str.Parse.{digits_value}
-use Rattle.sedck_text.specs.Text.{is_in, one_of, begins}
-use Rattle.sedck_bre.specs.Tree.{Tree, group_count}
+use Rattle.sedck_bre.specs.Tree.{group_count}
 use Rattle.sedck_bre.specs.Shape.{Shape}
-use Rattle.sedck_expressions.specs.Misjudged.{is_misjudged}
-use Rattle.sedck_bre.specs.Brackets.{is_from}
-use Rattle.sedck_text.specs.Bytes.{vertical_tab, carriage_return, ascii}
+use Rattle.sedck_text.specs.Bytes.{ascii}
 pub use Rattle.sedck_text.specs.Classes.{is_plain}
-use Rattle.sedck_commands.specs.Cuts.{newline, backslash, is_newline, is_blank, is_digit, is_letter, is_label_byte, is_ending, can_be_escaped, is_delimiter, is_continued, IsEmptyOr, Longest}
-use Rattle.sedck_commands.specs.BracketLists.{BracketsClose}
+use Rattle.sedck_commands.specs.Cuts.{newline, backslash, is_newline, is_blank, is_digit, is_letter, is_label_byte, is_ending, can_be_escaped, is_delimiter, IsEmptyOr, Longest}
+use Rattle.sedck_commands.specs.Narrowings.{Narrowings}
+use Rattle.sedck_commands.specs.ReadAlike.{read_alike}
 use Rattle.sedck_commands.specs.Program.{Pattern, Previous, Expression, Place, Line, Last, Context, Address, NoAddress, One, Two, Part, Text, Newline, Tab, Whole, Group, Substitution}
 
 -- The end of a command: blanks, and then what ends one or the end of the script, where the rest begins.
@@ -38,39 +37,15 @@ pub data DelimitedExpression (delimiter : ℕ) : List ℕ → List ℕ → List 
   pair : {a b : ℕ} {text expression rest : List ℕ} → a ≡ backslash → b ≢ delimiter → b ≢ newline
       → DelimitedExpression delimiter text expression rest → DelimitedExpression delimiter (a ∷ b ∷ text) (a ∷ b ∷ expression) rest
 
--- the text begins with a letter or a digit, and neither a sign of repetition nor a backslash is after it
-abbrev pub begins_firmly : List ℕ → Bool
-begins_firmly [] = false
-begins_firmly (b ∷ text) = (is_letter b || is_digit b) && not (begins "*\\" text)
-
--- a quote is in the text, and what is right after it may be left out
-abbrev pub has_loose_quote : List ℕ → Bool
-has_loose_quote [] = false
-has_loose_quote (b ∷ text) = ((b == ascii "'") && not (begins_firmly text)) || has_loose_quote text
-
--- Some sed reads an escaped delimiter otherwise. Beside a `[`, GNU sed takes `\x5b` for the byte 0x5b before it takes the backslash of the delimiter `x`
--- away, so that a list may end elsewhere. In a list, GNU sed and BusyBox keep the backslash of `\:` and `\=`: `[\:` and `[\=` begin no class and the list
--- ends earlier; with a backslash in it, what is left may be more than bytes. For BusyBox `\'` is the end of the text, and no match goes on after it.
-abbrev pub is_misread : ℕ → List ℕ → Bool
-is_misread delimiter expression =
-    if delimiter == ascii "x" then is_in (ascii "[") expression
-    else if one_of ":=" delimiter then is_in (ascii "[") expression && is_in backslash expression
-    else if delimiter == ascii "'" then has_loose_quote expression
-    else false
-
--- An expression as it may be written: where some sed would read an escaped delimiter otherwise, there is none (ours), and the text has its very bytes.
-pub record ExpressionText (delimiter : ℕ) (text expression rest : List ℕ) : Type 0 where
+-- an expression as it may be cut out
+pub record ExpressionTextIn (n : Narrowings) (delimiter : ℕ) (text expression rest : List ℕ) : Type 0 where
   pub cut : DelimitedExpression delimiter text expression rest
-  pub as_written : IsTrue (is_misread delimiter expression) → text ≡ expression ++ delimiter ∷ rest
-
--- the text spells the expression, and it is none that matchers of real seds get wrong (ours)
-abbrev pub IsExpression : List ℕ → Tree → Type 0
-IsExpression text tree = Shape text tree × (is_misjudged tree ≡ false)
+  pub alike : n.Cut delimiter text expression rest
 
 -- the pattern of an expression: the empty one stands for another of the script
-pub data IsPattern : List ℕ → Pattern → Type 0 where
-  previous : IsPattern [] Previous
-  expression : {b : ℕ} {bytes : List ℕ} {tree : _} → IsExpression (b ∷ bytes) tree → IsPattern (b ∷ bytes) (Expression tree)
+pub data IsPatternIn (n : Narrowings) : List ℕ → Pattern → Type 0 where
+  previous : IsPatternIn n [] Previous
+  expression : {b : ℕ} {bytes : List ℕ} {tree : _} → Shape (b ∷ bytes) tree × n.Matched tree → IsPatternIn n (b ∷ bytes) (Expression tree)
 
 -- One list of a `y` command after its opening delimiter.
 pub data DelimitedList (delimiter : ℕ) : List ℕ → List ℕ → List ℕ → Type 0 where
@@ -84,12 +59,10 @@ pub data DelimitedList (delimiter : ℕ) : List ℕ → List ℕ → List ℕ �
   line : {a b : ℕ} {text bytes rest : List ℕ} → a ≡ backslash → b ≢ delimiter → b ≡ ascii "n"
       → DelimitedList delimiter text bytes rest → DelimitedList delimiter (a ∷ b ∷ text) (newline ∷ bytes) rest
 
--- The first list of `y`. As written it leaves no bracket list open (ours): some seds look for its end outside of those, and read our second list as commands.
-pub record FirstList (delimiter : ℕ) (text bytes rest : List ℕ) : Type 0 where
+-- the first list of `y`
+pub record FirstListIn (n : Narrowings) (delimiter : ℕ) (text bytes rest : List ℕ) : Type 0 where
   pub list : DelimitedList delimiter text bytes rest
-  pub written : List ℕ
-  pub cut : text ≡ written ++ delimiter ∷ rest
-  pub closed : BracketsClose written []
+  pub alike : n.Listed delimiter text rest
 
 -- what a backslash and this byte mean in a replacement; the tab is ours
 pub data EscapedPart : ℕ → Part → Type 0 where
@@ -124,34 +97,27 @@ greatest_group (Expression tree) = group_count tree
 abbrev pub HasGroups : Pattern → List Part → Type 0
 HasGroups pattern parts = (k : ℕ) → Contains parts (Group k) → k ≤ greatest_group pattern
 
--- A file name: blanks, and then all of the line, at least a byte. It begins with no vertical tab, form feed or carriage return, which some seds skip, and
--- where a line follows it doesn't end in an odd number of backslashes, since some seds join these lines (ours).
-pub record Name (text name rest : List ℕ) : Type 0 where
+-- A file name: blanks, and then all of the line, at least a byte.
+pub record NameIn (n : Narrowings) (text name rest : List ℕ) : Type 0 where
   pub blanks : List ℕ
   pub begins : List ℕ
   pub skipped : Longest is_blank text blanks begins
   pub run : Longest (λ b. not (is_newline b)) begins name rest
   pub some : 0 < length name
-  pub plain : IsEmptyOr (λ b. not (is_from vertical_tab carriage_return b)) name
-  pub over : (rest ≡ []) ⊎ (is_continued name ≡ false)
-
--- A comment that begins the text doesn't end in an odd number of backslashes where a line follows: some seds join these lines, and skip both (ours).
-abbrev pub HasSingleComment : List ℕ → Type 0
-HasSingleComment text =
-    IsTrue (begins "#" text) → (line rest : List ℕ) → Longest (λ b. not (is_newline b)) text line rest → (rest ≡ []) ⊎ (is_continued line ≡ false)
+  pub alike : n.Named name rest
 
 -- The flags of a substitution, in any order, each at most once; a file's name is the last.
-pub data Flags (pattern : Pattern) (parts : List Part) : List ℕ → Substitution → List ℕ → Type 0 where
-  none : {text rest : List ℕ} → Ends text rest → HasSingleComment rest
-      → Flags pattern parts text (record { pattern = pattern; parts = parts; global = false; print = false; nth = None; file = None }) rest
-  file : {b : ℕ} {text name rest : List ℕ} → b ≡ ascii "w" → Name text name rest
-      → Flags pattern parts (b ∷ text) (record { pattern = pattern; parts = parts; global = false; print = false; nth = None; file = Some name }) rest
-  global : {b : ℕ} {text rest : List ℕ} {others : Substitution} → b ≡ ascii "g" → Flags pattern parts text others rest → others.global ≡ false
-      → Flags pattern parts (b ∷ text) (record others { global = true }) rest
-  print : {b : ℕ} {text rest : List ℕ} {others : Substitution} → b ≡ ascii "p" → Flags pattern parts text others rest → others.print ≡ false
-      → Flags pattern parts (b ∷ text) (record others { print = true }) rest
-  number : {n : ℕ} {text behind rest : List ℕ} {others : Substitution} → Number text n behind → Flags pattern parts behind others rest → others.nth ≡ None
-      → Flags pattern parts text (record others { nth = Some n }) rest
+pub data FlagsIn (n : Narrowings) (pattern : Pattern) (parts : List Part) : List ℕ → Substitution → List ℕ → Type 0 where
+  none : {text rest : List ℕ} → Ends text rest → n.AfterFlags rest
+      → FlagsIn n pattern parts text (record { pattern = pattern; parts = parts; global = false; print = false; nth = None; file = None }) rest
+  file : {b : ℕ} {text name rest : List ℕ} → b ≡ ascii "w" → NameIn n text name rest
+      → FlagsIn n pattern parts (b ∷ text) (record { pattern = pattern; parts = parts; global = false; print = false; nth = None; file = Some name }) rest
+  global : {b : ℕ} {text rest : List ℕ} {others : Substitution} → b ≡ ascii "g" → FlagsIn n pattern parts text others rest → others.global ≡ false
+      → FlagsIn n pattern parts (b ∷ text) (record others { global = true }) rest
+  print : {b : ℕ} {text rest : List ℕ} {others : Substitution} → b ≡ ascii "p" → FlagsIn n pattern parts text others rest → others.print ≡ false
+      → FlagsIn n pattern parts (b ∷ text) (record others { print = true }) rest
+  number : {nth : ℕ} {text behind rest : List ℕ} {others : Substitution} → Number text nth behind → FlagsIn n pattern parts behind others rest
+      → others.nth ≡ None → FlagsIn n pattern parts text (record others { nth = Some nth }) rest
 
 -- The lines of a text, up to the first newline that no backslash escapes, or the end of the script. A backslash and the byte after it are both kept.
 pub data Lines : List ℕ → List ℕ → List ℕ → Type 0 where
@@ -177,18 +143,32 @@ pub record LabelText (text name rest : List ℕ) : Type 0 where
   pub some : 0 < length name
 
 -- One address.
-pub data PlaceText : List ℕ → Place → List ℕ → Type 0 where
-  line : {text rest : List ℕ} {n : ℕ} → Number text n rest → PlaceText text (Line n) rest
-  last : {b : ℕ} {rest : List ℕ} → b ≡ ascii "$" → PlaceText (b ∷ rest) Last rest
+pub data PlaceTextIn (n : Narrowings) : List ℕ → Place → List ℕ → Type 0 where
+  line : {text rest : List ℕ} {number : ℕ} → Number text number rest → PlaceTextIn n text (Line number) rest
+  last : {b : ℕ} {rest : List ℕ} → b ≡ ascii "$" → PlaceTextIn n (b ∷ rest) Last rest
   context : {b : ℕ} {text expression rest : List ℕ} {pattern : Pattern} → b ≡ ascii "/"
-      → ExpressionText (ascii "/") text expression rest → IsPattern expression pattern → PlaceText (b ∷ text) (Context pattern) rest
+      → ExpressionTextIn n (ascii "/") text expression rest → IsPatternIn n expression pattern → PlaceTextIn n (b ∷ text) (Context pattern) rest
   custom : {b delimiter : ℕ} {text expression rest : List ℕ} {pattern : Pattern} → b ≡ backslash → IsTrue (is_delimiter delimiter)
-      → ExpressionText delimiter text expression rest → IsPattern expression pattern → PlaceText (b ∷ delimiter ∷ text) (Context pattern) rest
+      → ExpressionTextIn n delimiter text expression rest → IsPatternIn n expression pattern → PlaceTextIn n (b ∷ delimiter ∷ text) (Context pattern) rest
 
 -- The addresses of a command; blanks may be around the comma (ours).
-pub data AddressText : List ℕ → Address → List ℕ → Type 0 where
-  none : {text : List ℕ} → AddressText text NoAddress text
-  one : {text rest : List ℕ} {p : Place} → PlaceText text p rest → AddressText text (One p) rest
-  two : {text behind blanks more front second rest : List ℕ} {b : ℕ} {p q : Place} → PlaceText text p behind
+pub data AddressTextIn (n : Narrowings) : List ℕ → Address → List ℕ → Type 0 where
+  none : {text : List ℕ} → AddressTextIn n text NoAddress text
+  one : {text rest : List ℕ} {p : Place} → PlaceTextIn n text p rest → AddressTextIn n text (One p) rest
+  two : {text behind blanks more front second rest : List ℕ} {b : ℕ} {p q : Place} → PlaceTextIn n text p behind
       → Longest is_blank behind blanks (b ∷ more) → b ≡ ascii "," → Longest is_blank more front second
-      → PlaceText second q rest → AddressText text (Two p q) rest
+      → PlaceTextIn n second q rest → AddressTextIn n text (Two p q) rest
+
+-- ---- The same as seds read them alike
+
+abbrev pub ExpressionText : ℕ → List ℕ → List ℕ → List ℕ → Type 0
+ExpressionText = ExpressionTextIn read_alike
+
+abbrev pub FirstList : ℕ → List ℕ → List ℕ → List ℕ → Type 0
+FirstList = FirstListIn read_alike
+
+abbrev pub PlaceText : List ℕ → Place → List ℕ → Type 0
+PlaceText = PlaceTextIn read_alike
+
+abbrev pub AddressText : List ℕ → Address → List ℕ → Type 0
+AddressText = AddressTextIn read_alike

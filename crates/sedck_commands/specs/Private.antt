@@ -1,5 +1,6 @@
 -- What functions inside the crate promise each other: no contract of an exported function reaches it.
 pub mod AddressReading
+pub mod Alike
 pub mod CommentReading
 pub mod FlagReading
 pub mod Forms

@@ -2,7 +2,7 @@
 
 ghost use Rattle.std.specs.Prelude.{◌≡◌, ℕ, List, option_copied, IfOk, IfErr};
 ghost use Rattle.sedck_commands.specs.Program as clean;
-ghost use Rattle.sedck_commands.specs.Parts.{Flags};
+ghost use Rattle.sedck_commands.specs.Private.Alike.{Flags};
 ghost use Rattle.sedck_commands.specs.Faults.{IsPlaced};
 ghost use Rattle.sedck_text.specs.Cursors.{unread};
 ghost use Rattle.sedck_commands.specs.Private.FlagReading.{IsFlag, with_flags};

@@ -2,7 +2,7 @@
 
 ghost use Rattle.std.specs.Prelude.{◌≡◌, ◌⊎◌, ℕ, List, IfSome, IfNone};
 ghost use Rattle.sedck_commands.specs.Cuts.{is_continued};
-ghost use Rattle.sedck_commands.specs.Parts.{Name};
+ghost use Rattle.sedck_commands.specs.Private.Alike.{Name};
 ghost use Rattle.sedck_commands.specs.Faults.{IsPlaced};
 ghost use Rattle.sedck_text.specs.Cursors.{unread};
 ghost use Rattle.sedck_commands.specs.Private.NameReading.{is_skipped};

@@ -11,3 +11,4 @@ pub mod SizesWithin
 pub mod SpelledIsScript
 pub mod ShortestLemmas
 pub mod UniqueScripts
+pub mod SpelledIsRead

@@ -2,9 +2,10 @@
 use Rattle.std.proofs.Common.{◌≡◌, ◌↔◌, ℕ, Bool, true, false, cond, zero, suc, List, [], ◌∷◌, ◌++◌, length, Some, refl, ap, sym, ◌∙◌, arith}
 use Rattle.sedck_commands.specs.Program.{NoAddress, Label, Branch, Test, Command}
 use Rattle.sedck_commands.specs.Items.{Known, Item, Written, Closing}
-use Rattle.sedck_script.specs.Resolution.{Defines, AreLabelsDistinct, Resolves, done, known, jump, opening, closing}
+use Rattle.sedck_script.specs.Resolution.{Defines, AreLabelsDistinct, Resolves, done, known, jump, opening, closing, ResolvesIn}
 use Rattle.sedck_commands.specs.Labels.{IsLabelOf, AreLabelsOnce, commands_among}
 use Rattle.sedck_commands.specs.Blocks.{Turn, Opens, Closes, Stays, Jumps, turn_of, Turned, Nests}
+use Rattle.sedck_commands.specs.Narrowings.{Narrowings}
 
 pub resolves_nests : {A cs : List Command} {blocks : List ℕ} {place : ℕ} {items : List Item} → Resolves A blocks place items cs → Nests items (length blocks)
 resolves_nests done = refl
@@ -13,7 +14,7 @@ resolves_nests (jump t may h r) = (may, resolves_nests r)
 resolves_nests (opening h r) = (h, resolves_nests r)
 resolves_nests (closing h r) = resolves_nests r
 
-pub resolves_length : {A cs : List Command} {blocks : List ℕ} {place : ℕ} {items : List Item} → Resolves A blocks place items cs
+pub resolves_length : {asks : Narrowings} {A cs : List Command} {blocks : List ℕ} {place : ℕ} {items : List Item} → ResolvesIn asks A blocks place items cs
     → length cs ≡ length (commands_among items)
 resolves_length done = refl
 resolves_length (known r) = ap suc (resolves_length r)
@@ -71,7 +72,8 @@ written_same : {c d : Command} → Some c ≡ Some d → Some (Written c.address
 written_same {c} {d} h = let same : c ≡ d = cc h in ap (λ x. Some (Written x.address x.negated (Known x.verb))) same
 
 -- a label's item becomes the command that defines it, and no other does
-label_same : {A cs : List Command} {blocks : List ℕ} {place : ℕ} {items : List Item} → Resolves A blocks place items cs → (name : List ℕ) (i : ℕ)
+label_same : {asks : Narrowings} {A cs : List Command} {blocks : List ℕ} {place : ℕ} {items : List Item} → ResolvesIn asks A blocks place items cs
+    → (name : List ℕ) (i : ℕ)
     → IsLabelOf (commands_among items) name i ↔ Defines cs name i
 label_same done name i = (λ h. absurd (cc h), λ h. absurd (cc h))
 label_same (known r) name zero = (λ h. ap Some (label_command h), λ h. written_same h)
@@ -82,11 +84,11 @@ label_same (jump t may x r) name (suc i) = label_same r name i
 label_same (opening x r) name (suc i) = label_same r name i
 label_same (closing x r) name i = label_same r name i
 
-pub label_defined : {A cs : List Command} {blocks : List ℕ} {place : ℕ} {items : List Item} → Resolves A blocks place items cs
+pub label_defined : {asks : Narrowings} {A cs : List Command} {blocks : List ℕ} {place : ℕ} {items : List Item} → ResolvesIn asks A blocks place items cs
     → (name : List ℕ) (i : ℕ) → IsLabelOf (commands_among items) name i → Defines cs name i
 label_defined r name i h = (label_same r name i).0 h
 
-pub label_written : {A cs : List Command} {blocks : List ℕ} {place : ℕ} {items : List Item} → Resolves A blocks place items cs
+pub label_written : {asks : Narrowings} {A cs : List Command} {blocks : List ℕ} {place : ℕ} {items : List Item} → ResolvesIn asks A blocks place items cs
     → (name : List ℕ) (i : ℕ) → Defines cs name i → IsLabelOf (commands_among items) name i
 label_written r name i h = (label_same r name i).1 h
 

@@ -7,7 +7,8 @@ use Rattle.std.specs.Prelude.{All}
 use Rattle.std.specs.Borrow.{Bor}
 use Rattle.std.specs.HashMap.{HashMap}
 use Rattle.sedck_commands.specs.Program.{Address, Command}
-use Rattle.sedck_commands.specs.Items.{WrittenVerb, Known, JumpTo, Opening, Item, Written, Closing, MayBeBraced}
+use Rattle.sedck_commands.specs.Items.{WrittenVerb, Known, JumpTo, Opening, Item, Written, Closing}
+use Rattle.sedck_commands.specs.ReadAlike.{MayBeBraced}
 use Rattle.sedck_script.specs.Resolution.{Defines, LeadsTo, Resolves, done, known, jump, opening, closing}
 use Rattle.sedck_commands.specs.Labels.{label_place, HasLabels, commands_among}
 use Rattle.sedck_commands.specs.Blocks.{verb_turn, Turned, Nests}

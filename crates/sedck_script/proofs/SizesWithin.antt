@@ -7,7 +7,8 @@ use Rattle.std.proofs.lemmas.List.Elements.{All-from_recursion, All-contains, Co
 use Rattle.std.proofs.lemmas.List.Sums.{AllPass-from_list_all}
 use Rattle.sedck_commands.specs.Cuts.{is_newline}
 use Rattle.sedck_commands.specs.Program.{Pattern, Part, Substitution, Verb}
-use Rattle.sedck_commands.specs.Parts.{Name, Flags, IsPart}
+use Rattle.sedck_commands.specs.Parts.{IsPart}
+use Rattle.sedck_commands.specs.Private.Alike.{Name, Flags}
 use Rattle.sedck_commands.specs.Parts as p
 use Rattle.sedck_commands.specs.Items.{WrittenVerb, Known, Simple, VerbText}
 use Rattle.sedck_commands.specs.Items as w

@@ -3,7 +3,8 @@ use Rattle.std.specs.Prelude.{◌≡◌, ℕ, true, false, List, [], ◌∷◌, 
 use Rattle.sedck_text.specs.Bytes.{newline, carriage_return, backslash, ascii}
 use Rattle.sedck_commands.specs.Program.{Verb, NoAddress, One, Last, Part, Text, Whole, Newline, Label, Branch, Block, NextAppend, Print, Command}
 use Rattle.sedck_commands.specs.Parts.{DelimitedExpression, ExpressionText, DelimitedList, FirstList, Replacement, EscapedPart, GivenText}
-use Rattle.sedck_commands.specs.Items.{WrittenVerb, Known, JumpTo, Opening, Item, Written, Closing, VerbText, HasNoInnerReturn, Items}
+use Rattle.sedck_commands.specs.Items.{WrittenVerb, Known, JumpTo, Opening, Item, Written, Closing, VerbText, Items}
+use Rattle.sedck_commands.specs.ReadAlike.{HasNoInnerReturn}
 use Rattle.sedck_script.specs.Resolution.{Resolves}
 use Rattle.sedck_commands.specs.Locations.{locations_of}
 use Rattle.sedck_commands.specs.declared.location.Location.{Location}

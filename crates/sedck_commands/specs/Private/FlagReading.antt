@@ -1,7 +1,8 @@
 -- What the readers of flags say of what they read.
 use Rattle.std.specs.Prelude.{◌≡◌, ℕ, List, ◌∷◌, Option}
 use Rattle.sedck_commands.specs.Program.{Pattern, Part, Substitution}
-use Rattle.sedck_commands.specs.Parts.{Number, Name}
+use Rattle.sedck_commands.specs.Parts.{Number}
+use Rattle.sedck_commands.specs.Private.Alike.{Name}
 use Rattle.sedck_commands.specs.Private.Reading.{EndsFlags}
 use Rattle.sedck_commands.specs.declared.flags.Seen.{Seen}
 use Rattle.sedck_commands.specs.declared.flags.Flag.{Flag}

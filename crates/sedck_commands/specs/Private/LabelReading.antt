@@ -3,7 +3,8 @@ use Rattle.std.specs.Prelude.{◌≡◌, ℕ, Bool, not, List, Option, Some, Non
 use Rattle.sedck_text.specs.Text.{begins}
 use Rattle.sedck_commands.specs.Cuts.{is_label_byte, IsEmptyOr}
 use Rattle.sedck_commands.specs.Parts.{LabelText}
-use Rattle.sedck_commands.specs.Items.{IsNoComment, EndsJump}
+use Rattle.sedck_commands.specs.Items.{IsNoComment}
+use Rattle.sedck_commands.specs.Private.Alike.{EndsJump}
 use Rattle.sedck_commands.specs.Faults.{FollowsLabel}
 use Rattle.sedck_text.specs.Cursors.{unread, Follows}
 use Rattle.sedck_text.specs.declared.cursor.Cursor.{Cursor}

@@ -4,7 +4,8 @@ use Rattle.sedck_commands.specs.Cuts.{newline, backslash, can_be_escaped}
 use Rattle.sedck_commands.specs.Program.{Pattern}
 use Rattle.sedck_text.specs.Cursors.{unread}
 use Rattle.sedck_text.specs.declared.cursor.Cursor.{Cursor}
-use Rattle.sedck_commands.specs.Parts.{DelimitedExpression, ExpressionText, IsPattern}
+use Rattle.sedck_commands.specs.Parts.{DelimitedExpression, ExpressionText}
+use Rattle.sedck_commands.specs.Private.Alike.{IsPattern}
 use Rattle.sedck_commands.specs.Faults.{IsPlaced}
 use Rattle.sedck_commands.specs.declared.fault.ScriptFault.{ScriptFault}
 use Rattle.sedck_commands.specs.declared.fault.ScriptFault.TheVariants as fault

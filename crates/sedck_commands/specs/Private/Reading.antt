@@ -1,7 +1,8 @@
 -- What the readers say of ends of a text, and of labels.
 use Rattle.std.specs.Prelude.{◌≡◌, ℕ, List, ◌++◌}
 use Rattle.sedck_commands.specs.Cuts.{is_blank, is_label_byte, Longest}
-use Rattle.sedck_commands.specs.Parts.{Ends, HasSingleComment}
+use Rattle.sedck_commands.specs.Parts.{Ends}
+use Rattle.sedck_commands.specs.ReadAlike.{HasSingleComment}
 
 -- the text ends in tail
 abbrev pub EndsIn : List ℕ → List ℕ → Type 0

@@ -1,5 +1,5 @@
 use Rattle.std.proofs.Common.{◌≡◌, length}
-use Rattle.sedck_commands.specs.Parts.{has_loose_quote}
+use Rattle.sedck_commands.specs.ReadAlike.{has_loose_quote}
 use Rattle.sedck_commands.proofs.delimited.has_loose_quote.Given as goal
 
 abbrev pub invariant-quotes : goal.invariant-quotes

@@ -42,8 +42,10 @@ returns-in-Some-clause-placed c = inr (rw c.offset-in-Some.ensures
 pub returns-clause-read : goal.returns-clause-read
 returns-clause-read c = record {
   list = c.in_ok-bytes.ensures.read;
-  written = _;
-  cut = (written_cut c.args.text c.in_ok-bytes.rest c.in_ok-bytes.ensures.read c.in_ok-bytes.ensures.same
-      c.offset.ensures c.offset-2.ensures c.unread.ensures);
-  closed = c.in_default.ensures.none;
+  alike = record {
+    written = _;
+    cut = (written_cut c.args.text c.in_ok-bytes.rest c.in_ok-bytes.ensures.read c.in_ok-bytes.ensures.same
+        c.offset.ensures c.offset-2.ensures c.unread.ensures);
+    closed = c.in_default.ensures.none;
+  };
 }

@@ -2,7 +2,7 @@ use Rattle.std.proofs.Common.{◌≡◌, ◌<◌, ◌⊎◌, ℕ, false, List, l
 use Rattle.std.specs.Prelude.{◌==◌}
 use Rattle.std.proofs.lemmas.Bool.Decides.{nat_tests}
 use Rattle.std.specs.Cow.{cow_slice_items}
-use Rattle.sedck_commands.specs.Parts.{IsExpression}
+use Rattle.sedck_commands.specs.Private.Alike.{IsExpression}
 use Rattle.sedck_commands.specs.Faults.{IsNoExpression, IsMisjudged}
 use Rattle.sedck_text.specs.Cursors.{unread}
 use Rattle.sedck_commands.proofs.UniqueVerbs.{no_backslash}

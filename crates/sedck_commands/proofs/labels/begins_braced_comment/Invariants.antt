@@ -1,5 +1,5 @@
 use Rattle.std.proofs.Common.{◌≡◌, length}
-use Rattle.sedck_commands.specs.Items.{begins_braced_comment}
+use Rattle.sedck_commands.specs.ReadAlike.{begins_braced_comment}
 use Rattle.sedck_commands.proofs.labels.begins_braced_comment.Given as goal
 
 abbrev pub invariant-braces : goal.invariant-braces

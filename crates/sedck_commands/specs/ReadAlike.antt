@@ -1,0 +1,89 @@
+-- What is refused since some sed reads it otherwise than the standard has it, or its matcher gets it wrong. This project's own (docs/GRAMMAR.md): no
+-- promise rests on it, since a yes speaks of the text as the grammar reads it, with nothing of this asked.
+use Rattle.std.specs.Prelude.{◌≡◌, ℕ, ◌≤◌, Bool, true, false, not, ◌&&◌, ◌||◌, ◌==◌, if◌then◌else◌, List, [], ◌∷◌, ◌++◌, IsTrue, ◌⊎◌}
+use Rattle.sedck_text.specs.Text.{is_in, one_of, begins}
+use Rattle.sedck_text.specs.Bytes.{vertical_tab, carriage_return, ascii}
+use Rattle.sedck_bre.specs.Brackets.{is_from}
+use Rattle.sedck_expressions.specs.Misjudged.{is_misjudged}
+use Rattle.sedck_commands.specs.Cuts.{backslash, is_newline, is_letter, is_digit, is_continued, IsEmptyOr, Longest}
+use Rattle.sedck_commands.specs.BracketLists.{BracketsClose}
+use Rattle.sedck_commands.specs.Narrowings.{Narrowings}
+
+-- ---- Expressions
+
+-- the text begins with a letter or a digit, and neither a sign of repetition nor a backslash is after it
+abbrev pub begins_firmly : List ℕ → Bool
+begins_firmly [] = false
+begins_firmly (b ∷ text) = (is_letter b || is_digit b) && not (begins "*\\" text)
+
+-- a quote is in the text, and what is right after it may be left out
+abbrev pub has_loose_quote : List ℕ → Bool
+has_loose_quote [] = false
+has_loose_quote (b ∷ text) = ((b == ascii "'") && not (begins_firmly text)) || has_loose_quote text
+
+-- Some sed reads an escaped delimiter otherwise. Beside a `[`, GNU sed takes `\x5b` for the byte 0x5b before it takes the backslash of the delimiter `x`
+-- away, so that a list may end elsewhere: `sx[\x5b.].]q]xqx`. In a list, GNU sed and BusyBox keep the backslash of `\:` and `\=`: `[\:` and `[\=` begin no
+-- class and the list ends earlier; with a backslash in it, what is left may be more than bytes. For BusyBox `\'` is the end of the text, and no match goes
+-- on after it: `s'a\'*b'x'`.
+abbrev pub is_misread : ℕ → List ℕ → Bool
+is_misread delimiter expression =
+    if delimiter == ascii "x" then is_in (ascii "[") expression
+    else if one_of ":=" delimiter then is_in (ascii "[") expression && is_in backslash expression
+    else if delimiter == ascii "'" then has_loose_quote expression
+    else false
+
+-- where some sed would read an escaped delimiter otherwise there is none, and the text has the very bytes of the expression
+abbrev pub IsAsWritten : ℕ → List ℕ → List ℕ → List ℕ → Type 0
+IsAsWritten delimiter text expression rest = IsTrue (is_misread delimiter expression) → text ≡ expression ++ delimiter ∷ rest
+
+-- ---- Lists of `y`, and names
+
+-- As written, the list leaves no bracket list open: BusyBox looks for its end outside of those, and reads our second list as commands: `y/[/]/ #/w F`.
+pub record ClosesBrackets (delimiter : ℕ) (text rest : List ℕ) : Type 0 where
+  pub written : List ℕ
+  pub cut : text ≡ written ++ delimiter ∷ rest
+  pub closed : BracketsClose written []
+
+-- A name begins with no vertical tab, form feed or carriage return, which BusyBox skips. Where a line follows, it doesn't end in an odd number of
+-- backslashes, since BusyBox joins these lines: in `r a\` and a line `w F` it sees one command, and we two.
+pub record IsNameAlike (name rest : List ℕ) : Type 0 where
+  pub plain : IsEmptyOr (λ b. not (is_from vertical_tab carriage_return b)) name
+  pub over : (rest ≡ []) ⊎ (is_continued name ≡ false)
+
+-- ---- Comments and blocks
+
+-- A comment that begins the text doesn't end in an odd number of backslashes where a line follows: BusyBox joins these lines, and skips both, as in
+-- `s/a/b/ # x\` and a line `}`.
+abbrev pub HasSingleComment : List ℕ → Type 0
+HasSingleComment text =
+    IsTrue (begins "#" text) → (line rest : List ℕ) → Longest (λ b. not (is_newline b)) text line rest → (rest ≡ []) ⊎ (is_continued line ≡ false)
+
+-- One or more `}` begin the text, and a `#` is right after them: BusyBox takes all up to a blank, a newline or a `;` into a label: `b a}#;w F`.
+abbrev pub begins_braced_comment : List ℕ → Bool
+begins_braced_comment [] = false
+begins_braced_comment (b ∷ text) = (b == ascii "}") && (begins "#" text || begins_braced_comment text)
+
+-- Where a `}` is right after a label, at most one block is open: BusyBox takes it into the label, and would end an inner block only with the outer one,
+-- as in `1{2{ba}};:a`.
+abbrev pub MayBeBraced : Bool → ℕ → Type 0
+MayBeBraced braced depth = braced ≡ true → depth ≤ 1
+
+-- A carriage return in a comment is the last byte of its line: BusyBox ends the comment there, and reads commands after it, as `w F` after `# x` and
+-- this byte.
+abbrev pub HasNoInnerReturn : List ℕ → Type 0
+HasNoInnerReturn comment = (front behind : List ℕ) → comment ≡ front ++ carriage_return ∷ behind → behind ≡ []
+
+-- ---- All of it
+
+abbrev pub read_alike : Narrowings
+read_alike = record {
+  Cut = IsAsWritten;
+  -- an expression is none that matchers of real seds get wrong: `\(a*\)*\1` may never end in GNU sed
+  Matched = λ tree. is_misjudged tree ≡ false;
+  Listed = ClosesBrackets;
+  Named = IsNameAlike;
+  AfterFlags = HasSingleComment;
+  AfterJump = λ rest. begins_braced_comment rest ≡ false;
+  Braced = MayBeBraced;
+  Commented = HasNoInnerReturn;
+}
