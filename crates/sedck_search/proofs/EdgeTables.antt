@@ -25,16 +25,6 @@ range_added xs more =
     ap (take (length (xs ++ more) - length xs)) (drop-append_seam xs more)
     ∙ take_all (length (xs ++ more) - length xs) more (omega (arith, length-append xs more))
 
--- no node yet
-pub no_node : (p : Program) → ListsNodes p (0 ∷ []) [] 0
-no_node p = record {
-  long = omega arith;
-  end = omega arith;
-  rising = λ i below. absurd (omega (arith, below));
-  within = λ i below. let first : i ≡ 0 = omega (arith, below) in subst (λ k. slice_index (0 ∷ []) k ≤ 0) (sym first) (omega arith);
-  each = λ n below. absurd (omega (arith, below));
-}
-
 module _ (p : Program) (starts : List ℕ) (edges more : List Edge) (n : Node) (h : ListsNodes p starts edges (node_index n))
     (listed : ListsEdges more (FlowFrom p n)) where
   abbrev all : List Edge

@@ -1,4 +1,4 @@
-use Rattle.std.proofs.Common.{subst, sym}
+use Rattle.std.proofs.Common.{subst}
 use Rattle.sedck_search.specs.Private.NodeSet.{IsUnion}
 use Rattle.sedck_search.proofs.NodeBits.{both_set, both_union}
 use Rattle.sedck_search.proofs.node_set.NodeSet.add_all.Goals as goal
