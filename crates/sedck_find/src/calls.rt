@@ -4,7 +4,7 @@ use crate::assigning::is_assignment;
 use crate::found::{
     Assumptions, Followed, Found, FoundCall, FoundScript, KnownValue, OpenHole, Role, Unknown,
 };
-use crate::macros::macros_of;
+use crate::macros::{is_prose, macros_of};
 use crate::mentions::{editor_in, mention_in};
 use crate::names::{Names, Scope};
 use crate::overwriting::overwritten_by;
@@ -12,10 +12,10 @@ use crate::parts::{Part, Runner, parts_of};
 use crate::programs::Program;
 use crate::script::{Around, script_of};
 use crate::settings::settings_of;
-use crate::texts::{Held, Reading};
-use crate::units::bytes_of;
+use crate::texts::{Held, Texts};
+use crate::units::{bytes_of, rest};
 use crate::values::{has_placeholder, line_starts, written_value};
-use crate::words::{CallWord, Filler};
+use crate::words::{CallWord, Filler, quoted};
 use sedck_hosts::{Assignment, Kind, host_of, is_run_by_sed, kind_of, reads_dollar_quotes};
 use sedck_origin::{Hole, Result, Text, Traced, Unit, Way, has_hole};
 use sedck_shell::{Dialect, Form, ShellWord, Site};
@@ -66,10 +66,9 @@ pub fn calls_in(
         macros: macros_of(alloc, kind, file)?,
         lines: line_starts(alloc, file)?,
     };
-    let reading = read_file(names)?;
-    let (calls, mentions) = calls_of(&reading)?;
-    let mut unread = reading.unread;
-    unread.extend_from_slice(&mentions)?;
+    let texts = read_file(names)?;
+    let mut unread = Vec::from_slice(alloc, &texts.unread)?;
+    let calls = calls_of(&texts, &mut unread)?;
     if kind == Kind::Shell && is_script_of_sed(path, file) {
         unread.push(0)?;
     }
@@ -84,9 +83,9 @@ fn is_script_of_sed(path: &str, file: &[u8]) -> bool {
 }
 
 /// Reads the file of these names: its texts, and those in them.
-fn read_file(names: Names<'_>) -> Result<Reading<'_>> {
+fn read_file(names: Names<'_>) -> Result<Texts<'_>> {
     let (alloc, kind, file) = (names.alloc, names.kind, names.file);
-    let mut reading = Reading {
+    let mut texts = Texts {
         names,
         held: Vec::new(alloc),
         inner: Vec::new(alloc),
@@ -94,40 +93,39 @@ fn read_file(names: Names<'_>) -> Result<Reading<'_>> {
         unread: Vec::new(alloc),
     };
     match kind {
-        Kind::Shell => reading.read(Text::Whole(file), Scope::Own(0), false)?,
-        _ => read_host(&mut reading)?,
+        Kind::Shell => texts.read(Text::Whole(file), Scope::Own(0), false)?,
+        _ => read_host(&mut texts)?,
     }
-    reading.read_inner()?;
+    texts.read_inner()?;
     if kind != Kind::Make {
-        reading.names.note_expansions()?;
+        texts.names.note_expansions()?;
     }
-    Ok(reading)
+    Ok(texts)
 }
 
-/// The calls in the commands that were read, in the file's order, each once, and the offsets of what may call sed otherwise.
-fn calls_of(reading: &Reading<'_>) -> Result<(Vec<FoundCall>, Vec<usize>)> {
-    let names = &reading.names;
+/// The calls in the commands that were read, in the file's order, each once. The offsets of what may call sed otherwise are added.
+fn calls_of(texts: &Texts<'_>, unread: &mut Vec<usize>) -> Result<Vec<FoundCall>> {
+    let names = &texts.names;
     let mut calls = Vec::new(names.alloc);
-    let mut mentions = Vec::new(names.alloc);
     let mut filler = Filler {
         names,
         left: names.file.len().saturating_mul(2).saturating_add(SPARE),
         reach: REACH,
         followed: Vec::new(names.alloc),
     };
-    for held in &reading.held {
-        let parts = parts_of(names, &held.command.words, held.spot())?;
+    for held in &texts.held {
+        let parts = parts_of(names, &held.command.words, held.point())?;
         add_calls(&mut calls, &mut filler, held, &parts)?;
-        add_mentions(&mut mentions, names, held, &parts)?;
+        add_mentions(unread, names, held, &parts)?;
     }
     calls.sort_by_key(|call| call.start)?;
     calls.dedup_by_key(|call| call.start);
-    Ok((calls, mentions))
+    Ok(calls)
 }
 
 /// Adds the offsets of what may call sed in these parts of a command that aren't calls of one.
 fn add_mentions(
-    mentions: &mut Vec<usize>,
+    unread: &mut Vec<usize>,
     names: &Names<'_>,
     held: &Held,
     parts: &[Part],
@@ -136,59 +134,57 @@ fn add_mentions(
     // A source of Autoconf may have prose among its commands.
     let is_strict = held.is_value || names.kind == Kind::Autoconf;
     for part in parts {
-        match part.program {
-            Program::Other | Program::Shell | Program::User => {
-                if let Some(offset) = mention_in(names, words, *part, is_strict)? {
-                    mentions.push(offset)?;
-                }
+        if let Program::Other | Program::Shell | Program::User = part.program {
+            if let Some(offset) = mention_in(names, words, *part, is_strict)? {
+                unread.push(offset)?;
             }
-            _ => {}
         }
     }
     if let Some(offset) = editor_in(names, words)? {
-        mentions.push(offset)?;
+        unread.push(offset)?;
     }
     Ok(())
 }
 
 /// Reads the shell text of a file that isn't a shell script, and the values of make's variables.
-fn read_host(reading: &mut Reading<'_>) -> Result<()> {
-    let (alloc, kind) = (reading.names.alloc, reading.names.kind);
-    let host = host_of(alloc, kind, reading.names.file)?;
-    reading.unread.extend_from_slice(&host.unread)?;
+fn read_host(texts: &mut Texts<'_>) -> Result<()> {
+    let (alloc, kind) = (texts.names.alloc, texts.names.kind);
+    let host = host_of(alloc, kind, texts.names.file)?;
+    texts.unread.extend_from_slice(&host.unread)?;
     for (index, text) in host.texts.iter().enumerate() {
         let number = if kind == Kind::Autoconf { 0 } else { index };
-        reading.read(Text::Units(text), Scope::Own(number), false)?;
+        texts.read(Text::Units(text), Scope::Own(number), false)?;
     }
     if kind == Kind::Make {
-        reading.names.is_open = host.is_open;
+        texts.names.is_open = host.is_open;
         for assignment in &host.assignments {
-            read_assignment(reading, assignment)?;
+            read_assignment(texts, assignment)?;
         }
     }
     Ok(())
 }
 
 /// Notes an assignment of make's, and reads its value.
-fn read_assignment(reading: &mut Reading<'_>, assignment: &Assignment) -> Result<()> {
-    let names = &mut reading.names;
+fn read_assignment(texts: &mut Texts<'_>, assignment: &Assignment) -> Result<()> {
+    let names = &mut texts.names;
     names.note_shell_flags(assignment);
-    let is_template = names.form.dialect == Dialect::Template;
-    let value = if is_template && has_placeholder(&assignment.value) {
-        None
-    } else {
-        written_value(names.alloc, &assignment.value)?
+    let value = match names.form.dialect {
+        Dialect::Template if has_placeholder(&assignment.value) => None,
+        _ => written_value(names.alloc, &assignment.value)?,
     };
-    let site = Site {
-        body: 0,
-        is_certain: assignment.is_certain,
-    };
-    let spot = Scope::Own(0).spot(site, 0);
-    names.note(assignment.name.clone()?, value, spot)?;
+    let is_certain = assignment.is_certain;
+    let point = Scope::Own(0).point(
+        Site {
+            body: 0,
+            is_certain,
+        },
+        0,
+    );
+    names.note(assignment.name.clone()?, value, point)?;
     if names.begins_with_sed(&assignment.value)? {
         names.note_sed(&assignment.name);
     }
-    reading.read(Text::Units(&assignment.value), Scope::Other, true)
+    texts.read(Text::Units(&assignment.value), Scope::Other, true)
 }
 
 /// Adds the calls in these parts of a command.
@@ -201,7 +197,7 @@ fn add_calls(
     filler.followed.clear();
     let here = match &held.command.here {
         Some(units) if parts.len() == 1 && !held.command.has_other_here => {
-            let traced = filler.filled(units, held.spot())?;
+            let traced = filler.filled(units, held.point())?;
             Some(CallWord::of(traced, quoted(0, 0)))
         }
         _ => None,
@@ -218,12 +214,6 @@ fn add_calls(
     Ok(())
 }
 
-/// What the file has between these offsets, of which a shell makes a part of one word.
-fn quoted(start: usize, end: usize) -> Hole {
-    let way = Way::Quoted;
-    Hole { start, end, way }
-}
-
 /// The call that a part of a command is; none where it is prose in a source of Autoconf.
 fn found_call(
     filler: &mut Filler<'_>,
@@ -232,7 +222,7 @@ fn found_call(
     here: Option<&CallWord>,
 ) -> Result<Option<FoundCall>> {
     let names = filler.names;
-    let Some([name, others @ ..]) = held.command.words.get(part.name..part.end) else {
+    let Some((name, others)) = part.words(&held.command.words) else {
         return Ok(None);
     };
     if names.form.dialect == Dialect::Macros && is_prose(names.file, name, others) {
@@ -240,30 +230,26 @@ fn found_call(
     }
     let mut named = Vec::new(names.alloc);
     let (words, are_known) = words_of(filler, held, part, &mut named)?;
+    let start = name_start(name, part);
     let around = Around {
-        file: names.file,
-        dialect: names.form.dialect,
-        name: quoted(name_start(name, part), name_end(name)),
+        names,
+        name: quoted(start, name_end(name)),
         runner: part.runner,
         here,
         named: &named,
-        has_no_match: names.settings.has_no_match,
-        macros: &names.macros,
-        mends: names.assumed.mends,
     };
     let mut script = match changed_by(names, name, others, part)? {
         Some(unknown) => FoundScript::Unknown(unknown),
         None if !are_known => FoundScript::Unknown(Unknown::Words),
-        None => script_of(names.alloc, &words, around)?,
+        None => script_of(&words, around)?,
     };
     note_assumptions(filler, held, &mut script)?;
-    let overwritten = overwritten_by(filler, held, part.runner, &script, &words)?;
     Ok(Some(FoundCall {
-        start: name_start(name, part),
+        start,
+        overwritten: overwritten_by(filler, held, part.runner, &script, &words)?,
         words: traced_words(names.alloc, words)?,
         script,
         followed: std::mem::replace(&mut filler.followed, Vec::new(names.alloc)),
-        overwritten,
         c_locale: part.c_locale,
     }))
 }
@@ -274,17 +260,16 @@ fn note_assumptions(filler: &mut Filler<'_>, held: &Held, script: &mut FoundScri
     let FoundScript::Text { holes, .. } = script else {
         return Ok(());
     };
-    let names = filler.names;
-    let has_order = names.assumed.has_order();
+    let has_order = filler.names.assumed.has_order();
     for hole in holes.iter_mut() {
-        hole.is_variable = names.variable_at(hole.hole, held.spot()).is_some();
-        if matches!(hole.role, Role::Options) && has_order {
+        hole.is_variable = filler.names.variable_at(hole.hole, held.point()).is_some();
+        if has_order && hole.is_of_order() {
             let Hole { start, end, .. } = hole.hole;
             let value = KnownValue::Unset;
             filler.followed.push(Followed { start, end, value })?;
         }
     }
-    holes.retain(|hole| !(matches!(hole.role, Role::Options) && has_order));
+    holes.retain(|hole| !has_order || !hole.is_of_order());
     Ok(())
 }
 
@@ -296,12 +281,11 @@ fn name_start(name: &ShellWord, part: Part) -> usize {
     }
 }
 
-/// The offset in the file behind the name of a call.
+/// The offset in the file after the name of a call.
 fn name_end(name: &ShellWord) -> usize {
     let least = name.start.saturating_add(name.units.len().max(1));
-    name.units
-        .last()
-        .map_or(least, |last| last.end().max(least))
+    let last = name.units.last();
+    last.map_or(least, |last| last.end().max(least))
 }
 
 /// The words with nothing but their bytes and origins.
@@ -320,19 +304,19 @@ fn changed_by(
     others: &[ShellWord],
     part: Part,
 ) -> Result<Option<Unknown>> {
-    let has_assignment = others.iter().any(|word| is_assignment(&word.units));
-    let called = bytes_of(names.alloc, name.units.get(part.glued..).unwrap_or(&[]))?;
-    let is_redefined = called.is_some_and(|name| {
-        names.is_replaced(&name) || (part.is_direct && names.is_function(&name))
-    });
+    let is_redefined = match bytes_of(names.alloc, rest(&name.units, part.glued))? {
+        Some(name) => names.is_replaced(&name) || (part.is_direct && names.is_function(&name)),
+        None => false,
+    };
     if part.is_redefined || is_redefined {
         return Ok(Some(Unknown::Function));
     }
+    let has_assignment = others.iter().any(|word| is_assignment(&word.units));
     let is_changed = names.settings.has_signs || (names.settings.has_keywords && has_assignment);
     Ok(is_changed.then_some(Unknown::Setting))
 }
 
-/// The words of a call behind its name, with the options in the value of a variable that is the name, and whether all that is put into them
+/// The words of a call after its name, with the options in the value of a variable that is the name, and whether all that is put into them
 /// is known. What isn't known of the name and of what runs it is noted.
 fn words_of(
     filler: &mut Filler<'_>,
@@ -341,26 +325,25 @@ fn words_of(
     named: &mut Vec<OpenHole>,
 ) -> Result<(Vec<CallWord>, bool)> {
     let alloc = filler.names.alloc;
-    let command = held.command.words.as_slice();
     let mut words = Vec::new(alloc);
-    let Some([name, others @ ..]) = command.get(part.name..part.end) else {
+    let Some((name, others)) = part.words(&held.command.words) else {
         return Ok((words, true));
     };
-    let called = name.units.get(part.glued..).unwrap_or(&[]);
+    let called = rest(&name.units, part.glued);
     match *called {
-        [Unit::Hole(hole)] => match filler.options(hole, held.spot())? {
+        [Unit::Hole(hole)] => match filler.options(hole, held.point())? {
             Some(options) => words = options,
             None => note_named(named, called, Role::Sed)?,
         },
         _ => note_named(named, called, Role::Word)?,
     }
     note_before(filler, held, part, named)?;
-    let Some(texts) = part.replaced.texts(alloc, command)? else {
+    let Some(texts) = part.replaced.texts(alloc, &held.command.words)? else {
         return Ok((words, false));
     };
     let mut are_known = !part.has_more_unknown;
     for word in others {
-        let mut word = filler.word(word, held.spot())?;
+        let mut word = filler.word(word, held.point())?;
         are_known = put_in(&mut word, part.runner, &texts) && are_known;
         words.push(word)?;
     }
@@ -378,7 +361,7 @@ fn note_before(
     let command = held.command.words.as_slice();
     if let Some(runner) = part.unknown.and_then(|number| command.get(number)) {
         let units = runner.units.get(..1).unwrap_or(&[]);
-        if !filler.is_nothing(units, held.spot())? {
+        if !filler.is_nothing(units, held.point())? {
             note_named(named, units, Role::Runner)?;
         }
     }
@@ -413,7 +396,7 @@ fn note_hole(
     hole: Hole,
     named: &mut Vec<OpenHole>,
 ) -> Result<()> {
-    let filled = filler.filled(&[Unit::Hole(hole)], held.spot())?;
+    let filled = filler.filled(&[Unit::Hole(hole)], held.point())?;
     if has_hole(&filled.origins) {
         named.push(OpenHole::outside(hole, Role::Word))?;
     }
@@ -442,18 +425,4 @@ fn put_in(word: &mut CallWord, runner: Runner, texts: &[Vec<u8>]) -> bool {
         are_there = word.open(text) && are_there;
     }
     are_there
-}
-
-/// Whether the words are prose within brackets of M4: the name is right behind one, and the next word is letters alone.
-fn is_prose(file: &[u8], name: &ShellWord, others: &[ShellWord]) -> bool {
-    let before = name
-        .start
-        .checked_sub(1)
-        .and_then(|offset| file.get(offset));
-    let is_plain = others.first().is_none_or(|next| {
-        let mut units = next.units.iter();
-        let is_word = !next.is_quoted && next.units.len() > 1;
-        is_word && units.all(|unit| unit.byte().is_some_and(|byte| byte.is_ascii_alphabetic()))
-    });
-    before == Some(&b'[') && is_plain && name.is("sed")
 }

@@ -34,7 +34,7 @@ impl Conditions<'_> {
             holes: Vec::new(alloc),
             is_unknown: false,
         };
-        let end = operands_start(alloc, &call.given, words)?;
+        let end = operands_start(&call.given, words);
         for item in &call.given {
             conditions.add_item(call, *item, end)?;
         }
@@ -51,7 +51,7 @@ impl Conditions<'_> {
         Ok(self.holes.push(OpenHole::outside(hole, role))?)
     }
 
-    /// Adds the conditions on what a word gives. Behind the word of number `end` there are no options.
+    /// Adds the conditions on what a word gives. After the word of number `end` there are no options.
     fn add_item(&mut self, call: &Call, item: Given, end: Option<usize>) -> Result<()> {
         match item {
             Given::Alone(_, number) => self.add_word(number),
@@ -66,7 +66,7 @@ impl Conditions<'_> {
                 self.add_word(origin.word)
             }
             Given::Operand(number) if is_script(call, number) => self.add_pattern(number),
-            Given::Operand(number) if is_behind(number, end) => Ok(()),
+            Given::Operand(number) if is_after(number, end) => Ok(()),
             Given::Operand(number) => self.add_operand(number),
         }
     }
@@ -88,7 +88,7 @@ impl Conditions<'_> {
     /// Adds the condition on a word that is a pattern.
     fn add_pattern(&mut self, number: usize) -> Result<()> {
         match self.words.get(number) {
-            Some(word) if word.pattern != Pattern::None => self.push(word.place(), Role::Pattern),
+            Some(word) if word.pattern != Pattern::None => self.push(word.place, Role::Pattern),
             _ => Ok(()),
         }
     }
@@ -103,7 +103,7 @@ impl Conditions<'_> {
             return self.push(hole, Role::Operand);
         }
         if word.pattern == Pattern::First {
-            return self.push(word.place(), Role::Names);
+            return self.push(word.place, Role::Names);
         }
         Ok(())
     }
@@ -113,13 +113,13 @@ impl Conditions<'_> {
         let mut first = None;
         for item in &call.given {
             match *item {
-                Given::Operand(number) if first.is_none() && !is_behind(number, end) => {
+                Given::Operand(number) if first.is_none() && !is_after(number, end) => {
                     first = Some(number);
                 }
                 Given::With(CallOption::Expression | CallOption::File, _)
                 | Given::Alone(CallOption::Help | CallOption::Version, _) => {
                     if let Some(word) = first.and_then(|number| self.words.get(number)) {
-                        return self.push(word.place(), Role::Options);
+                        return self.push(word.place, Role::Options);
                     }
                 }
                 _ => {}
@@ -129,33 +129,35 @@ impl Conditions<'_> {
     }
 }
 
-/// Whether the operand of this number is behind the word that ends the options, if there is one.
-fn is_behind(number: usize, end: Option<usize>) -> bool {
+/// Whether the operand of this number is after the word that ends the options, if there is one.
+fn is_after(number: usize, end: Option<usize>) -> bool {
     end.is_some_and(|end| end < number)
 }
 
 /// The number of the word `--` that ends the options, if there is one: the only one that gives nothing and is no option.
-fn operands_start(alloc: Global, given: &[Given], words: &[CallWord]) -> Result<Option<usize>> {
-    let mut are_given = Vec::new(alloc);
-    for _ in words {
-        are_given.push(false)?;
-    }
+fn operands_start(given: &[Given], words: &[CallWord]) -> Option<usize> {
+    let mut next = 0usize;
     for item in given {
+        // What is given is in the words' order.
         let number = match *item {
             Given::Alone(_, number) | Given::Operand(number) => number,
             Given::With(_, origin) => origin.word,
         };
-        if let Some(is_given) = are_given.get_mut(number) {
-            *is_given = true;
+        let end = end_between(words, next, number);
+        if end.is_some() {
+            return end;
         }
+        next = number.saturating_add(1);
     }
-    for (number, word) in words.iter().enumerate() {
-        let is_given = are_given.get(number).copied().unwrap_or(true);
-        if !is_given && is_among(&word.traced.bytes, &["--"]) {
-            return Ok(Some(number));
-        }
-    }
-    Ok(None)
+    end_between(words, next, words.len())
+}
+
+/// The number of the first `--` from one word on to before another one.
+fn end_between(words: &[CallWord], from: usize, to: usize) -> Option<usize> {
+    let mut numbers = from..to;
+    numbers.find(|number| words
+        .get(*number)
+        .is_some_and(|word| is_among(&word.traced.bytes, &["--"])))
 }
 
 /// Whether the operand of this number is the script.

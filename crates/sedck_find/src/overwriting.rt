@@ -68,12 +68,10 @@ fn is_in_place(call: &Call) -> bool {
 /// Whether an operand of the call has this path.
 fn has_operand(names: &Names<'_>, call: &Call, words: &[CallWord], path: &[u8]) -> Result<bool> {
     for number in &call.inputs {
-        let Some(word) = words.get(*number) else {
-            continue;
-        };
-        let other = written_path(names, &word.traced)?;
-        if other.is_some_and(|other| other.as_slice() == path) {
-            return Ok(true);
+        if let Some(word) = words.get(*number) {
+            if written_path(names, &word.traced)?.as_deref() == Some(path) {
+                return Ok(true);
+            }
         }
     }
     Ok(false)
@@ -94,14 +92,13 @@ fn is_source(filler: &mut Filler<'_>, held: &Held, path: &[u8]) -> Result<bool> 
     let Some(source) = &held.command.source else {
         return Ok(false);
     };
-    let other = path_at(filler, held, source)?;
-    Ok(other.is_some_and(|other| other.as_slice() == path))
+    Ok(path_at(filler, held, source)?.as_deref() == Some(path))
 }
 
 /// The path that the word of a redirection is. What its variables have is no matter of the call's words.
 fn path_at(filler: &mut Filler<'_>, held: &Held, word: &ShellWord) -> Result<Option<Vec<u8>>> {
     let count = filler.followed.len();
-    let word = filler.word(word, held.spot())?;
+    let word = filler.word(word, held.point())?;
     filler.followed.truncate(count);
     written_path(filler.names, &word.traced)
 }
@@ -112,20 +109,19 @@ fn written_path(names: &Names<'_>, traced: &Traced) -> Result<Option<Vec<u8>>> {
     let mut written = Vec::new(names.alloc);
     let mut last = None;
     for (byte, origin) in traced.bytes.iter().zip(traced.origins.iter()) {
-        let Origin::Hole(hole) = *origin else {
-            written.push(*byte)?;
-            continue;
-        };
-        if last == Some(hole) {
-            continue;
+        match *origin {
+            Origin::Hole(hole) if last == Some(hole) => {}
+            Origin::Hole(hole) => {
+                last = Some(hole);
+                let Some(name) = lasting_name(names, names.written_hole(hole)) else {
+                    return Ok(None);
+                };
+                written.push(0)?;
+                written.extend_from_slice(name)?;
+                written.push(0)?;
+            }
+            _ => written.push(*byte)?,
         }
-        last = Some(hole);
-        let Some(name) = lasting_name(names, names.written_hole(hole)) else {
-            return Ok(None);
-        };
-        written.push(0)?;
-        written.extend_from_slice(name)?;
-        written.push(0)?;
     }
     Ok(Some(path_of(names.alloc, &written)?))
 }

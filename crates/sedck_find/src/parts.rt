@@ -1,12 +1,12 @@
 //! The commands in the words of a command, which may run others.
 
 use crate::assigning::{is_assignment, is_c_locale};
-use crate::names::{Names, Spot};
+use crate::names::{Names, Point};
 use crate::programs::{
     Before, Program, Wrapper, before_command, glued_name, is_sed_word, program_of,
 };
 use crate::replaced::{Replaced, adds_operands, replaced_by};
-use crate::units::{bytes_of, has_hole};
+use crate::units::{begins_open, bytes_of, has_hole, is_option, known_bytes, rest};
 use sedck_origin::{Result, Unit, byte_at, is_one_of};
 use sedck_shell::ShellWord;
 use std::alloc::Global;
@@ -14,7 +14,7 @@ use std::alloc::Global;
 /// What `find` runs a command for.
 static EXECUTING: &'static [&'static str] = &["-exec", "-execdir", "-ok", "-okdir"];
 
-/// Reserved words behind which a command begins.
+/// Reserved words after which a command begins.
 static RESERVED: &'static [&'static str] = &[
     "if", "then", "else", "elif", "do", "while", "until", "{", "!", "time",
 ];
@@ -61,6 +61,11 @@ impl Part {
         has_more_unknown: false,
         c_locale: false,
     };
+
+    /// Its name and its other words, in the words of the whole command.
+    pub fn words(self, words: &[ShellWord]) -> Option<(&ShellWord, &[ShellWord])> {
+        words.get(self.name..self.end)?.split_first()
+    }
 }
 
 /// What runs a command.
@@ -100,8 +105,8 @@ enum State {
     Operand(usize),
     /// A word of `find`.
     Find,
-    /// A word of this command.
-    Word(Part),
+    /// A word of the command that is next.
+    Word,
 }
 
 /// The state of looking for commands.
@@ -109,9 +114,9 @@ enum State {
 struct Finder<'a> {
     names: &'a Names<'a>,
     words: &'a [ShellWord],
-    spot: Spot,
+    point: Point,
     parts: Vec<Part>,
-    /// What is known of the next command.
+    /// The command whose words are read, or what is known of the next one.
     next: Part,
     /// Whether an option of the last `xargs` has it replace something, and whether it may add operands all the same.
     replaces: bool,
@@ -132,11 +137,11 @@ struct Finder<'a> {
 }
 
 /// The commands in these words of a command, also those that aren't known.
-pub(crate) fn parts_of(names: &Names<'_>, words: &[ShellWord], spot: Spot) -> Result<Vec<Part>> {
+pub(crate) fn parts_of(names: &Names<'_>, words: &[ShellWord], point: Point) -> Result<Vec<Part>> {
     let mut finder = Finder {
         names,
         words,
-        spot,
+        point,
         parts: Vec::new(names.alloc),
         next: Part::FIRST,
         replaces: false,
@@ -153,7 +158,7 @@ pub(crate) fn parts_of(names: &Names<'_>, words: &[ShellWord], spot: Spot) -> Re
     for (index, word) in words.iter().enumerate() {
         finder.read(index, word)?;
         finder.follows_braces = word.is("{}");
-        if !finder.is_found && matches!(finder.state, State::Word(_)) {
+        if !finder.is_found && matches!(finder.state, State::Word) {
             break;
         }
     }
@@ -183,7 +188,7 @@ impl Finder<'_> {
                 self.set_by(Setter::Nothing);
             }
             State::Find => return self.read_in_find(index, word),
-            State::Word(_) => {
+            State::Word => {
                 let is_last = self.follows_braces && !self.asks && word.is("+");
                 let is_end = is_last || word.is(";");
                 if self.is_found && is_end {
@@ -203,9 +208,9 @@ impl Finder<'_> {
             .get(name)
             .is_some_and(|before| has_hole(&before.units));
         if is_open && is_sed_word(self.names, word)? {
-            let part = self.part(Program::Other, name, 0);
-            let end = self.words.len();
-            self.parts.push(Part { end, ..part })?;
+            self.begin(Program::Other, name, 0);
+            self.end(self.words.len())?;
+            self.state = State::Find;
         }
         Ok(())
     }
@@ -219,37 +224,36 @@ impl Finder<'_> {
             }
             return Ok(());
         }
-        let is_option = index == 0 && word.is("-p");
+        let is_first_option = index == 0 && word.is("-p");
         let glued = self.pass_glued(index, word);
-        if is_option || (glued > 0 && is_passed(word.units.get(glued..).unwrap_or(&[]))) {
+        let name = rest(&word.units, glued);
+        if is_first_option || (glued > 0 && is_passed(name)) {
             return Ok(());
         }
-        let program = program_of(self.names, word, glued, self.spot)?;
+        let program = program_of(self.names, word, glued, self.point)?;
         if let Program::Wrapper(_) | Program::Find = program {
-            self.note_runner(word.units.get(glued..).unwrap_or(&[]))?;
+            self.note_runner(name)?;
         }
-        self.state = match program {
+        match program {
             Program::Wrapper(wrapper) if self.wrappers < WRAPPED => {
                 self.pass(index, wrapper);
-                State::Option(wrapper)
+                self.state = State::Option(wrapper);
             }
-            Program::Wrapper(_) => State::Word(self.part(Program::Other, index, glued)),
+            Program::Wrapper(_) => self.begin(Program::Other, index, glued),
             Program::Find => {
                 self.is_listed = may_list(self.words.get(index..).unwrap_or(&[]));
-                State::Find
+                self.state = State::Find;
             }
-            _ => State::Word(self.part(program, index, glued)),
-        };
+            _ => self.begin(program, index, glued),
+        }
         self.wrappers = self.wrappers.saturating_add(1);
         Ok(())
     }
 
     /// How many units of the word precede the name of a command in it, and may run that: one, or none.
     fn pass_glued(&mut self, index: usize, word: &ShellWord) -> usize {
-        let glued = word
-            .units
-            .len()
-            .saturating_sub(glued_name(&word.units).len());
+        let name = glued_name(&word.units).len();
+        let glued = word.units.len().saturating_sub(name);
         if glued > 0 {
             self.note_unknown(index);
             self.set_by(Setter::Nothing);
@@ -257,16 +261,14 @@ impl Finder<'_> {
         glued
     }
 
-    /// The command whose name is the word of this number, without so many units.
-    fn part(&self, program: Program, name: usize, glued: usize) -> Part {
-        Part {
-            program,
-            name,
-            glued,
-            end: name,
-            is_direct: self.next.runner == Runner::Plain && self.wrappers == 0,
-            ..self.next
-        }
+    /// Begins the command whose name is the word of this number, without so many units.
+    fn begin(&mut self, program: Program, name: usize, glued: usize) {
+        self.next.program = program;
+        self.next.name = name;
+        self.next.glued = glued;
+        self.next.end = name;
+        self.next.is_direct = self.next.runner == Runner::Plain && self.wrappers == 0;
+        self.state = State::Word;
     }
 
     /// Notes the name of a command that runs another one.
@@ -318,7 +320,7 @@ impl Finder<'_> {
         self.next.c_locale = false;
     }
 
-    /// Reads a word behind the name of a wrapper.
+    /// Reads a word after the name of a wrapper.
     fn read_option(&mut self, index: usize, word: &ShellWord, wrapper: Wrapper) -> Result<()> {
         if wrapper.is_adding {
             self.note_replacing(index, word)?;
@@ -326,16 +328,13 @@ impl Finder<'_> {
         let before = match bytes_of(self.names.alloc, &word.units)? {
             Some(bytes) => before_command(wrapper, &bytes),
             // An option with a value that isn't known, as `-P$N`.
-            None if byte_at(&word.units, 0) == Some(b'-') => Before::Option,
+            None if is_option(&word.units) => Before::Option,
             None => Before::Word,
         };
         match before {
             Before::Option => {}
             Before::Awaiting => self.state = State::Argument(wrapper),
-            Before::Stop => {
-                let name = self.runner_name;
-                self.state = State::Word(self.part(Program::Other, name, 0));
-            }
+            Before::Stop => self.begin(Program::Other, self.runner_name, 0),
             Before::End => self.state = State::Operand(wrapper.operands),
             Before::Word if wrapper.operands == 0 => return self.read_name(index, word),
             Before::Word => self.state = State::Operand(wrapper.operands.saturating_sub(1)),
@@ -345,13 +344,7 @@ impl Finder<'_> {
 
     /// Notes an option with which `xargs` puts lines into the words. It adds no operands then, unless another option may have it do so.
     fn note_replacing(&mut self, index: usize, word: &ShellWord) -> Result<()> {
-        let mut known = Vec::new(self.names.alloc);
-        for unit in &word.units {
-            match unit.byte() {
-                Some(byte) => known.push(byte)?,
-                None => break,
-            }
-        }
+        let known = known_bytes(self.names.alloc, &word.units)?;
         let is_known = known.len() == word.units.len();
         self.may_add = self.may_add || adds_operands(&known);
         if let Some(replacing) = replaced_by(index, &known, is_known) {
@@ -366,48 +359,40 @@ impl Finder<'_> {
         Ok(())
     }
 
-    /// Ends the command before the word of this number.
+    /// Ends the command, if there is one, before the word of this number.
     fn end(&mut self, end: usize) -> Result<()> {
-        if let State::Word(part) = self.state {
-            self.parts.push(Part { end, ..part })?;
+        if let State::Word = self.state {
+            let part = Part { end, ..self.next };
+            self.parts.push(part)?;
         }
         Ok(())
     }
 }
 
-/// Whether these units behind what may run them begin no command by themselves: an assignment, or a reserved word.
+/// Whether these units after what may run them begin no command by themselves: an assignment, or a reserved word.
 fn is_passed(units: &[Unit]) -> bool {
     is_assignment(units) || is_one_of(units, RESERVED)
 }
 
 /// Whether `find` with these words may have names from a list, which may begin with a hyphen: where one of them is `-files0-from`, or may be.
-/// A variable that is one word takes the next one for the list, and `find` refuses what is behind that unless it is an option.
+/// A variable that is one word takes the next one for the list, and `find` refuses what is after that unless it is an option.
 fn may_list(words: &[ShellWord]) -> bool {
-    let end = words
-        .iter()
-        .position(|word| is_one_of(&word.units, EXECUTING))
-        .unwrap_or(words.len());
-    for (index, word) in words.iter().take(end).enumerate() {
-        let next = index.saturating_add(1);
-        let is_refused = begins_option(words.get(next))
-            && begins_path(words.get(next.saturating_add(1)));
-        let is_hole = matches!(word.units.first(), Some(Unit::Hole(_)));
-        if word.is("-files0-from") || (is_hole && !is_refused) {
+    for (index, word) in words.iter().enumerate() {
+        if is_one_of(&word.units, EXECUTING) {
+            break;
+        }
+        let mut others = words.get(index.saturating_add(1)..).unwrap_or(&[]).iter();
+        let is_refused = others.next().is_some_and(|next| is_option(&next.units))
+            && others.next().is_some_and(|next| begins_path(&next.units));
+        if word.is("-files0-from") || (begins_open(&word.units) && !is_refused) {
             return true;
         }
     }
     false
 }
 
-/// Whether the word is known to begin with a hyphen.
-fn begins_option(word: Option<&ShellWord>) -> bool {
-    word.is_some_and(|word| byte_at(&word.units, 0) == Some(b'-'))
-}
-
 /// Whether the word is known to be a path for `find`, and no part of an expression.
-fn begins_path(word: Option<&ShellWord>) -> bool {
-    word.is_some_and(|word| {
-        byte_at(&word.units, 0).is_some_and(|first| !b"-()!,".contains(&first))
-            && !has_hole(&word.units)
-    })
+fn begins_path(units: &[Unit]) -> bool {
+    let is_path = byte_at(units, 0).is_some_and(|first| !b"-()!,".contains(&first));
+    is_path && !has_hole(units)
 }

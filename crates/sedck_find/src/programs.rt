@@ -1,8 +1,8 @@
 //! What the name of a command calls.
 
 use crate::mentions::writes_sed;
-use crate::names::{Names, Spot, replaced_name};
-use crate::units::{bytes_of, is_one_among, last_part};
+use crate::names::{Names, Point, replaced_name};
+use crate::units::{bytes_of, is_one_among, is_one_in, last_part, rest};
 use crate::values::{BLANKS, Value};
 use sedck_origin::{Hole, Result, Unit, byte_at, hole_name, is_among, named};
 use sedck_shell::ShellWord;
@@ -30,9 +30,9 @@ pub(crate) enum Program {
 #[derive(Clone, Copy)]
 pub(crate) struct Wrapper {
     /// The letters of the options that take an argument.
-    letters: &'static [u8],
+    letters: &'static str,
     /// The letters of the options with which no command runs that is known.
-    stops: &'static [u8],
+    stops: &'static str,
     /// How many operands precede the command.
     pub operands: usize,
     /// Whether it is `xargs`, which adds operands.
@@ -43,37 +43,33 @@ pub(crate) struct Wrapper {
     pub is_unknown: bool,
 }
 
-/// The names of commands that run another one, the letters of their options that take an argument, those of options with which no command
-/// runs that is known, and how many operands precede the command.
-type Named = (&'static [&'static str], &'static [u8], &'static [u8], usize);
-
-/// The commands that run another one.
-static WRAPPERS: &'static [Named] = &[
-    (&["env"], b"uC", b"S", 0),
-    (&["exec"], b"a", b"", 0),
-    (&["command"], b"", b"vV", 0),
-    (&["xargs"], b"adEILnPsJ", b"", 0),
-    (&["sudo"], b"ugpChrtTUDRac", b"el", 0),
-    (&["doas"], b"uCa", b"", 0),
-    (&["nice"], b"n", b"", 0),
-    (&["ionice"], b"cn", b"pPu", 0),
-    (&["nohup", "setsid", "builtin"], b"", b"", 0),
-    (&["busybox", "toybox"], b"", b"", 0),
-    (&["time"], b"fo", b"", 0),
-    (&["timeout", "gtimeout"], b"ks", b"", 1),
-    (&["stdbuf"], b"ioe", b"", 0),
-    (&["chroot", "taskset"], b"", b"", 1),
-    (&["fakeroot"], b"lisb", b"", 0),
-    (&["flock"], b"wEc", b"", 1),
-    (&["strace"], b"eoOpPsSuaIbX", b"", 0),
-    (&["ltrace"], b"eolpsuaxADFn", b"", 0),
-    (&["chrt"], b"TPD", b"", 1),
+/// The commands that run another one: their names, the letters of their options that take an argument, those of options with which no
+/// command runs that is known, and how many operands precede the command.
+static WRAPPERS: &'static [(&'static str, &'static str, &'static str, usize)] = &[
+    ("env", "uC", "S", 0),
+    ("exec", "a", "", 0),
+    ("command", "", "vV", 0),
+    ("xargs", "adEILnPsJ", "", 0),
+    ("sudo", "ugpChrtTUDRac", "el", 0),
+    ("doas", "uCa", "", 0),
+    ("nice", "n", "", 0),
+    ("ionice", "cn", "pPu", 0),
+    ("nohup setsid builtin busybox toybox", "", "", 0),
+    ("time", "fo", "", 0),
+    ("timeout gtimeout", "ks", "", 1),
+    ("stdbuf", "ioe", "", 0),
+    ("chroot taskset", "", "", 1),
+    ("fakeroot", "lisb", "", 0),
+    ("flock", "wEc", "", 1),
+    ("strace", "eoOpPsSuaIbX", "", 0),
+    ("ltrace", "eolpsuaxADFn", "", 0),
+    ("chrt", "TPD", "", 1),
 ];
 
 /// A command that comes before the one which it runs.
 const PREFIX: Wrapper = Wrapper {
-    letters: b"",
-    stops: b"",
+    letters: "",
+    stops: "",
     operands: 0,
     is_adding: false,
     is_env: false,
@@ -123,14 +119,14 @@ pub(crate) enum Before {
 
 /// What the word with these bytes is, where options of the wrapper may stand.
 pub(crate) fn before_command(wrapper: Wrapper, word: &[u8]) -> Before {
-    match word {
-        [b'-', b'-'] => Before::End,
-        [b'-', b'-', ..] if is_one_among(word, LONG) => Before::Awaiting,
+    match word.strip_prefix(b"-") {
+        None => Before::Word,
+        Some(letters) if !letters.starts_with(b"-") => wrapper.letters_before(letters),
+        Some(_) if is_one_among(word, LONG) => Before::Awaiting,
         // What is split there may be another command.
-        [b'-', b'-', b's', ..] if wrapper.is_env => Before::Stop,
-        [b'-', b'-', ..] => Before::Option,
-        [b'-', letters @ ..] => wrapper.letters_before(letters),
-        _ => Before::Word,
+        Some(_) if wrapper.is_env && word.starts_with(b"--s") => Before::Stop,
+        Some(_) if word.len() > 2 => Before::Option,
+        Some(_) => Before::End,
     }
 }
 
@@ -138,10 +134,10 @@ impl Wrapper {
     /// What a word of option letters is.
     fn letters_before(self, letters: &[u8]) -> Before {
         for (index, letter) in letters.iter().enumerate() {
-            if self.stops.contains(letter) {
+            if self.stops.as_bytes().contains(letter) {
                 return Before::Stop;
             }
-            if self.letters.contains(letter) {
+            if self.letters.as_bytes().contains(letter) {
                 let is_last = index.saturating_add(1) == letters.len();
                 return if is_last {
                     Before::Awaiting
@@ -154,7 +150,7 @@ impl Wrapper {
     }
 }
 
-/// The name of a command in a word: what is behind a variable that begins it, of which a shell may make other words, unless that is a part of
+/// The name of a command in a word: what is after a variable that begins it, of which a shell may make other words, unless that is a part of
 /// a path. As in `$(Q)sed`, it may be nothing, or what runs the command.
 pub(crate) fn glued_name(units: &[Unit]) -> &[Unit] {
     match units {
@@ -175,11 +171,8 @@ pub(crate) fn is_sed_word(names: &Names<'_>, word: &ShellWord) -> Result<bool> {
     }
     // What is before the name may be nothing, or a part of its path.
     let part = last_part(&word.units);
-    let holes = part
-        .iter()
-        .position(|unit| !matches!(*unit, Unit::Hole(_)))
-        .unwrap_or(part.len());
-    let name = part.get(holes..).unwrap_or(&[]);
+    let known = part.iter().position(|unit| unit.byte().is_some());
+    let name = rest(part, known.unwrap_or(part.len()));
     if name.len() > LONGEST {
         return Ok(false);
     }
@@ -192,16 +185,14 @@ pub(crate) fn program_of(
     names: &Names<'_>,
     word: &ShellWord,
     glued: usize,
-    spot: Spot,
+    point: Point,
 ) -> Result<Program> {
-    let units = word.units.get(glued..).unwrap_or(&[]);
+    let units = rest(&word.units, glued);
     if let [Unit::Hole(hole)] = *units {
-        return called_by(names, hole, spot);
+        return called_by(names, hole, point);
     }
-    match bytes_of(names.alloc, last_part(units))? {
-        Some(name) => Ok(named_program(&name)),
-        None => Ok(Program::Other),
-    }
+    let name = bytes_of(names.alloc, last_part(units))?;
+    Ok(name.map_or(Program::Other, |name| named_program(&name)))
 }
 
 /// What is called by a name that is written.
@@ -210,7 +201,7 @@ fn named_program(name: &[u8]) -> Program {
         return Program::Sed;
     }
     for (others, letters, stops, operands) in WRAPPERS {
-        if is_among(name, others) {
+        if is_one_in(name, others) {
             return Program::Wrapper(Wrapper {
                 letters,
                 stops,
@@ -237,8 +228,8 @@ pub(crate) fn is_sed_variable(name: &[u8]) -> bool {
 }
 
 /// What the hole calls, which is the whole word.
-fn called_by(names: &Names<'_>, hole: Hole, spot: Spot) -> Result<Program> {
-    if let Some(value) = names.value_of(hole, spot) {
+fn called_by(names: &Names<'_>, hole: Hole, point: Point) -> Result<Program> {
+    if let Some(value) = names.value_of(hole, point) {
         let is_split = hole.way.is_split();
         let first = first_word(names.alloc, value, is_split)?;
         return Ok(if is_sed_path(&first) {
@@ -260,14 +251,13 @@ fn called_by(names: &Names<'_>, hole: Hole, spot: Spot) -> Result<Program> {
 fn first_word(alloc: Global, value: Value<'_>, is_split: bool) -> Result<Vec<u8>> {
     let mut path = Vec::new(alloc);
     for index in 0..value.len().min(LONGEST) {
-        match value.get(index) {
-            Some((byte, _)) if is_split && BLANKS.contains(&byte) => {
-                if !path.is_empty() {
-                    break;
-                }
-            }
-            Some((byte, _)) => path.push(byte)?,
-            None => break,
+        let Some((byte, _)) = value.get(index) else {
+            break;
+        };
+        if !is_split || !BLANKS.contains(&byte) {
+            path.push(byte)?;
+        } else if !path.is_empty() {
+            break;
         }
     }
     Ok(path)

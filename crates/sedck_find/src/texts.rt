@@ -1,12 +1,12 @@
 //! The texts of a file, and those in them that are handed to a shell.
 
 use crate::assigning::may_fix_locale;
-use crate::names::{Names, Scope, Spot};
+use crate::names::{Names, Point, Scope};
 use crate::parts::{Part, parts_of};
 use crate::programs::Program;
 use crate::replaced::with_holes;
 use crate::settings::is_keyword_option;
-use crate::units::{bytes_of, is_letters, last_part};
+use crate::units::{after, bytes_of, has_letter, is_letters, last_part};
 use sedck_hosts::is_dollar_quoting;
 use sedck_origin::{Result, Text, Unit, begins_with, byte_at};
 use sedck_shell::{Form, ShellCommand, ShellWord, read_shell};
@@ -26,8 +26,8 @@ pub(crate) struct Held {
 
 impl Held {
     /// Where it is.
-    pub fn spot(&self) -> Spot {
-        self.scope.spot(self.command.site, 0)
+    pub fn point(&self) -> Point {
+        self.scope.point(self.command.site, 0)
     }
 }
 
@@ -41,7 +41,7 @@ pub(crate) struct Inner {
 
 /// What was read of a file.
 #[derive(Drop)]
-pub(crate) struct Reading<'a> {
+pub(crate) struct Texts<'a> {
     pub names: Names<'a>,
     /// The commands that may call sed.
     pub held: Vec<Held>,
@@ -52,7 +52,7 @@ pub(crate) struct Reading<'a> {
     pub unread: Vec<usize>,
 }
 
-impl Reading<'_> {
+impl Texts<'_> {
     /// Reads a text of the file.
     pub fn read(&mut self, text: Text, scope: Scope, is_value: bool) -> Result<()> {
         self.read_as(text, self.names.form, scope, is_value)
@@ -101,7 +101,7 @@ impl Reading<'_> {
         let words = command.words.as_slice();
         self.names.may_fix_locale |= may_fix_locale(words);
         self.names.note_command(command, scope)?;
-        let parts = parts_of(&self.names, words, Scope::Other.spot(command.site, 0))?;
+        let parts = parts_of(&self.names, words, Scope::Other.point(command.site, 0))?;
         for part in &parts {
             self.note_part(*part, command, form, scope)?;
         }
@@ -117,21 +117,25 @@ impl Reading<'_> {
         form: Form,
         scope: Scope,
     ) -> Result<()> {
-        let Some([name, words @ ..]) = command.words.get(part.name..part.end) else {
+        let Some((name, words)) = part.words(&command.words) else {
             return Ok(());
         };
-        match (part.program, command.words.first()) {
-            (Program::Shell, _) => {
+        match part.program {
+            Program::Shell => {
                 let form = self.form_for(name, form)?;
                 self.note_shell(words, part, command, form)
             }
-            (Program::Again, _) => self.note_again(words, name.is("trap"), form, scope),
-            (Program::User, _) => match user_text(words) {
+            Program::Again => self.note_again(words, name.is("trap"), form, scope),
+            Program::User => match user_text(words) {
                 Some(text) => self.note_other(text, part, command, plain(form)),
                 None => Ok(()),
             },
-            (Program::Sourcing, Some(first)) if is_fed(command) => {
-                Ok(self.unread.push(first.start)?)
+            Program::Sourcing if is_fed(command) => {
+                let start = command
+                    .words
+                    .first()
+                    .map_or(name.start, |first| first.start);
+                Ok(self.unread.push(start)?)
             }
             _ => Ok(()),
         }
@@ -177,8 +181,7 @@ impl Reading<'_> {
         let Some(replaced) = part.replaced.texts(alloc, &command.words)? else {
             return self.miss(text);
         };
-        let mut units = Vec::new(alloc);
-        units.extend_from_slice(text)?;
+        let mut units = Vec::from_slice(alloc, text)?;
         for one in &replaced {
             units = with_holes(alloc, &units, one)?;
         }
@@ -193,7 +196,7 @@ impl Reading<'_> {
         Ok(())
     }
 
-    /// Notes the text of `eval`, or of `trap`, which has other operands behind it.
+    /// Notes the text of `eval`, or of `trap`, which has other operands after it.
     fn note_again(
         &mut self,
         words: &[ShellWord],
@@ -205,18 +208,15 @@ impl Reading<'_> {
             Some(text) => Scope::Again(text),
             None => Scope::Other,
         };
-        let words = match words {
-            [first, others @ ..] if first.is("--") => others,
-            _ => words,
-        };
-        match words {
-            [] => Ok(()),
-            [_] if is_trap => Ok(()),
-            [first, ..] if is_trap => self.note_text(&first.units, form, scope),
-            _ => {
+        let has_end = words.first().is_some_and(|first| first.is("--"));
+        let words = words.get(usize::from(has_end)..).unwrap_or(&[]);
+        match words.first() {
+            Some(first) if is_trap && words.len() > 1 => self.note_text(&first.units, form, scope),
+            Some(_) if !is_trap => {
                 let text = joined(self.names.alloc, words)?;
                 self.note_text(&text, form, scope)
             }
+            _ => Ok(()),
         }
     }
 
@@ -226,8 +226,7 @@ impl Reading<'_> {
             return self.miss(text);
         }
         self.left = self.left.saturating_sub(text.len());
-        let mut units = Vec::new(self.names.alloc);
-        units.extend_from_slice(text)?;
+        let units = Vec::from_slice(self.names.alloc, text)?;
         Ok(self.inner.push(Inner { units, scope, form })?)
     }
 }
@@ -294,8 +293,8 @@ fn shell_text(words: &[ShellWord]) -> Input<'_> {
         if arguments > 0 {
             arguments = arguments.saturating_sub(1);
         } else if matches!(byte_at(&word.units, 0), Some(b'-' | b'+')) {
-            is_command = is_command || has_letter(&word.units, b'c');
-            is_standard = is_standard || has_letter(&word.units, b's');
+            is_command = is_command || has_letter(&word.units, "c");
+            is_standard = is_standard || has_letter(&word.units, "s");
             arguments = arguments_of(word);
         } else if is_command {
             return Input::Word(&word.units);
@@ -308,43 +307,35 @@ fn shell_text(words: &[ShellWord]) -> Input<'_> {
     Input::Standard
 }
 
-/// Whether the word is a hyphen and letters, of which one is this one.
-fn has_letter(units: &[Unit], letter: u8) -> bool {
-    is_letters(units) && units.iter().any(|unit| unit.byte() == Some(letter))
-}
-
 /// How many of the next words are arguments of the option: one for each `o` and `O`.
 fn arguments_of(word: &ShellWord) -> usize {
     if byte_at(&word.units, 1) == Some(b'-') {
         return usize::from(word.is("--rcfile") || word.is("--init-file"));
     }
-    let letters = word.units.iter();
-    letters
-        .filter(|unit| matches!(unit.byte(), Some(b'o' | b'O')))
-        .count()
+    let letters = word
+        .units
+        .iter()
+        .filter(|unit| matches!(unit.byte(), Some(b'o' | b'O')));
+    letters.count()
 }
 
 /// The text that `su` with these words after its name hands to a shell.
 fn user_text(words: &[ShellWord]) -> Option<&[Unit]> {
     for (index, word) in words.iter().enumerate() {
-        let next = words.get(index.saturating_add(1));
+        let next = words
+            .get(index.saturating_add(1))
+            .map(|next| next.units.as_slice());
         if word.is("--command") {
-            return next.map(|word| word.units.as_slice());
+            return next;
         }
         if begins_with(&word.units, COMMAND) {
             return word.units.get(COMMAND.len()..);
         }
-        if has_letter(&word.units, b'c') {
-            let letter = word
-                .units
-                .iter()
-                .position(|unit| unit.byte() == Some(b'c'))?;
-            let text = word.units.get(letter.saturating_add(1)..).unwrap_or(&[]);
-            return if text.is_empty() {
-                next.map(|word| word.units.as_slice())
-            } else {
-                Some(text)
-            };
+        match after(&word.units, b'c') {
+            Some(text) if is_letters(&word.units) => {
+                return if text.is_empty() { next } else { Some(text) };
+            }
+            _ => {}
         }
     }
     None

@@ -1,10 +1,9 @@
 //! The words of a call, each byte with its place in the file.
 
 use crate::found::Followed;
-use crate::names::{Names, Spot};
+use crate::names::{Names, Point};
 use crate::programs::is_sed_variable;
 use crate::values::{BLANKS, SPECIAL, Value};
-use sedck_hosts::Kind;
 use sedck_origin::{Hole, Origin, Result, Traced, Unit, Way, hole_name};
 use sedck_shell::{Pattern, ShellWord};
 use std::alloc::Global;
@@ -14,21 +13,19 @@ use std::alloc::Global;
 pub(crate) struct CallWord {
     pub traced: Traced,
     pub pattern: Pattern,
-    /// The offsets in the file of its first byte and behind its last one.
-    pub start: usize,
-    pub end: usize,
+    /// Where the file has it.
+    pub place: Hole,
     /// Whether it begins with a path that is no option: the name of a file that `find` gives, or of a process.
     pub is_path: bool,
 }
 
 impl CallWord {
-    /// A word that the file has in place of the hole.
-    pub fn of(traced: Traced, hole: Hole) -> CallWord {
+    /// A word that the file has there.
+    pub fn of(traced: Traced, place: Hole) -> CallWord {
         CallWord {
             traced,
             pattern: Pattern::None,
-            start: hole.start,
-            end: hole.end,
+            place,
             is_path: false,
         }
     }
@@ -46,12 +43,6 @@ impl CallWord {
         }
     }
 
-    /// Where the file has the word.
-    pub fn place(&self) -> Hole {
-        let (start, end, way) = (self.start, self.end, Way::Quoted);
-        Hole { start, end, way }
-    }
-
     /// The first hole of which the shell may make several words, or that is there before the shell reads the text.
     pub fn open_hole(&self) -> Option<Hole> {
         self.traced.origins.iter().find_map(|origin| match *origin {
@@ -62,19 +53,15 @@ impl CallWord {
 
     /// Puts a hole in place of each such text. Whether the file has all of them in the word.
     pub fn open(&mut self, text: &[u8]) -> bool {
-        let length = self.traced.bytes.len();
-        if text.is_empty() || length < text.len() {
-            return true;
-        }
         let mut resume = 0usize;
         let mut are_there = true;
-        for index in 0..length {
+        for index in 0..self.traced.bytes.len() {
             let end = index.saturating_add(text.len());
-            if index < resume || self.traced.bytes.get(index..end) != Some(text) {
-                continue;
+            let is_there = self.traced.bytes.get(index..end) == Some(text);
+            if is_there && index >= resume && !text.is_empty() {
+                resume = end;
+                are_there = self.open_between(index, end) && are_there;
             }
-            resume = end;
-            are_there = self.open_between(index, end) && are_there;
         }
         are_there
     }
@@ -87,11 +74,7 @@ impl CallWord {
         let (Some(Origin::At(start)), Some(Origin::At(stop))) = (first, last) else {
             return false;
         };
-        let hole = Hole {
-            start,
-            end: stop.saturating_add(1),
-            way: Way::Quoted,
-        };
+        let hole = quoted(start, stop.saturating_add(1));
         for index in from..end {
             if let Some(origin) = origins.get_mut(index) {
                 *origin = Origin::Hole(hole);
@@ -107,6 +90,12 @@ impl CallWord {
     pub fn is_hole_from(&self, from: usize) -> bool {
         self.is_hole(from) && (from..self.traced.origins.len()).all(|index| self.is_hole(index))
     }
+}
+
+/// What the file has between these offsets, of which a shell makes a part of one word.
+pub(crate) fn quoted(start: usize, end: usize) -> Hole {
+    let way = Way::Quoted;
+    Hole { start, end, way }
 }
 
 /// No bytes.
@@ -138,15 +127,17 @@ pub(crate) struct Filler<'a> {
 
 impl Filler<'_> {
     /// A word with the values that are known.
-    pub fn word(&mut self, word: &ShellWord, spot: Spot) -> Result<CallWord> {
+    pub fn word(&mut self, word: &ShellWord, point: Point) -> Result<CallWord> {
         // What isn't known of a long word doesn't matter.
         let units = word.units.get(..LONGEST).unwrap_or(&word.units);
         let spare = word.start.saturating_add(2);
         Ok(CallWord {
-            traced: self.filled(units, spot)?,
+            traced: self.filled(units, point)?,
             pattern: word.pattern,
-            start: word.start,
-            end: word.units.last().map_or(spare, |last| last.end()),
+            place: quoted(
+                word.start,
+                word.units.last().map_or(spare, |last| last.end()),
+            ),
             is_path: self.is_process(&word.units),
         })
     }
@@ -163,14 +154,14 @@ impl Filler<'_> {
     }
 
     /// Units with the values that are known. A word of one unit alone vanishes if that is nothing and isn't quoted.
-    pub fn filled(&mut self, units: &[Unit], spot: Spot) -> Result<Traced> {
+    pub fn filled(&mut self, units: &[Unit], point: Point) -> Result<Traced> {
         let mut traced = empty(self.names.alloc);
         let is_alone = units.len() == 1;
         for unit in units {
             match *unit {
                 Unit::Byte(byte, offset) => add(&mut traced, byte, Origin::At(offset))?,
                 Unit::Escape(byte, offset) => add(&mut traced, byte, Origin::Escape(offset))?,
-                Unit::Hole(hole) => match self.names.value_of(hole, spot) {
+                Unit::Hole(hole) => match self.names.value_of(hole, point) {
                     Some(value) if self.fits(value, hole.way, is_alone) => {
                         self.follow(hole, value)?;
                         add_value(&mut traced, value)?;
@@ -191,21 +182,17 @@ impl Filler<'_> {
         is_near && self.spend(value.len()) && !vanishes && value.is_kept(way)
     }
 
-    /// Whether the value of the hole is known and is no command: nothing, or what only tells make how to run the one behind it.
-    pub fn is_nothing(&mut self, units: &[Unit], spot: Spot) -> Result<bool> {
+    /// Whether the value of the hole is known and is no command: nothing, or what only tells make how to run the one after it.
+    pub fn is_nothing(&mut self, units: &[Unit], point: Point) -> Result<bool> {
         let [Unit::Hole(hole)] = *units else {
             return Ok(false);
         };
         let names = self.names;
-        let signs: &[u8] = if names.kind == Kind::Make {
-            b"@-+ \t"
-        } else {
-            b" \t"
-        };
-        let Some(value) = names.value_of(hole, spot) else {
+        let signs = if names.is_make() { "@-+ \t" } else { " \t" };
+        let Some(value) = names.value_of(hole, point) else {
             return Ok(false);
         };
-        let is_nothing = value.len() <= SIGNS && !value.has_other(signs);
+        let is_nothing = value.len() <= SIGNS && !value.has_other(signs.as_bytes());
         if is_nothing {
             self.follow(hole, value)?;
         }
@@ -214,7 +201,7 @@ impl Filler<'_> {
 
     /// Notes that the hole is replaced by the value.
     fn follow(&mut self, hole: Hole, value: Value<'_>) -> Result<()> {
-        let value = value.source(&self.names.lines, self.names.kind == Kind::Make);
+        let value = value.source(&self.names.lines, self.names.is_make());
         let Hole { start, end, .. } = hole;
         Ok(self.followed.push(Followed { start, end, value })?)
     }
@@ -226,10 +213,10 @@ impl Filler<'_> {
         fits
     }
 
-    /// The words of the value behind its first one: options, if the value is the name of a sed with options. None where that isn't known.
-    pub fn options(&mut self, hole: Hole, spot: Spot) -> Result<Option<Vec<CallWord>>> {
+    /// The words of the value after its first one: options, if the value is the name of a sed with options. None where that isn't known.
+    pub fn options(&mut self, hole: Hole, point: Point) -> Result<Option<Vec<CallWord>>> {
         let mut options = Vec::new(self.names.alloc);
-        if let Some(value) = self.names.value_of(hole, spot) {
+        if let Some(value) = self.names.value_of(hole, point) {
             if !hole.way.is_split() {
                 return Ok(Some(options));
             }
@@ -268,26 +255,23 @@ fn add_value(traced: &mut Traced, value: Value<'_>) -> Result<()> {
     Ok(())
 }
 
-/// The words of the value behind its first one.
+/// The words of the value after its first one.
 fn split_words(alloc: Global, value: Value<'_>, hole: Hole) -> Result<Vec<CallWord>> {
     let mut words = Vec::new(alloc);
     let mut traced = empty(alloc);
     let mut is_name = true;
     for index in 0..value.len().saturating_add(1) {
-        if let Some((byte, origin)) = value.get(index) {
-            if !BLANKS.contains(&byte) {
-                add(&mut traced, byte, origin)?;
-                continue;
+        match value.get(index) {
+            Some((byte, origin)) if !BLANKS.contains(&byte) => add(&mut traced, byte, origin)?,
+            _ if traced.bytes.is_empty() => {}
+            _ => {
+                let traced = std::mem::replace(&mut traced, empty(alloc));
+                if !is_name {
+                    words.push(CallWord::of(traced, hole))?;
+                }
+                is_name = false;
             }
         }
-        if traced.bytes.is_empty() {
-            continue;
-        }
-        let traced = std::mem::replace(&mut traced, empty(alloc));
-        if !is_name {
-            words.push(CallWord::of(traced, hole))?;
-        }
-        is_name = false;
     }
     Ok(words)
 }
