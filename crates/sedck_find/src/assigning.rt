@@ -4,11 +4,12 @@ use crate::mentions::writes_sed;
 use crate::names::{Names, Point, Scope};
 use crate::programs::{LONGEST, is_sed_path, is_sed_variable};
 use crate::units::{
-    after, begins_open, bytes_of, has_hole, is_option, known_bytes, rest, variable_of,
+    after, begins_open, bytes_of, has_hole, is_one_in, is_option, known_bytes, lone_hole, meant_by,
+    rest, variable_of,
 };
 use crate::values::written_value;
 use sedck_origin::{
-    Result, Unit, begins_with, byte_at, hole_name, is_among, is_name_byte, is_one_of, named,
+    Result, Unit, begins_with, byte_at, hole_name, is_name_byte, is_one_of, is_text,
 };
 use sedck_shell::{Pattern, ShellCommand, ShellWord};
 
@@ -39,19 +40,18 @@ enum Utility {
     Printing,
 }
 
-static UTILITIES: &'static [(Utility, &'static [&'static str])] = &[
-    (Utility::Exporting, &["export", "readonly"]),
-    (Utility::Declaring, &["local", "declare", "typeset"]),
-    (Utility::Setting, &["read", "unset"]),
-    (Utility::Setting, &["mapfile", "readarray"]),
-    (Utility::SettingFirst, &["for", "select"]),
-    (Utility::SettingSecond, &["getopts"]),
-    (Utility::Opening, &[".", "source", "let", "coproc"]),
-    (Utility::Aliasing, &["alias"]),
-    (Utility::Optioning, &["set", "shopt"]),
-    (Utility::Hashing, &["hash", "enable"]),
-    (Utility::Running, &["eval", "trap"]),
-    (Utility::Printing, &["printf"]),
+static UTILITIES: &'static [(Utility, &'static str)] = &[
+    (Utility::Exporting, "export readonly"),
+    (Utility::Declaring, "local declare typeset"),
+    (Utility::Setting, "read unset mapfile readarray"),
+    (Utility::SettingFirst, "for select"),
+    (Utility::SettingSecond, "getopts"),
+    (Utility::Opening, ". source let coproc"),
+    (Utility::Aliasing, "alias"),
+    (Utility::Optioning, "set shopt"),
+    (Utility::Hashing, "hash enable"),
+    (Utility::Running, "eval trap"),
+    (Utility::Printing, "printf"),
 ];
 
 /// Utilities that may make a variable read-only.
@@ -134,7 +134,7 @@ impl Names<'_> {
         point: Point,
     ) -> Result<()> {
         let utility = match bytes_of(self.alloc, &name.units)? {
-            Some(bytes) => named(UTILITIES, &bytes),
+            Some(bytes) => meant_by(UTILITIES, &bytes),
             None if self.gives_sed(&name.units) => None,
             None => Some(Utility::Opening),
         };
@@ -197,7 +197,7 @@ impl Names<'_> {
 
     /// Whether the units are a command that writes the path of a sed, or a variable that may have one.
     fn gives_sed(&self, units: &[Unit]) -> bool {
-        let [Unit::Hole(hole)] = *units else {
+        let Some(hole) = lone_hole(units) else {
             return false;
         };
         let written = self.written_hole(hole);
@@ -297,7 +297,7 @@ impl Names<'_> {
             let sign = file.get(index..).unwrap_or(&[]);
             let is_set = begins_sign(sign) && !name.is_empty();
             let may_be_set = match before.last() {
-                Some(b'$' | b'{') => is_set && is_among(before, &["${"]),
+                Some(b'$' | b'{') => is_set && before.starts_with(b"${"),
                 _ => is_arithmetic && !name.is_empty(),
             };
             if may_be_set {
@@ -306,10 +306,10 @@ impl Names<'_> {
                     self.note_sed(name);
                 }
             }
-            self.is_open |= is_set && is_among(before, &["{!"]);
+            self.is_open |= is_set && before.starts_with(b"{!");
             from = index.saturating_add(1);
             let last = file.get(index.saturating_sub(1)..from).unwrap_or(&[]);
-            if *byte == b'\n' || is_among(last, &["((", "))"]) {
+            if *byte == b'\n' || is_one_in(last, "(( ))") {
                 is_arithmetic = *byte == b'(';
             }
         }
@@ -331,7 +331,8 @@ fn assigns_sed(bytes: &[u8]) -> bool {
 
 /// Whether an assignment of LC_ALL is one of C or of POSIX, where a character is a byte; none of another variable.
 pub(crate) fn is_c_locale(units: &[Unit]) -> Option<bool> {
-    begins_with(units, "LC_ALL").then_some(is_one_of(units, &["LC_ALL=C", "LC_ALL=POSIX"]))
+    let is_c = is_text(units, "LC_ALL=C") || is_text(units, "LC_ALL=POSIX");
+    begins_with(units, "LC_ALL").then_some(is_c)
 }
 
 /// Whether the command may make LC_ALL read-only: bash then runs a call after an assignment to it in the locale that was before. What

@@ -13,7 +13,7 @@ use crate::programs::Program;
 use crate::script::{Around, script_of};
 use crate::settings::settings_of;
 use crate::texts::{Held, Texts};
-use crate::units::{bytes_of, rest};
+use crate::units::{bytes_of, lone_hole, rest};
 use crate::values::{has_placeholder, line_starts, written_value};
 use crate::words::{CallWord, Filler, quoted};
 use sedck_hosts::{Assignment, Kind, host_of, is_run_by_sed, kind_of, reads_dollar_quotes};
@@ -67,14 +67,8 @@ pub fn calls_in(
         lines: line_starts(alloc, file)?,
     };
     let texts = read_file(names)?;
-    let mut unread = Vec::from_slice(alloc, &texts.unread)?;
-    let calls = calls_of(&texts, &mut unread)?;
-    if kind == Kind::Shell && is_script_of_sed(path, file) {
-        unread.push(0)?;
-    }
-    unread.sort()?;
-    unread.dedup();
-    Ok(Found { calls, unread })
+    let is_sed = kind == Kind::Shell && is_script_of_sed(path, file);
+    found_in(&texts, is_sed)
 }
 
 /// Whether the file with this path and these bytes is no shell script, but one of sed, by its first line or else by its name.
@@ -103,18 +97,33 @@ fn read_file(names: Names<'_>) -> Result<Texts<'_>> {
     Ok(texts)
 }
 
+/// What is found in the commands that were read. A script of sed isn't understood.
+fn found_in(texts: &Texts<'_>, is_sed: bool) -> Result<Found> {
+    let mut unread = Vec::from_slice(texts.names.alloc, &texts.unread)?;
+    let calls = calls_of(texts, &mut unread)?;
+    if is_sed {
+        unread.push(0)?;
+    }
+    unread.sort()?;
+    unread.dedup();
+    Ok(Found { calls, unread })
+}
+
 /// The calls in the commands that were read, in the file's order, each once. The offsets of what may call sed otherwise are added.
 fn calls_of(texts: &Texts<'_>, unread: &mut Vec<usize>) -> Result<Vec<FoundCall>> {
     let names = &texts.names;
     let mut calls = Vec::new(names.alloc);
     let mut filler = Filler {
         names,
+        point: Scope::Other.point(Site::default(), 0),
         left: names.file.len().saturating_mul(2).saturating_add(SPARE),
         reach: REACH,
         followed: Vec::new(names.alloc),
+        named: Vec::new(names.alloc),
     };
     for held in &texts.held {
-        let parts = parts_of(names, &held.command.words, held.point())?;
+        filler.point = held.point();
+        let parts = parts_of(names, &held.command.words, filler.point)?;
         add_calls(&mut calls, &mut filler, held, &parts)?;
         add_mentions(unread, names, held, &parts)?;
     }
@@ -132,10 +141,10 @@ fn add_mentions(
 ) -> Result<()> {
     let words = held.command.words.as_slice();
     // A source of Autoconf may have prose among its commands.
-    let is_strict = held.is_value || names.kind == Kind::Autoconf;
+    let is_strict = held.is_value || names.has_macros();
     for part in parts {
         if let Program::Other | Program::Shell | Program::User = part.program {
-            if let Some(offset) = mention_in(names, words, *part, is_strict)? {
+            if let Some(offset) = mention_in(names, words, part, is_strict)? {
                 unread.push(offset)?;
             }
         }
@@ -149,10 +158,11 @@ fn add_mentions(
 /// Reads the shell text of a file that isn't a shell script, and the values of make's variables.
 fn read_host(texts: &mut Texts<'_>) -> Result<()> {
     let (alloc, kind) = (texts.names.alloc, texts.names.kind);
+    let has_macros = texts.names.has_macros();
     let host = host_of(alloc, kind, texts.names.file)?;
     texts.unread.extend_from_slice(&host.unread)?;
     for (index, text) in host.texts.iter().enumerate() {
-        let number = if kind == Kind::Autoconf { 0 } else { index };
+        let number = if has_macros { 0 } else { index };
         texts.read(Text::Units(text), Scope::Own(number), false)?;
     }
     if kind == Kind::Make {
@@ -172,14 +182,9 @@ fn read_assignment(texts: &mut Texts<'_>, assignment: &Assignment) -> Result<()>
         Dialect::Template if has_placeholder(&assignment.value) => None,
         _ => written_value(names.alloc, &assignment.value)?,
     };
-    let is_certain = assignment.is_certain;
-    let point = Scope::Own(0).point(
-        Site {
-            body: 0,
-            is_certain,
-        },
-        0,
-    );
+    let mut site = Site::default();
+    site.is_certain = assignment.is_certain;
+    let point = Scope::Own(0).point(site, 0);
     names.note(assignment.name.clone()?, value, point)?;
     if names.begins_with_sed(&assignment.value)? {
         names.note_sed(&assignment.name);
@@ -197,14 +202,14 @@ fn add_calls(
     filler.followed.clear();
     let here = match &held.command.here {
         Some(units) if parts.len() == 1 && !held.command.has_other_here => {
-            let traced = filler.filled(units, held.point())?;
+            let traced = filler.filled(units)?;
             Some(CallWord::of(traced, quoted(0, 0)))
         }
         _ => None,
     };
     for part in parts {
         if let Program::Sed = part.program {
-            match found_call(filler, held, *part, here.as_ref())? {
+            match found_call(filler, held, part, here.as_ref())? {
                 Some(call) if held.is_value && matches!(&call.script, FoundScript::Refused(_)) => {}
                 Some(call) => calls.push(call)?,
                 None => {}
@@ -218,32 +223,32 @@ fn add_calls(
 fn found_call(
     filler: &mut Filler<'_>,
     held: &Held,
-    part: Part,
+    part: &Part,
     here: Option<&CallWord>,
 ) -> Result<Option<FoundCall>> {
     let names = filler.names;
     let Some((name, others)) = part.words(&held.command.words) else {
         return Ok(None);
     };
-    if names.form.dialect == Dialect::Macros && is_prose(names.file, name, others) {
+    if names.has_macros() && is_prose(names.file, name, others) {
         return Ok(None);
     }
-    let mut named = Vec::new(names.alloc);
-    let (words, are_known) = words_of(filler, held, part, &mut named)?;
+    let changed = changed_by(names, name, others, part)?;
+    filler.named.clear();
+    let (words, are_known) = words_of(filler, held, part)?;
     let start = name_start(name, part);
     let around = Around {
-        names,
         name: quoted(start, name_end(name)),
         runner: part.runner,
         here,
-        named: &named,
+        named: &filler.named,
     };
-    let mut script = match changed_by(names, name, others, part)? {
+    let mut script = match changed {
         Some(unknown) => FoundScript::Unknown(unknown),
         None if !are_known => FoundScript::Unknown(Unknown::Words),
-        None => script_of(&words, around)?,
+        None => script_of(names, &words, around)?,
     };
-    note_assumptions(filler, held, &mut script)?;
+    note_assumptions(filler, &mut script)?;
     Ok(Some(FoundCall {
         start,
         overwritten: overwritten_by(filler, held, part.runner, &script, &words)?,
@@ -256,13 +261,13 @@ fn found_call(
 
 /// Notes which conditions of a script are on variables whose values may be given, and takes that POSIXLY_CORRECT isn't set for one that is,
 /// where it is assumed.
-fn note_assumptions(filler: &mut Filler<'_>, held: &Held, script: &mut FoundScript) -> Result<()> {
+fn note_assumptions(filler: &mut Filler<'_>, script: &mut FoundScript) -> Result<()> {
     let FoundScript::Text { holes, .. } = script else {
         return Ok(());
     };
     let has_order = filler.names.assumed.has_order();
     for hole in holes.iter_mut() {
-        hole.is_variable = filler.names.variable_at(hole.hole, held.point()).is_some();
+        hole.is_variable = filler.names.variable_at(hole.hole, filler.point).is_some();
         if has_order && hole.is_of_order() {
             let Hole { start, end, .. } = hole.hole;
             let value = KnownValue::Unset;
@@ -274,7 +279,7 @@ fn note_assumptions(filler: &mut Filler<'_>, held: &Held, script: &mut FoundScri
 }
 
 /// The offset in the file of the name of a call, without what may run it in the same word.
-fn name_start(name: &ShellWord, part: Part) -> usize {
+fn name_start(name: &ShellWord, part: &Part) -> usize {
     match name.units.get(part.glued) {
         Some(unit) if part.glued > 0 => unit.start(),
         _ => name.start,
@@ -302,7 +307,7 @@ fn changed_by(
     names: &Names<'_>,
     name: &ShellWord,
     others: &[ShellWord],
-    part: Part,
+    part: &Part,
 ) -> Result<Option<Unknown>> {
     let is_redefined = match bytes_of(names.alloc, rest(&name.units, part.glued))? {
         Some(name) => names.is_replaced(&name) || (part.is_direct && names.is_function(&name)),
@@ -318,32 +323,27 @@ fn changed_by(
 
 /// The words of a call after its name, with the options in the value of a variable that is the name, and whether all that is put into them
 /// is known. What isn't known of the name and of what runs it is noted.
-fn words_of(
-    filler: &mut Filler<'_>,
-    held: &Held,
-    part: Part,
-    named: &mut Vec<OpenHole>,
-) -> Result<(Vec<CallWord>, bool)> {
+fn words_of(filler: &mut Filler<'_>, held: &Held, part: &Part) -> Result<(Vec<CallWord>, bool)> {
     let alloc = filler.names.alloc;
     let mut words = Vec::new(alloc);
     let Some((name, others)) = part.words(&held.command.words) else {
         return Ok((words, true));
     };
     let called = rest(&name.units, part.glued);
-    match *called {
-        [Unit::Hole(hole)] => match filler.options(hole, held.point())? {
+    match lone_hole(called) {
+        Some(hole) => match filler.options(hole)? {
             Some(options) => words = options,
-            None => note_named(named, called, Role::Sed)?,
+            None => filler.note_named(called, Role::Sed)?,
         },
-        _ => note_named(named, called, Role::Word)?,
+        None => filler.note_named(called, Role::Word)?,
     }
-    note_before(filler, held, part, named)?;
+    note_before(filler, held, part)?;
     let Some(texts) = part.replaced.texts(alloc, &held.command.words)? else {
         return Ok((words, false));
     };
     let mut are_known = !part.has_more_unknown;
     for word in others {
-        let mut word = filler.word(word, held.point())?;
+        let mut word = filler.word(word)?;
         are_known = put_in(&mut word, part.runner, &texts) && are_known;
         words.push(word)?;
     }
@@ -352,68 +352,61 @@ fn words_of(
 
 /// Notes what may run the call, and each hole before its name and in redirections in whose place there may be several words. A shell splits
 /// none that it assigns.
-fn note_before(
-    filler: &mut Filler<'_>,
-    held: &Held,
-    part: Part,
-    named: &mut Vec<OpenHole>,
-) -> Result<()> {
+fn note_before(filler: &mut Filler<'_>, held: &Held, part: &Part) -> Result<()> {
     let command = held.command.words.as_slice();
     if let Some(runner) = part.unknown.and_then(|number| command.get(number)) {
         let units = runner.units.get(..1).unwrap_or(&[]);
-        if !filler.is_nothing(units, held.point())? {
-            note_named(named, units, Role::Runner)?;
+        if !filler.is_nothing(units)? {
+            filler.note_named(units, Role::Runner)?;
         }
     }
     let mut is_assigned = true;
     for (number, word) in command.iter().enumerate().take(part.name) {
         is_assigned = is_assigned && is_assignment(&word.units);
-        for unit in &word.units {
+        if part.unknown != Some(number) {
+            filler.note_split(&word.units, is_assigned)?;
+        }
+    }
+    for hole in &held.command.made {
+        filler.note_hole(*hole)?;
+    }
+    Ok(())
+}
+
+impl Filler<'_> {
+    /// Notes each hole in whose place there may be several words, where the units are an assignment or not.
+    fn note_split(&mut self, units: &[Unit], is_assigned: bool) -> Result<()> {
+        for unit in units {
+            if let Unit::Hole(hole) = *unit {
+                if hole.way.is_made() || (hole.way.is_split() && !is_assigned) {
+                    self.note_hole(hole)?;
+                }
+            }
+        }
+        Ok(())
+    }
+
+    /// Notes the hole, unless its value is known and is a part of one word.
+    fn note_hole(&mut self, hole: Hole) -> Result<()> {
+        let filled = self.filled(&[Unit::Hole(hole)])?;
+        if has_hole(&filled.origins) {
+            self.named.push(OpenHole::outside(hole, Role::Word))?;
+        }
+        Ok(())
+    }
+
+    /// Notes each hole of a name of which a shell may make several words.
+    fn note_named(&mut self, units: &[Unit], role: Role) -> Result<()> {
+        for unit in units {
             match *unit {
-                Unit::Hole(hole)
-                    if part.unknown != Some(number) && may_be_words(hole, is_assigned) => {
-                    note_hole(filler, held, hole, named)?;
+                Unit::Hole(hole) if hole.way.is_split() => {
+                    self.named.push(OpenHole::outside(hole, role))?;
                 }
                 _ => {}
             }
         }
+        Ok(())
     }
-    for hole in &held.command.made {
-        note_hole(filler, held, *hole, named)?;
-    }
-    Ok(())
-}
-
-/// Whether there may be several words in place of the hole, which is a part of an assignment or not.
-fn may_be_words(hole: Hole, is_assigned: bool) -> bool {
-    hole.way.is_made() || (hole.way.is_split() && !is_assigned)
-}
-
-/// Notes the hole, unless its value is known and is a part of one word.
-fn note_hole(
-    filler: &mut Filler<'_>,
-    held: &Held,
-    hole: Hole,
-    named: &mut Vec<OpenHole>,
-) -> Result<()> {
-    let filled = filler.filled(&[Unit::Hole(hole)], held.point())?;
-    if has_hole(&filled.origins) {
-        named.push(OpenHole::outside(hole, Role::Word))?;
-    }
-    Ok(())
-}
-
-/// Notes each hole of a name of which a shell may make several words.
-fn note_named(named: &mut Vec<OpenHole>, units: &[Unit], role: Role) -> Result<()> {
-    for unit in units {
-        match *unit {
-            Unit::Hole(hole) if hole.way.is_split() => {
-                named.push(OpenHole::outside(hole, role))?;
-            }
-            _ => {}
-        }
-    }
-    Ok(())
 }
 
 /// Puts holes into a word where what runs the sed replaces these texts by a name or a line. Whether the file has all of them there.

@@ -70,25 +70,22 @@ fn name_at(text: &[u8]) -> &[u8] {
 
 /// Whether the words of a command are prose within brackets: the name is right after one, and the next word is letters alone.
 pub(crate) fn is_prose(file: &[u8], name: &ShellWord, others: &[ShellWord]) -> bool {
-    let before = name
-        .start
-        .checked_sub(1)
-        .and_then(|offset| file.get(offset));
+    let before = file.get(..name.start).unwrap_or(&[]);
     let is_plain = others.first().is_none_or(|next| {
         let mut units = next.units.iter();
         let is_word = !next.is_quoted && next.units.len() > 1;
         is_word && units.all(|unit| unit.byte().is_some_and(|byte| byte.is_ascii_alphabetic()))
     });
-    before == Some(&b'[') && is_plain && name.is("sed")
+    before.ends_with(b"[") && is_plain && name.is("sed")
 }
 
 /// Whether macros may change the script, which has this text, or a word of the call.
 pub(crate) fn has_macro(names: &Names<'_>, words: &[CallWord], text: &Traced) -> bool {
-    let mut texts = words.iter().map(|word| word.traced.bytes.as_slice());
+    let mut words = words.iter();
     has_bracket(&text.bytes)
         || has_macro_name(&text.bytes, &names.macros)
         || has_macro_hole(names.file, &text.origins)
-        || texts.any(|text| has_macro_name(text, &names.macros))
+        || words.any(|word| has_macro_name(&word.traced.bytes, &names.macros))
 }
 
 /// Whether a bracket is in the text, which is a quote of M4.

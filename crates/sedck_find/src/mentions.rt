@@ -5,12 +5,10 @@ use crate::names::Names;
 use crate::parts::{Part, Runner};
 use crate::programs::{LONGEST, Program, is_sed_word};
 use crate::units::{
-    begins_name, bytes_of, ends_with, has_hole, is_letters, is_one_among, is_option, known_bytes,
-    last_part, rest, variable_of,
+    begins_name, bytes_of, ends_with, has_hole, is_letters, is_one_among, is_one_in, is_option,
+    known_bytes, last_part, lone_hole, rest, variable_of,
 };
-use sedck_origin::{
-    Result, Unit, begins_with, byte_at, hole_name, is_among, is_name_byte, is_one_of,
-};
+use sedck_origin::{Result, Unit, begins_with, byte_at, hole_name, is_name_byte, is_text};
 use sedck_shell::ShellWord;
 
 /// Commands whose words are no commands.
@@ -40,7 +38,7 @@ static EDITORS: &'static [&'static str] = &[
 pub(crate) fn mention_in(
     names: &Names<'_>,
     words: &[ShellWord],
-    part: Part,
+    part: &Part,
     is_strict: bool,
 ) -> Result<Option<usize>> {
     let Some((name, others)) = part.words(words) else {
@@ -78,7 +76,7 @@ fn word_in(
             Some(next) => !is_strict || looks_called(next),
             None => runner == Runner::Adding,
         };
-        let is_value = matches!(*word.units.as_slice(), [Unit::Hole(hole)] if hole.way.is_split());
+        let is_value = lone_hole(&word.units).is_some_and(|hole| hole.way.is_split());
         if (is_value && has_value(names, &word.units)) || (is_called && is_sed_word(names, word)?) {
             return Ok(Some(word.start));
         }
@@ -101,14 +99,14 @@ fn text_in(words: &[ShellWord], from: usize, is_running: bool) -> Option<usize> 
 
 /// The number of the first word that may be a command: none where the words of a command with this name are no commands.
 fn first_open(names: &Names<'_>, name: &[u8], words: &[ShellWord]) -> usize {
-    let is_loop = is_among(name, &["for", "select"])
-        && words.get(2).is_none_or(|word| word.is("in"));
+    let is_loop = is_one_in(name, "for select") && words.get(2).is_none_or(|word| word.is("in"));
     let is_plain = is_loop || is_one_among(name, PLAIN);
     if !is_plain || names.is_function(name) {
         return 1;
     }
-    let brace = words.iter().skip(1).position(|word| !word.is_quoted
-        && is_one_of(&word.units, &["{", "}", "]]"]));
+    let mut others = words.iter().skip(1);
+    let brace = others.position(|word| !word.is_quoted
+        && (word.is("{") || word.is("}") || word.is("]]")));
     brace.map_or(words.len(), |place| place.saturating_add(1))
 }
 
@@ -217,14 +215,12 @@ fn has_name(units: &[Unit]) -> bool {
 
 /// Whether the word before a text is an option that says that a shell runs it.
 fn is_command_option(units: &[Unit]) -> bool {
-    (is_letters(units) && ends_with(units, b'c')) || is_one_of(units, &["--command"])
+    (is_letters(units) && ends_with(units, b'c')) || is_text(units, "--command")
 }
 
 /// Whether the word after a name looks like an option or a script: it begins with a hyphen, is quoted or has a slash.
 fn looks_called(word: &ShellWord) -> bool {
-    let has_slash = word
-        .units
-        .iter()
-        .any(|unit| matches!(*unit, Unit::Byte(b'/', _)));
+    let mut units = word.units.iter();
+    let has_slash = units.any(|unit| matches!(*unit, Unit::Byte(b'/', _)));
     word.is_quoted || has_slash || is_option(&word.units)
 }

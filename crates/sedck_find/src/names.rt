@@ -3,11 +3,11 @@
 use crate::found::Assumptions;
 use crate::macros::is_defined;
 use crate::settings::Settings;
-use crate::units::{bytes_of, is_one_among};
+use crate::units::{bytes_of, is_one_among, is_one_in};
 use crate::values::Value;
 use sedck_hosts::Kind;
-use sedck_origin::{Hole, Result, Unit, hole_name, is_among};
-use sedck_shell::{Form, Site};
+use sedck_origin::{Hole, Result, Unit, hole_name};
+use sedck_shell::{Dialect, Form, Site};
 use std::alloc::Global;
 use std::collections::BTreeMap;
 
@@ -135,7 +135,7 @@ impl<'a> Names<'a> {
     /// Notes the name of a function or an alias. Any may be run where it isn't known, or is a word before a command that not each shell reserves.
     pub fn note_function(&mut self, name: &[Unit]) -> Result<()> {
         match bytes_of(self.alloc, name)? {
-            Some(name) if !is_among(&name, &["time", "coproc"]) => {
+            Some(name) if !is_one_in(&name, "time coproc") => {
                 self.functions.insert(name, ())?;
             }
             _ => self.settings.has_tables = true,
@@ -156,6 +156,11 @@ impl<'a> Names<'a> {
     /// Whether the file is a makefile.
     pub fn is_make(&self) -> bool {
         self.kind == Kind::Make
+    }
+
+    /// Whether macros of M4 may change what the file has.
+    pub fn has_macros(&self) -> bool {
+        self.form.dialect == Dialect::Macros
     }
 
     /// Whether make replaces the hole.
@@ -244,11 +249,9 @@ pub(crate) fn replaced_name(written: &[u8], kind: Kind) -> Option<&[u8]> {
 
 /// Whether an odd number of dollar signs precedes the offset, so that the one there is the shell's and not make's.
 fn is_doubled(file: &[u8], offset: usize) -> bool {
+    let before = file.get(offset.saturating_sub(DOLLARS)..offset);
     let mut is_odd = false;
-    for byte in file
-        .get(offset.saturating_sub(DOLLARS)..offset)
-        .unwrap_or(&[])
-    {
+    for byte in before.unwrap_or(&[]) {
         is_odd = *byte == b'$' && !is_odd;
     }
     is_odd

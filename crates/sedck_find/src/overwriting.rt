@@ -4,9 +4,10 @@ use crate::found::{FoundScript, Overwritten};
 use crate::names::{Names, replaced_name};
 use crate::parts::Runner;
 use crate::texts::Held;
-use crate::words::{CallWord, Filler};
+use crate::units::is_one_in;
+use crate::words::{CallWord, Filler, STANDARD};
 use sedck_call::{Call, CallOption, Given, path_of};
-use sedck_origin::{Origin, Result, Traced, hole_name, is_among};
+use sedck_origin::{Origin, Result, Traced, hole_name};
 use sedck_shell::{ShellWord, Target};
 
 /// The most redirections of a call that are looked at, so that the time stays linear.
@@ -30,7 +31,7 @@ pub(crate) fn overwritten_by(
         if !target.is_emptied && !is_written {
             continue;
         }
-        let Some(path) = path_at(filler, held, &target.word)? else {
+        let Some(path) = path_at(filler, &target.word)? else {
             continue;
         };
         let is_read = has_operand(filler.names, call, words, &path)?
@@ -82,7 +83,7 @@ fn reads_standard(call: &Call, words: &[CallWord], runner: Runner) -> bool {
     let is_free = matches!(runner, Runner::Plain | Runner::Find);
     let is_named = call.inputs.iter().any(|number| {
         let word = words.get(*number);
-        word.is_some_and(|word| is_among(&word.traced.bytes, &["-", "/dev/stdin"]))
+        word.is_some_and(|word| is_one_in(&word.traced.bytes, STANDARD))
     });
     is_free && (is_named || call.inputs.is_empty())
 }
@@ -92,13 +93,13 @@ fn is_source(filler: &mut Filler<'_>, held: &Held, path: &[u8]) -> Result<bool> 
     let Some(source) = &held.command.source else {
         return Ok(false);
     };
-    Ok(path_at(filler, held, source)?.as_deref() == Some(path))
+    Ok(path_at(filler, source)?.as_deref() == Some(path))
 }
 
 /// The path that the word of a redirection is. What its variables have is no matter of the call's words.
-fn path_at(filler: &mut Filler<'_>, held: &Held, word: &ShellWord) -> Result<Option<Vec<u8>>> {
+fn path_at(filler: &mut Filler<'_>, word: &ShellWord) -> Result<Option<Vec<u8>>> {
     let count = filler.followed.len();
-    let word = filler.word(word, held.point())?;
+    let word = filler.word(word)?;
     filler.followed.truncate(count);
     written_path(filler.names, &word.traced)
 }

@@ -63,7 +63,7 @@ impl Part {
     };
 
     /// Its name and its other words, in the words of the whole command.
-    pub fn words(self, words: &[ShellWord]) -> Option<(&ShellWord, &[ShellWord])> {
+    pub fn words<'a>(&self, words: &'a [ShellWord]) -> Option<(&'a ShellWord, &'a [ShellWord])> {
         words.get(self.name..self.end)?.split_first()
     }
 }
@@ -81,27 +81,16 @@ pub(crate) enum Runner {
     Replacing,
 }
 
-/// What takes an assignment before the name of a command.
-#[derive(Clone, Copy, PartialEq, Eq)]
-enum Setter {
-    /// The shell, unless the variable is read-only.
-    Shell,
-    /// `env`.
-    Env,
-    /// A command that takes it for a name.
-    Nothing,
-}
-
 /// What the next word is.
 #[derive(Clone, Copy)]
 enum State {
     /// The name of a command.
     Name,
-    /// An option of a wrapper, or what follows.
-    Option(Wrapper),
-    /// The argument of an option of a wrapper.
-    Argument(Wrapper),
-    /// One of so many operands of a wrapper, and then the name of a command.
+    /// An option of the wrapper, or what follows.
+    Option,
+    /// The argument of an option of the wrapper.
+    Argument,
+    /// One of so many operands of the wrapper, and then the name of a command.
     Operand(usize),
     /// A word of `find`.
     Find,
@@ -123,15 +112,17 @@ struct Finder<'a> {
     may_add: bool,
     /// Whether `find` has names from a list, which may begin with a hyphen.
     is_listed: bool,
-    setter: Setter,
+    /// Whether an assignment before the next name sets a variable: the shell or `env` takes it, and it can't be read-only there.
+    assigns: bool,
     state: State,
     /// Whether the command is run by `find`.
     is_found: bool,
     /// Whether `find` asks first, so that the command doesn't end at `+`.
     asks: bool,
-    /// How many commands run the next one, and the number of the word that is the name of the last one.
+    /// How many commands run the next one, the last one of them, and the number of the word that is its name.
     wrappers: usize,
-    runner_name: usize,
+    wrapper: Wrapper,
+    wrapper_name: usize,
     /// Whether the word before is `{}`.
     follows_braces: bool,
 }
@@ -147,12 +138,13 @@ pub(crate) fn parts_of(names: &Names<'_>, words: &[ShellWord], point: Point) -> 
         replaces: false,
         may_add: false,
         is_listed: false,
-        setter: Setter::Shell,
+        assigns: !names.may_fix_locale,
         state: State::Name,
         is_found: false,
         asks: false,
         wrappers: 0,
-        runner_name: 0,
+        wrapper: Wrapper::PREFIX,
+        wrapper_name: 0,
         follows_braces: false,
     };
     for (index, word) in words.iter().enumerate() {
@@ -171,13 +163,13 @@ impl Finder<'_> {
     fn read(&mut self, index: usize, word: &ShellWord) -> Result<()> {
         match self.state {
             State::Name | State::Operand(0) => return self.read_name(index, word),
-            State::Option(wrapper) => return self.read_option(index, word, wrapper),
-            State::Argument(wrapper) => self.state = State::Option(wrapper),
+            State::Option => return self.read_option(index, word),
+            State::Argument => self.state = State::Option,
             State::Operand(count) => self.state = State::Operand(count.saturating_sub(1)),
             State::Find if is_one_of(&word.units, EXECUTING) => {
                 self.state = State::Name;
                 self.is_found = true;
-                self.asks = is_one_of(&word.units, &["-ok", "-okdir"]);
+                self.asks = word.is("-ok") || word.is("-okdir");
                 if self.next.runner == Runner::Plain && self.is_listed {
                     self.next.runner = Runner::Replacing;
                 } else if self.next.runner == Runner::Plain {
@@ -185,7 +177,7 @@ impl Finder<'_> {
                 }
                 self.next.replaced.has_braces = true;
                 self.wrappers = 0;
-                self.set_by(Setter::Nothing);
+                self.start_assignments(false);
             }
             State::Find => return self.read_in_find(index, word),
             State::Word => {
@@ -203,10 +195,8 @@ impl Finder<'_> {
     /// Reads a word of `find` that runs no command, unless what is before it does so.
     fn read_in_find(&mut self, index: usize, word: &ShellWord) -> Result<()> {
         let name = index.saturating_sub(1);
-        let is_open = self
-            .words
-            .get(name)
-            .is_some_and(|before| has_hole(&before.units));
+        let before = self.words.get(name);
+        let is_open = before.is_some_and(|before| has_hole(&before.units));
         if is_open && is_sed_word(self.names, word)? {
             self.begin(Program::Other, name, 0);
             self.end(self.words.len())?;
@@ -220,7 +210,7 @@ impl Finder<'_> {
         self.state = State::Name;
         if is_assignment(&word.units) {
             if let Some(is_c) = is_c_locale(&word.units) {
-                self.next.c_locale = is_c && self.is_kept();
+                self.next.c_locale = is_c && self.assigns;
             }
             return Ok(());
         }
@@ -235,10 +225,7 @@ impl Finder<'_> {
             self.note_runner(name)?;
         }
         match program {
-            Program::Wrapper(wrapper) if self.wrappers < WRAPPED => {
-                self.pass(index, wrapper);
-                self.state = State::Option(wrapper);
-            }
+            Program::Wrapper(wrapper) if self.wrappers < WRAPPED => self.pass(index, wrapper),
             Program::Wrapper(_) => self.begin(Program::Other, index, glued),
             Program::Find => {
                 self.is_listed = may_list(self.words.get(index..).unwrap_or(&[]));
@@ -256,7 +243,7 @@ impl Finder<'_> {
         let glued = word.units.len().saturating_sub(name);
         if glued > 0 {
             self.note_unknown(index);
-            self.set_by(Setter::Nothing);
+            self.start_assignments(false);
         }
         glued
     }
@@ -286,15 +273,6 @@ impl Finder<'_> {
         self.next.unknown = Some(index);
     }
 
-    /// Whether an assignment before a name stands.
-    fn is_kept(&self) -> bool {
-        match self.setter {
-            Setter::Shell => !self.names.may_fix_locale,
-            Setter::Env => true,
-            Setter::Nothing => false,
-        }
-    }
-
     /// Notes that the word of this number is the name of a command that runs another one. It may change what was set before it.
     fn pass(&mut self, index: usize, wrapper: Wrapper) {
         if wrapper.is_adding {
@@ -303,41 +281,40 @@ impl Finder<'_> {
             self.replaces = false;
             self.next.runner = Runner::Adding;
         }
-        self.runner_name = index;
         if wrapper.is_unknown {
             self.note_unknown(index);
         }
-        self.set_by(if wrapper.is_env {
-            Setter::Env
-        } else {
-            Setter::Nothing
-        });
+        self.wrapper = wrapper;
+        self.wrapper_name = index;
+        self.state = State::Option;
+        self.start_assignments(wrapper.is_env);
     }
 
-    /// Notes what takes the next assignments.
-    fn set_by(&mut self, setter: Setter) {
-        self.setter = setter;
+    /// Notes whether the next assignments set variables. What was set before is gone.
+    fn start_assignments(&mut self, assigns: bool) {
+        self.assigns = assigns;
         self.next.c_locale = false;
     }
 
     /// Reads a word after the name of a wrapper.
-    fn read_option(&mut self, index: usize, word: &ShellWord, wrapper: Wrapper) -> Result<()> {
-        if wrapper.is_adding {
+    fn read_option(&mut self, index: usize, word: &ShellWord) -> Result<()> {
+        if self.wrapper.is_adding {
             self.note_replacing(index, word)?;
         }
         let before = match bytes_of(self.names.alloc, &word.units)? {
-            Some(bytes) => before_command(wrapper, &bytes),
+            Some(bytes) => before_command(self.wrapper, &bytes),
             // An option with a value that isn't known, as `-P$N`.
             None if is_option(&word.units) => Before::Option,
             None => Before::Word,
         };
+        let operands = self.wrapper.operands;
         match before {
             Before::Option => {}
-            Before::Awaiting => self.state = State::Argument(wrapper),
-            Before::Stop => self.begin(Program::Other, self.runner_name, 0),
-            Before::End => self.state = State::Operand(wrapper.operands),
-            Before::Word if wrapper.operands == 0 => return self.read_name(index, word),
-            Before::Word => self.state = State::Operand(wrapper.operands.saturating_sub(1)),
+            Before::Awaiting => self.state = State::Argument,
+            Before::Stop => self.begin(Program::Other, self.wrapper_name, 0),
+            Before::End => self.state = State::Operand(operands),
+            Before::Word if operands == 0 => return self.read_name(index, word),
+            Before::Word => self.state = State::Operand(operands.saturating_sub(1)),
         }
         Ok(())
     }

@@ -2,9 +2,9 @@
 
 use crate::mentions::writes_sed;
 use crate::names::{Names, Point, replaced_name};
-use crate::units::{bytes_of, is_one_among, is_one_in, last_part, rest};
+use crate::units::{bytes_of, is_one_among, is_one_in, last_part, lone_hole, meant_by, rest};
 use crate::values::{BLANKS, Value};
-use sedck_origin::{Hole, Result, Unit, byte_at, hole_name, is_among, named};
+use sedck_origin::{Hole, Result, Unit, byte_at, hole_name};
 use sedck_shell::ShellWord;
 use std::alloc::Global;
 
@@ -66,16 +66,6 @@ static WRAPPERS: &'static [(&'static str, &'static str, &'static str, usize)] = 
     ("chrt", "TPD", "", 1),
 ];
 
-/// A command that comes before the one which it runs.
-const PREFIX: Wrapper = Wrapper {
-    letters: "",
-    stops: "",
-    operands: 0,
-    is_adding: false,
-    is_env: false,
-    is_unknown: true,
-};
-
 /// Long options that take the next word.
 static LONG: &'static [&'static str] = &[
     "--arg-file --delimiter --max-args --max-chars --max-procs --process-slot-var --user",
@@ -84,20 +74,20 @@ static LONG: &'static [&'static str] = &[
 ];
 
 /// Names of other programs, and what they are.
-static PROGRAMS: &'static [(Program, &'static [&'static str])] = &[
-    (Program::Shell, &["sh", "bash", "dash", "ksh", "zsh", "ash"]),
-    (Program::Shell, &["mksh", "ksh93"]),
-    (Program::Again, &["eval", "trap"]),
-    (Program::Sourcing, &[".", "source"]),
-    (Program::User, &["su", "runuser"]),
-    (Program::Find, &["find"]),
+static PROGRAMS: &'static [(Program, &'static str)] = &[
+    (Program::Sed, SEDS),
+    (Program::Shell, "sh bash dash ksh zsh ash mksh ksh93"),
+    (Program::Again, "eval trap"),
+    (Program::Sourcing, ". source"),
+    (Program::User, "su runuser"),
+    (Program::Find, "find"),
 ];
 
 /// The names of seds.
-static SEDS: &'static [&'static str] = &["sed", "gsed", "ssed"];
+const SEDS: &str = "sed gsed ssed";
 
 /// The names of variables that have the path of a shell.
-static SHELL_VARIABLES: &'static [&'static str] = &["SHELL", "CONFIG_SHELL", "BASH", "POSIX_SHELL"];
+const SHELL_VARIABLES: &str = "SHELL CONFIG_SHELL BASH POSIX_SHELL";
 
 /// The longest text of a hole, and the longest path, that is looked at, so that the time stays linear.
 pub(crate) const LONGEST: usize = 256;
@@ -131,6 +121,16 @@ pub(crate) fn before_command(wrapper: Wrapper, word: &[u8]) -> Before {
 }
 
 impl Wrapper {
+    /// A command that comes before the one which it runs.
+    pub const PREFIX: Wrapper = Wrapper {
+        letters: "",
+        stops: "",
+        operands: 0,
+        is_adding: false,
+        is_env: false,
+        is_unknown: true,
+    };
+
     /// What a word of option letters is.
     fn letters_before(self, letters: &[u8]) -> Before {
         for (index, letter) in letters.iter().enumerate() {
@@ -163,7 +163,7 @@ pub(crate) fn glued_name(units: &[Unit]) -> &[Unit] {
 
 /// Whether the word is the name of a sed, perhaps behind what isn't known, or a variable that has one.
 pub(crate) fn is_sed_word(names: &Names<'_>, word: &ShellWord) -> Result<bool> {
-    if let [Unit::Hole(hole)] = *word.units.as_slice() {
+    if let Some(hole) = lone_hole(&word.units) {
         let written = names.written_hole(hole);
         return Ok(hole_name(written).is_some_and(|name| {
             is_sed_variable(name) || names.may_be_sed(name) || writes_sed(written)
@@ -188,7 +188,7 @@ pub(crate) fn program_of(
     point: Point,
 ) -> Result<Program> {
     let units = rest(&word.units, glued);
-    if let [Unit::Hole(hole)] = *units {
+    if let Some(hole) = lone_hole(units) {
         return called_by(names, hole, point);
     }
     let name = bytes_of(names.alloc, last_part(units))?;
@@ -197,34 +197,31 @@ pub(crate) fn program_of(
 
 /// What is called by a name that is written.
 fn named_program(name: &[u8]) -> Program {
-    if is_among(name, SEDS) {
-        return Program::Sed;
-    }
     for (others, letters, stops, operands) in WRAPPERS {
         if is_one_in(name, others) {
             return Program::Wrapper(Wrapper {
                 letters,
                 stops,
                 operands: *operands,
-                is_adding: is_among(name, &["xargs"]),
-                is_env: is_among(name, &["env"]),
+                is_adding: is_one_in(name, "xargs"),
+                is_env: is_one_in(name, "env"),
                 is_unknown: false,
             });
         }
     }
-    named(PROGRAMS, name).unwrap_or(Program::Other)
+    meant_by(PROGRAMS, name).unwrap_or(Program::Other)
 }
 
 /// Whether the last part of the path is the name of a sed.
 pub(crate) fn is_sed_path(path: &[u8]) -> bool {
     let slash = path.iter().rposition(|byte| *byte == b'/');
     let from = slash.map_or(0, |slash| slash.saturating_add(1));
-    is_among(path.get(from..).unwrap_or(&[]), SEDS)
+    is_one_in(path.get(from..).unwrap_or(&[]), SEDS)
 }
 
 /// Whether a variable of this name has the path of a sed.
 pub(crate) fn is_sed_variable(name: &[u8]) -> bool {
-    is_among(name, &["SED", "GSED"])
+    is_one_in(name, "SED GSED")
 }
 
 /// What the hole calls, which is the whole word.
@@ -235,7 +232,7 @@ fn called_by(names: &Names<'_>, hole: Hole, point: Point) -> Result<Program> {
         return Ok(if is_sed_path(&first) {
             Program::Sed
         } else if first.is_empty() && is_split {
-            Program::Wrapper(PREFIX)
+            Program::Wrapper(Wrapper::PREFIX)
         } else {
             Program::Other
         });
@@ -265,7 +262,7 @@ fn first_word(alloc: Global, value: Value<'_>, is_split: bool) -> Result<Vec<u8>
 
 /// What is called by what is written, if no value is known.
 fn called_by_name(written: &[u8], names: &Names<'_>) -> Program {
-    if writes_sed(written) || is_among(written, &["%{__sed}", "%__sed"]) {
+    if writes_sed(written) || is_one_in(written, "%{__sed} %__sed") {
         return Program::Sed;
     }
     let Some(name) = hole_name(written) else {
@@ -276,10 +273,10 @@ fn called_by_name(written: &[u8], names: &Names<'_>) -> Program {
     let is_sed = is_whole && is_sed_variable(name);
     if is_sed || (is_whole && names.may_be_sed(name)) {
         Program::Sed
-    } else if is_whole && is_among(name, SHELL_VARIABLES) {
+    } else if is_whole && is_one_in(name, SHELL_VARIABLES) {
         Program::Shell
-    } else if is_whole && is_among(name, &["SUDO", "sudo"]) {
-        Program::Wrapper(PREFIX)
+    } else if is_whole && is_one_in(name, "SUDO sudo") {
+        Program::Wrapper(Wrapper::PREFIX)
     } else {
         Program::Other
     }

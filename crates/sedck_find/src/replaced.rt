@@ -54,7 +54,7 @@ impl Replaced {
     }
 
     /// The texts that are replaced in the words of this command; none where one isn't known.
-    pub fn texts(self, alloc: Global, words: &[ShellWord]) -> Result<Option<Vec<Vec<u8>>>> {
+    pub fn texts(&self, alloc: Global, words: &[ShellWord]) -> Result<Option<Vec<Vec<u8>>>> {
         let mut texts = Vec::new(alloc);
         if self.has_more {
             return Ok(None);

@@ -7,16 +7,15 @@ use crate::macros::has_macro;
 use crate::mending::mended;
 use crate::names::Names;
 use crate::parts::Runner;
-use crate::words::{CallWord, LONGEST};
+use crate::units::is_one_in;
+use crate::words::{CallWord, LONGEST, STANDARD};
 use sedck_call::{Call, CallFault, CallOption, Given, Piece, call_of};
-use sedck_origin::{Hole, Result, Way, has_hole, is_among};
-use sedck_shell::Dialect;
+use sedck_origin::{Hole, Result, Way, has_hole};
 use std::alloc::AllocError;
 
 /// What is known of a call beside its words.
 #[derive(Clone, Copy)]
 pub(crate) struct Around<'a> {
-    pub names: &'a Names<'a>,
     /// Where the name of the sed is.
     pub name: Hole,
     pub runner: Runner,
@@ -27,8 +26,12 @@ pub(crate) struct Around<'a> {
 }
 
 /// The script of a call with these words.
-pub(crate) fn script_of(words: &[CallWord], around: Around<'_>) -> Result<FoundScript> {
-    let alloc = around.names.alloc;
+pub(crate) fn script_of(
+    names: &Names<'_>,
+    words: &[CallWord],
+    around: Around<'_>,
+) -> Result<FoundScript> {
+    let alloc = names.alloc;
     let mut slices = Vec::new(alloc);
     let mut length = 0usize;
     for word in words {
@@ -42,25 +45,23 @@ pub(crate) fn script_of(words: &[CallWord], around: Around<'_>) -> Result<FoundS
     let is_open = around.runner == Runner::Adding
         || words.iter().any(|word| has_hole(&word.traced.origins));
     match call_of(alloc, &slices) {
-        Ok(call) => script_in(call, words, around),
+        Ok(call) => script_in(names, call, words, around),
         Err(CallFault::OutOfMemory) => Err(AllocError),
         Err(_) if is_open => Ok(FoundScript::Unknown(Unknown::Words)),
         // A bracket of M4 may end a command.
-        Err(_) if around.has_macros() => Ok(FoundScript::Unknown(Unknown::Macro)),
+        Err(_) if names.has_macros() => Ok(FoundScript::Unknown(Unknown::Macro)),
         Err(fault) => Ok(FoundScript::Refused(fault)),
     }
 }
 
-impl Around<'_> {
-    /// Whether macros of M4 may change the call.
-    fn has_macros(self) -> bool {
-        self.names.form.dialect == Dialect::Macros
-    }
-}
-
 /// The script of a call that a sed takes.
-fn script_in(call: Call, words: &[CallWord], around: Around<'_>) -> Result<FoundScript> {
-    let Around { names, here, .. } = around;
+fn script_in(
+    names: &Names<'_>,
+    call: Call,
+    words: &[CallWord],
+    around: Around<'_>,
+) -> Result<FoundScript> {
+    let here = around.here;
     let is_extended = |item: &Given| matches!(*item, Given::Alone(CallOption::Extended, _));
     if call.given.iter().any(is_extended) {
         return Ok(FoundScript::Foreign(call));
@@ -74,18 +75,19 @@ fn script_in(call: Call, words: &[CallWord], around: Around<'_>) -> Result<Found
     if names.assumed.mends {
         text = mended(names.alloc, names.file, text, &mut holes)?;
     }
-    let conditions = Conditions::of(names.alloc, &call, words, around.name, around.runner)?;
+    let conditions = Conditions::of(names.alloc, &call, words, around)?;
     if conditions.is_unknown {
         return Ok(FoundScript::Unknown(Unknown::Words));
     }
+    let others = conditions.holes;
     let has_pattern = |hole: &OpenHole| matches!(hole.role, Role::Pattern);
-    if names.settings.has_no_match && conditions.holes.iter().any(has_pattern) {
+    if names.settings.has_no_match && others.iter().any(has_pattern) {
         return Ok(FoundScript::Unknown(Unknown::Setting));
     }
-    if around.has_macros() && has_macro(names, words, &text) {
+    if names.has_macros() && has_macro(names, words, &text) {
         return Ok(FoundScript::Unknown(Unknown::Macro));
     }
-    holes.extend_from_slice(&conditions.holes)?;
+    holes.extend_from_slice(&others)?;
     holes.extend_from_slice(around.named)?;
     Ok(FoundScript::Text { call, text, holes })
 }
@@ -117,8 +119,8 @@ fn unknown_words(call: &Call, words: &[CallWord], here: Option<&CallWord>) -> Op
 
 /// Whether a word before the script begins with a hole, so that it may be another option, and isn't what an option takes.
 fn has_open_word(given: &[Given], words: &[CallWord], first: usize) -> bool {
-    let mut before = words.iter().take(first).filter_map(|word| word.hole_at(0));
-    before.any(|hole| hole.way != Way::Quoted)
+    let mut before = words.iter().take(first);
+    before.any(|word| word.hole_at(0).is_some_and(|hole| hole.way != Way::Quoted))
         || given.iter().any(|item| match *item {
             Given::Operand(number) if number < first => {
                 words.get(number).is_some_and(|word| word.is_hole(0))
@@ -129,24 +131,15 @@ fn has_open_word(given: &[Given], words: &[CallWord], first: usize) -> bool {
 
 /// Why the piece isn't known.
 fn unknown_piece(piece: Piece, words: &[CallWord], here: Option<&CallWord>) -> Option<Unknown> {
+    let (Piece::Text(origin) | Piece::File(origin)) = piece;
+    let word = words.get(origin.word)?;
     match piece {
-        Piece::File(origin) => {
-            let path = words
-                .get(origin.word)?
-                .traced
-                .bytes
-                .get(origin.from..)
-                .unwrap_or(&[]);
-            let is_known = here.is_some() && is_among(path, &["-", "/dev/stdin"]);
+        Piece::File(_) => {
+            let path = word.traced.bytes.get(origin.from..).unwrap_or(&[]);
+            let is_known = here.is_some() && is_one_in(path, STANDARD);
             (!is_known).then_some(Unknown::File)
         }
-        Piece::Text(origin) => {
-            let word = words.get(origin.word)?;
-            if word.is_hole_from(origin.from) {
-                Some(Unknown::Words)
-            } else {
-                word.is_hole(origin.from).then_some(Unknown::Part)
-            }
-        }
+        Piece::Text(_) if word.is_hole_from(origin.from) => Some(Unknown::Words),
+        Piece::Text(_) => word.is_hole(origin.from).then_some(Unknown::Part),
     }
 }

@@ -1,6 +1,6 @@
 //! Units of words.
 
-use sedck_origin::{Result, Unit, byte_at, is_name_byte, name_length};
+use sedck_origin::{Hole, Result, Unit, byte_at, is_name_byte, name_length};
 use std::alloc::Global;
 
 /// The bytes of the units, if none is a hole.
@@ -49,6 +49,14 @@ pub(crate) fn variable_of(units: &[Unit]) -> &[Unit] {
     }
 }
 
+/// The hole that the units are, if they are one alone.
+pub(crate) fn lone_hole(units: &[Unit]) -> Option<Hole> {
+    match units.first() {
+        Some(Unit::Hole(hole)) if units.len() == 1 => Some(*hole),
+        _ => None,
+    }
+}
+
 /// Whether a part of the units isn't known.
 pub(crate) fn has_hole(units: &[Unit]) -> bool {
     units.iter().any(|unit| unit.byte().is_none())
@@ -94,6 +102,16 @@ pub(crate) fn is_one_among(name: &[u8], lists: &[&str]) -> bool {
 pub(crate) fn is_one_in(name: &[u8], words: &str) -> bool {
     let mut words = words.as_bytes().split(|byte| *byte == b' ');
     words.any(|word| word == name)
+}
+
+/// What the rows have the name for, each of which has words with spaces between.
+pub(crate) fn meant_by<T: Copy>(rows: &[(T, &str)], name: &[u8]) -> Option<T> {
+    for (meant, words) in rows {
+        if is_one_in(name, words) {
+            return Some(*meant);
+        }
+    }
+    None
 }
 
 /// Whether a name in the text may begin at the index: no byte of one is before it.

@@ -59,8 +59,8 @@ impl Value<'_> {
 
     /// Whether its byte of this number is one of these.
     fn is_in(self, index: usize, bytes: &[u8]) -> bool {
-        self.get(index)
-            .is_some_and(|(byte, _)| bytes.contains(&byte))
+        let item = self.get(index);
+        item.is_some_and(|(byte, _)| bytes.contains(&byte))
     }
 
     /// Whether it has one of these bytes.

@@ -1,8 +1,9 @@
 //! The words of a call, each byte with its place in the file.
 
-use crate::found::Followed;
+use crate::found::{Followed, OpenHole};
 use crate::names::{Names, Point};
 use crate::programs::is_sed_variable;
+use crate::units::lone_hole;
 use crate::values::{BLANKS, SPECIAL, Value};
 use sedck_origin::{Hole, Origin, Result, Traced, Unit, Way, hole_name};
 use sedck_shell::{Pattern, ShellWord};
@@ -117,27 +118,29 @@ pub(crate) fn add(traced: &mut Traced, byte: u8, origin: Origin) -> Result<()> {
 #[derive(Drop)]
 pub(crate) struct Filler<'a> {
     pub names: &'a Names<'a>,
+    /// Where the command is whose words are filled.
+    pub point: Point,
     /// How many bytes of values may be put in yet, so that the time stays linear.
     pub left: usize,
     /// How many bytes before values may be read yet, which is done for their lines and columns.
     pub reach: usize,
     /// The variables that were replaced since this was taken.
     pub followed: Vec<Followed>,
+    /// What must hold of the name of the sed, and of what runs it.
+    pub named: Vec<OpenHole>,
 }
 
 impl Filler<'_> {
     /// A word with the values that are known.
-    pub fn word(&mut self, word: &ShellWord, point: Point) -> Result<CallWord> {
+    pub fn word(&mut self, word: &ShellWord) -> Result<CallWord> {
         // What isn't known of a long word doesn't matter.
         let units = word.units.get(..LONGEST).unwrap_or(&word.units);
         let spare = word.start.saturating_add(2);
+        let end = word.units.last().map_or(spare, |last| last.end());
         Ok(CallWord {
-            traced: self.filled(units, point)?,
+            traced: self.filled(units)?,
             pattern: word.pattern,
-            place: quoted(
-                word.start,
-                word.units.last().map_or(spare, |last| last.end()),
-            ),
+            place: quoted(word.start, end),
             is_path: self.is_process(&word.units),
         })
     }
@@ -154,14 +157,14 @@ impl Filler<'_> {
     }
 
     /// Units with the values that are known. A word of one unit alone vanishes if that is nothing and isn't quoted.
-    pub fn filled(&mut self, units: &[Unit], point: Point) -> Result<Traced> {
+    pub fn filled(&mut self, units: &[Unit]) -> Result<Traced> {
         let mut traced = empty(self.names.alloc);
         let is_alone = units.len() == 1;
         for unit in units {
             match *unit {
                 Unit::Byte(byte, offset) => add(&mut traced, byte, Origin::At(offset))?,
                 Unit::Escape(byte, offset) => add(&mut traced, byte, Origin::Escape(offset))?,
-                Unit::Hole(hole) => match self.names.value_of(hole, point) {
+                Unit::Hole(hole) => match self.names.value_of(hole, self.point) {
                     Some(value) if self.fits(value, hole.way, is_alone) => {
                         self.follow(hole, value)?;
                         add_value(&mut traced, value)?;
@@ -183,13 +186,13 @@ impl Filler<'_> {
     }
 
     /// Whether the value of the hole is known and is no command: nothing, or what only tells make how to run the one after it.
-    pub fn is_nothing(&mut self, units: &[Unit], point: Point) -> Result<bool> {
-        let [Unit::Hole(hole)] = *units else {
+    pub fn is_nothing(&mut self, units: &[Unit]) -> Result<bool> {
+        let Some(hole) = lone_hole(units) else {
             return Ok(false);
         };
         let names = self.names;
         let signs = if names.is_make() { "@-+ \t" } else { " \t" };
-        let Some(value) = names.value_of(hole, point) else {
+        let Some(value) = names.value_of(hole, self.point) else {
             return Ok(false);
         };
         let is_nothing = value.len() <= SIGNS && !value.has_other(signs.as_bytes());
@@ -214,16 +217,16 @@ impl Filler<'_> {
     }
 
     /// The words of the value after its first one: options, if the value is the name of a sed with options. None where that isn't known.
-    pub fn options(&mut self, hole: Hole, point: Point) -> Result<Option<Vec<CallWord>>> {
-        let mut options = Vec::new(self.names.alloc);
-        if let Some(value) = self.names.value_of(hole, point) {
+    pub fn options(&mut self, hole: Hole) -> Result<Option<Vec<CallWord>>> {
+        let alloc = self.names.alloc;
+        if let Some(value) = self.names.value_of(hole, self.point) {
             if !hole.way.is_split() {
-                return Ok(Some(options));
+                return Ok(Some(Vec::new(alloc)));
             }
             self.follow(hole, value)?;
             let fits = self.spend(value.len().saturating_mul(WORD));
             if fits && value.is_kept(Way::MadeQuoted) && !value.has_any(SPECIAL) {
-                return Ok(Some(split_words(self.names.alloc, value, hole)?));
+                return Ok(Some(split_words(alloc, value, hole)?));
             }
         } else {
             let may_be_sed = |name: &[u8]| self.names.may_be_sed(name) && !is_sed_variable(name);
@@ -231,9 +234,10 @@ impl Filler<'_> {
                 return Ok(None);
             }
         }
-        let mut traced = empty(self.names.alloc);
+        let mut traced = empty(alloc);
         let way = Way::Several;
         add(&mut traced, b'x', Origin::Hole(Hole { way, ..hole }))?;
+        let mut options = Vec::new(alloc);
         options.push(CallWord::of(traced, hole))?;
         Ok(Some(options))
     }
@@ -241,6 +245,9 @@ impl Filler<'_> {
 
 /// The most bytes of a value that is no command.
 const SIGNS: usize = 16;
+
+/// The paths of standard input.
+pub(crate) const STANDARD: &str = "- /dev/stdin";
 
 /// The most bytes that the words of a call have.
 pub(crate) const LONGEST: usize = 1_048_576;
