@@ -2,7 +2,8 @@
 
 use crate::words::{GREEN, RED, YELLOW, ink_where, push_inked};
 use crate::written::Written;
-use sedck_explanation::{Answer, Explanation, NamedFile, Position, Status, shown_name};
+use sedck_answer::{Answer, Explanation, Status};
+use sedck_report::{NamedFile, Position, shown_name};
 use std::alloc::{AllocError, Global};
 
 /// A call of sed in a file.

@@ -1,6 +1,6 @@
 //! What is said of each code: the page of the documents that explains it, and what was found.
 
-use sedck_explanation::{Code, Finding};
+use sedck_report::{Code, Finding};
 
 /// The page in the folder `docs` and its heading, as a link there would name them: the section that the finding's hint is about, or else
 /// that of its code.

@@ -3,7 +3,7 @@
 use crate::call_words::CallAnswer;
 use crate::conditions::{ConditionKind, KIND_COUNT, KINDS, KindCount};
 use crate::written::Written;
-use sedck_explanation::Status;
+use sedck_answer::Status;
 use std::alloc::{AllocError, Global};
 
 /// How many calls were found, by their answers.

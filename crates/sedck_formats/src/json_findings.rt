@@ -5,8 +5,9 @@ use crate::json_text::Json;
 use crate::listed::is_listed;
 use crate::names::{Names, Place};
 use crate::words::level_word;
-use sedck_explanation::{Explanation, Finding, Fix, Level, NewText, Position, Step};
+use sedck_answer::Explanation;
 use sedck_parts::delimited;
+use sedck_report::{Finding, Fix, Level, NewText, Position, Step};
 use std::alloc::{AllocError, Global};
 use std::str;
 

@@ -12,8 +12,9 @@ use crate::json_findings::{push_findings, push_place, push_positions, push_unrea
 use crate::json_text::Json;
 use crate::names::Names;
 use crate::words::{VERSION, answer_word};
+use sedck_answer::{Answer, Explanation, Status};
 use sedck_cert::{Bound, Limits};
-use sedck_explanation::{Answer, Explanation, Level, NamedFile, Status, shown_name};
+use sedck_report::{Level, NamedFile, shown_name};
 use std::alloc::{AllocError, Global};
 
 /// The object on a line, in ASCII, with the findings of at least this level.

@@ -7,8 +7,9 @@ ghost use Rattle.sedck_formats.specs.Plain.{IsPlainReport, IsPlainStatus};
 
 use crate::names::Names;
 use crate::text::text_findings;
-use sedck_explanation::{Code, Explanation, Finding, Level, Position, Status, not_judged};
+use sedck_answer::{Explanation, Status, not_judged};
 use sedck_plain::{Comments, Fault, plain_of};
+use sedck_report::{Code, Finding, Level, Position};
 use sedck_script::Script;
 use std::alloc::{AllocError, Global};
 

@@ -12,8 +12,8 @@ use crate::listed::is_listed;
 use crate::names::{Names, Place};
 use crate::words::{VERSION, level_word};
 use percent_encoding::{AsciiSet, NON_ALPHANUMERIC, ascii_set, utf8_percent_encode};
-use sedck_explanation::{Code, Explanation, Finding, Fix, Level, Position, Step};
-use sedck_report::end_behind;
+use sedck_answer::Explanation;
+use sedck_report::{Code, Finding, Fix, Level, Position, Step, end_behind};
 use std::alloc::{AllocError, Global};
 
 /// Where the schema of the format is.

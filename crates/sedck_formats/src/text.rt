@@ -11,7 +11,8 @@ use crate::words::{
     push_left_out,
 };
 use crate::written::Written;
-use sedck_explanation::{Explanation, Finding, Level, Position, Step};
+use sedck_answer::Explanation;
+use sedck_report::{Finding, Level, Position, Step};
 use std::alloc::{AllocError, Global};
 
 /// The most characters of a line that are shown above a caret.

@@ -2,7 +2,8 @@
 
 use crate::names::{Names, Place};
 use crate::written::Written;
-use sedck_explanation::{Answer, Explanation, Finding, Level, Position};
+use sedck_answer::{Answer, Explanation};
+use sedck_report::{Finding, Level, Position};
 use std::alloc::{AllocError, Global};
 
 /// The version of the program and of its formats.

@@ -1,11 +1,11 @@
 //! A finding in a page.
 
 use crate::markup::{push_place, push_prose};
-use sedck_explanation::{Finding, Step};
 use sedck_formats::{
     Shown, Written, command_line, excerpt, length_of, level_word, listed_steps, page_of,
     push_left_out,
 };
+use sedck_report::{Finding, Step};
 use std::alloc::AllocError;
 
 /// The most characters of a line that are shown in a finding.

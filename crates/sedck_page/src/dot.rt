@@ -3,12 +3,13 @@
 use crate::arrows::{Arrow, arrows_of};
 use crate::flow::flow_of;
 use crate::runs::{Runs, runs_of};
-use sedck_explanation::{Explanation, Finding, Position};
+use sedck_answer::Explanation;
 use sedck_flow::{Kind, Node};
 use sedck_formats::{
     Letters, Names, Shown, Written, answer_word, command_line, commands_of, excerpt, length_of,
     place_words, shown_of,
 };
+use sedck_report::{Finding, Position};
 use std::alloc::{AllocError, Global};
 
 /// The most characters of a line that are shown in a box.

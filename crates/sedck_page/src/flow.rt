@@ -1,6 +1,6 @@
 //! The part of a script's flow graph that its runs may reach.
 
-use sedck_explanation::{Answer, Explanation};
+use sedck_answer::{Answer, Explanation};
 use sedck_flow::{Edge, Node, edges_of};
 use sedck_search::reachability;
 use std::alloc::{AllocError, Global};

@@ -4,9 +4,10 @@ use crate::arrows::{Arrow, line_jumps};
 use crate::boxes::{is_at_top, push_box, push_mention};
 use crate::margin::{Margin, Spot, margin_of};
 use crate::strokes::{drawing_width, push_strokes};
-use sedck_explanation::{Explanation, Finding, Level};
+use sedck_answer::Explanation;
 use sedck_flow::Kind;
 use sedck_formats::{Letters, Shown, Written, line_in, mark_len};
+use sedck_report::{Finding, Level};
 use std::alloc::AllocError;
 
 /// What the kinds of jumps mean.
