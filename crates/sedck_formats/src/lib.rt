@@ -7,7 +7,6 @@
 #![tactic(auto)]
 
 mod call_words;
-mod codes;
 mod columns;
 mod conditions;
 mod counts;
@@ -19,6 +18,7 @@ mod letters;
 mod lines;
 mod listed;
 mod names;
+mod pages;
 mod plain;
 mod sarif;
 mod summary;
@@ -27,7 +27,6 @@ mod words;
 mod written;
 
 pub use call_words::{CallAnswer, CallAt, text_answer};
-pub use codes::page_of;
 pub use conditions::{ConditionKind, KindCount};
 pub use counts::{Counts, ScriptCounts, assumed_line};
 pub use gcc::gcc_report;
@@ -36,6 +35,7 @@ pub use letters::{Letters, line_in, mark_len};
 pub use lines::{LinePart, Shown, command_line, commands_of, excerpt, length_of, shown_of};
 pub use listed::{Stretch, is_listed, listed_steps};
 pub use names::{Names, PartName, Place};
+pub use pages::{page_of, page_words};
 pub use plain::plain_report;
 pub use sarif::{sarif_report, sarif_unreadable};
 pub use summary::{push_memory, push_steps};
