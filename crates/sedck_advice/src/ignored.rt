@@ -231,16 +231,11 @@ fn push_unknown(
     ensures { OnOk result (AddsOthers findings.old.items findings.new.items) }
 {
     let (message, hint) = unknown_words_of(alloc, word)?;
-    findings.push(Finding {
-        level: Level::Warning,
-        code: Code::UnknownCode,
-        position: Some(position),
-        end: Some(end_behind(text, position, word.bytes.len())),
-        message,
-        hint: Some(hint),
-        fix: None,
-        steps: Vec::new(alloc),
-    })?;
+    let mut finding = Finding::new(alloc, Level::Warning, Code::UnknownCode, message);
+    finding.position = Some(position);
+    finding.end = Some(end_behind(text, position, word.bytes.len()));
+    finding.hint = Some(hint);
+    findings.push(finding)?;
     Ok(())
 }
 

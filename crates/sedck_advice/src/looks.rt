@@ -47,16 +47,13 @@ pub(crate) fn push_looks(
     ensures { OnOk result (AddsOthers findings.old.items findings.new.items) }
 {
     for look in looks {
-        findings.push(Finding {
-            level: look.level(),
-            code: look.code,
-            position: Some(look.position),
-            end: look.end,
-            message: String::from_str(alloc, look.message)?,
-            hint: Some(look.hint),
-            fix: look.fix,
-            steps: Vec::new(alloc),
-        })?;
+        let message = String::from_str(alloc, look.message)?;
+        let mut finding = Finding::new(alloc, look.level(), look.code, message);
+        finding.position = Some(look.position);
+        finding.end = look.end;
+        finding.hint = Some(look.hint);
+        finding.fix = look.fix;
+        findings.push(finding)?;
     }
     Ok(())
 }

@@ -308,14 +308,7 @@ fn denial(alloc: Global, code: Code, position: Option<Position>, message: String
     ensures error { is_error result.level ≡ true }
     ensures warning { is_warning result.level ≡ false }
 {
-    Finding {
-        level: Level::Error,
-        code,
-        position,
-        end: None,
-        message,
-        hint: None,
-        fix: None,
-        steps: Vec::new(alloc),
-    }
+    let mut finding = Finding::new(alloc, Level::Error, code, message);
+    finding.position = position;
+    finding
 }

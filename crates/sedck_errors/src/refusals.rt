@@ -40,16 +40,13 @@ pub fn script_refusal(alloc: Global, text: &[u8], fault: ScriptFault) -> Result<
         ),
     };
     let position = position_at(text, offset);
-    Ok(Finding {
-        level: Level::Error,
-        code: Code::Script(fault),
-        position: Some(position),
-        end: Some(end_behind(text, position, fault_length(fault, spot))),
-        message: refusal_words(alloc, text, fault, message)?,
-        hint,
-        fix: mend.map(|mend| fix_at(text, offset, mend)),
-        steps: Vec::new(alloc),
-    })
+    let message = refusal_words(alloc, text, fault, message)?;
+    let mut finding = Finding::new(alloc, Level::Error, Code::Script(fault), message);
+    finding.position = Some(position);
+    finding.end = Some(end_behind(text, position, fault_length(fault, spot)));
+    finding.hint = hint;
+    finding.fix = mend.map(|mend| fix_at(text, offset, mend));
+    Ok(finding)
 }
 
 /// The message, with the labels that there are where one is missing.

@@ -87,14 +87,7 @@ pub fn call_finding(
     ensures end { result.end ≡ None }
     ensures steps { result.steps.items ≡ [] }
 {
-    Finding {
-        level,
-        code,
-        position: None,
-        end: None,
-        message,
-        hint,
-        fix: None,
-        steps: Vec::new(alloc),
-    }
+    let mut finding = Finding::new(alloc, level, code, message);
+    finding.hint = hint;
+    finding
 }

@@ -80,17 +80,12 @@ fn unspelled(
     explanation: &Explanation,
     why: Reason,
 ) -> Result<Vec<u8>, AllocError> {
+    let message = String::from_str(alloc, why.message)?;
+    let mut finding = Finding::new(alloc, Level::Error, Code::NoPlainSpelling, message);
+    finding.position = why.position;
+    finding.hint = Some(why.hint);
     let mut findings = Vec::new(alloc);
-    findings.push(Finding {
-        level: Level::Error,
-        code: Code::NoPlainSpelling,
-        position: why.position,
-        end: None,
-        message: String::from_str(alloc, why.message)?,
-        hint: Some(why.hint),
-        fix: None,
-        steps: Vec::new(alloc),
-    })?;
+    findings.push(finding)?;
     let refused = not_judged(alloc, explanation.text, findings);
     text_findings(alloc, names, &refused, Level::Error, false)
 }
