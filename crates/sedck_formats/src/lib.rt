@@ -6,6 +6,7 @@
 //! browsers, and graphs, are in `sedck_page`.
 #![tactic(auto)]
 
+mod answers;
 mod call_words;
 mod columns;
 mod conditions;
@@ -26,7 +27,8 @@ mod text;
 mod words;
 mod written;
 
-pub use call_words::{CallAnswer, CallAt, text_answer};
+pub use answers::{CallAnswer, answer_word};
+pub use call_words::{CallAt, text_answer};
 pub use conditions::{ConditionKind, KindCount};
 pub use counts::{Counts, ScriptCounts, assumed_line};
 pub use gcc::gcc_report;
@@ -40,7 +42,5 @@ pub use plain::plain_report;
 pub use sarif::{sarif_report, sarif_unreadable};
 pub use summary::{push_memory, push_steps};
 pub use text::{text_findings, text_report};
-pub use words::{
-    VERSION, answer_word, level_word, place_words, push_left_out, shown_letter, shown_path,
-};
+pub use words::{VERSION, level_word, place_words, push_left_out, shown_letter, shown_path};
 pub use written::Written;
