@@ -303,7 +303,7 @@ fn element_hint(rest: &[u8]) -> &'static str {
 }
 
 /// The names of classes, with what closes them.
-static CLASSES: [&'static str; 12] = [
+static CLASSES: &'static [&'static str] = &[
     "alnum:]", "alpha:]", "blank:]", "cntrl:]", "digit:]", "graph:]", "lower:]", "print:]",
     "punct:]", "space:]", "upper:]", "xdigit:]",
 ];

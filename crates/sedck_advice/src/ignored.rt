@@ -70,7 +70,7 @@ pub fn is_kept(code: Code) -> bool
 }
 
 /// The codes of warnings and notes on what a script is: all but those on what isn't known of it.
-static NAMED: [Code; 30] = [
+static NAMED: &'static [Code] = &[
     Code::OptionsInFirstLine,
     Code::BraceBehindLabel,
     Code::LooksExtended,

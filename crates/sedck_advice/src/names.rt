@@ -105,7 +105,7 @@ fn push_doubts<'a>(
     access: Access,
 ) -> Result<(), AllocError> {
     let name = file.name;
-    for code in &DOUBTS {
+    for code in DOUBTS {
         let is_meant = match *code {
             // What is read of both is no matter.
             Code::ReadAndWritten => access == Access::Write && has_name(paths.files.reads, name),

@@ -80,9 +80,10 @@ fn expression_fault_length(fault: ReFault, spot: Spot) -> usize {
 
 /// A backslash with the byte after it, else one byte.
 fn escape_length(rest: &[u8]) -> usize {
-    match rest {
-        [b'\\', _, ..] => 2,
-        _ => 1,
+    if rest.starts_with(b"\\") && rest.len() > 1 {
+        2
+    } else {
+        1
     }
 }
 

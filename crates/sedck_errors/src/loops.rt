@@ -67,14 +67,8 @@ fn loop_steps(
     walk: &Walk,
 ) -> Result<Vec<Step>, AllocError> {
     let mut steps = Vec::new(alloc);
-    for index in 0..walk.kinds.len() {
-        let (Some(from), Some(to), Some(kind)) = (
-            walk.nodes.get(index),
-            walk.nodes.get(index + 1),
-            walk.kinds.get(index),
-        ) else {
-            break;
-        };
+    let ends = walk.nodes.iter().zip(walk.nodes.iter().skip(1));
+    for ((from, to), kind) in ends.zip(&walk.kinds) {
         let edge = Edge {
             from: *from,
             to: *to,

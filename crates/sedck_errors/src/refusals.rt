@@ -188,10 +188,10 @@ fn reason_of(fault: ScriptFault, spot: Spot) -> &'static str {
 
 /// What is extra after a command, or in a comment or a name.
 fn extra_reason(rest: &[u8]) -> &'static str {
-    match rest {
-        [b'\r', ..] => "unexpected carriage return",
-        [b'\\', b'\n', ..] => "unexpected backslash at the end of the line",
-        [11 | 12, ..] => "unexpected control character",
+    match (rest.first(), rest.get(1)) {
+        (Some(b'\r'), _) => "unexpected carriage return",
+        (Some(b'\\'), Some(b'\n')) => "unexpected backslash at the end of the line",
+        (Some(11 | 12), _) => "unexpected control character",
         _ => "unexpected text after a command",
     }
 }
