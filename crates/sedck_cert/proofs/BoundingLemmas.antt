@@ -65,7 +65,7 @@ pub bounds_runs : (p : Program) → AreWellFormed p → (c : Certificate) (b : B
 bounds_runs p formed c b steady numbers lines steps run =
     rw (numbers.per_byte, numbers.per_line, numbers.fixed) (omega (arith, steady_counted p formed c steady lines steps run))
 
-bounds_wide_runs : (p : Program) → AreWellFormed p → (c : Certificate) (b : Bound) → IsSteady p c → IsBoundOf c b → BoundsAllRuns b (WideRun p)
+bounds_wide_runs : (p : Program) → AreWellFormed p → (c : Certificate) (b : Bound) → IsSteady p c → IsBoundOf c b → (d : ℕ) → BoundsAllRuns b (WideRun p d)
 bounds_wide_runs p formed c b steady numbers d files steps run =
     rw (numbers.per_byte, numbers.per_line, numbers.fixed) (omega (arith, wide_steady_counted p formed c steady d files steps run))
 

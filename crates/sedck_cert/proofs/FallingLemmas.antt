@@ -1,5 +1,5 @@
 -- The limit of a falling script: its numbers, and the edges that lower the first rank.
-use Rattle.std.proofs.Common.{◌≡◌, List, [], ◌∷◌, ◌++◌, Contains, refl, arith, append_assoc}
+use Rattle.std.proofs.Common.{◌≡◌, ℕ, List, [], ◌∷◌, ◌++◌, Contains, refl, arith, append_assoc}
 use Rattle.std.proofs.lemmas.List.{append-nil}
 use Rattle.std.proofs.lemmas.List.Elements.{All-from_recursion, All-contains, Contains-append_right}
 use Rattle.std.specs.List.{AllByRecursion}
@@ -47,7 +47,7 @@ pub bounds_runs : (p : Program) → AreWellFormed p → (c : Certificate) (b : B
 bounds_runs p formed c b falling numbers lines steps run =
     rw (numbers.per_byte, numbers.per_line, numbers.fixed) (omega (arith, falling_counted p formed c falling lines steps run))
 
-bounds_wide_runs : (p : Program) → AreWellFormed p → (c : Certificate) (b : Bound) → IsFalling p c → IsBoundByLines c b → BoundsAllRuns b (WideRun p)
+bounds_wide_runs : (p : Program) → AreWellFormed p → (c : Certificate) (b : Bound) → IsFalling p c → IsBoundByLines c b → (d : ℕ) → BoundsAllRuns b (WideRun p d)
 bounds_wide_runs p formed c b falling numbers d files steps run =
     rw (numbers.per_byte, numbers.per_line, numbers.fixed) (omega (arith, wide_falling_counted p formed c falling d files steps run))
 

@@ -3,8 +3,8 @@ use Rattle.std.specs.Prelude.{◌≡◌, ◌↔◌, ℕ, ◌+◌, ◌*◌, ◌�
 use Rattle.sedck_script.specs.Invariant.{AreWellFormed}
 use Rattle.sedck_script.specs.Program.{Program}
 use Rattle.sedck_script.specs.Names.{reads, writes}
-use Rattle.sedck_flow.specs.Run.{State, Event, Run, NamesForReading, NamesForWriting}
-use Rattle.sedck_flow.specs.WideRun.{Files, WideState, WideRun, all_lines}
+use Rattle.sedck_flow.specs.Run.{Files, State, Event, Run, NamesForReading, NamesForWriting}
+use Rattle.sedck_flow.specs.WideRun.{WideRun, all_lines}
 use Rattle.sedck_flow.specs.Flow.{HasKind}
 use Rattle.sedck_flow.specs.LiteralKinds.{HasLiteralKind}
 use Rattle.sedck_cert.specs.Certificate.{Certificate, IsCertificate}
@@ -40,11 +40,11 @@ SteadyRunsAreCounted = (p : Program) → AreWellFormed p → (c : Certificate) �
 -- the same of wide runs, by the lines of all files
 abbrev pub RanksBoundWideRuns : Type 0
 RanksBoundWideRuns = (p : Program) → AreWellFormed p → (c : Certificate) → IsRanked p c
-    → (d : ℕ) (files : Files) (steps : List (Event × WideState)) → WideRun p d files steps → length steps ≤ step_limit p c (all_lines files)
+    → (d : ℕ) (files : Files) (steps : List (Event × State)) → WideRun p d files steps → length steps ≤ step_limit p c (all_lines files)
 
 abbrev pub SteadyWideRunsAreCounted : Type 0
 SteadyWideRunsAreCounted = (p : Program) → AreWellFormed p → (c : Certificate) → IsSteady p c
-    → (d : ℕ) (files : Files) (steps : List (Event × WideState)) → WideRun p d files steps → length steps ≤ steady_limit c (all_lines files)
+    → (d : ℕ) (files : Files) (steps : List (Event × State)) → WideRun p d files steps → length steps ≤ steady_limit c (all_lines files)
 
 -- the steps that a falling script takes at most, by the number of the lines alone
 abbrev pub falling_limit : Certificate → List (List ℕ) → ℕ
@@ -58,7 +58,7 @@ FallingRunsAreCounted = (p : Program) → AreWellFormed p → (c : Certificate) 
 -- nor has a wide run, by the lines of all files
 abbrev pub FallingWideRunsAreCounted : Type 0
 FallingWideRunsAreCounted = (p : Program) → AreWellFormed p → (c : Certificate) → IsFalling p c
-    → (d : ℕ) (files : Files) (steps : List (Event × WideState)) → WideRun p d files steps → length steps ≤ falling_limit c (all_lines files)
+    → (d : ℕ) (files : Files) (steps : List (Event × State)) → WideRun p d files steps → length steps ≤ falling_limit c (all_lines files)
 
 -- upgrading gives both nodes of a place and flag the ranks of that place and flag, or none where it has none
 abbrev pub UpgradesKeepRanks : Type 0

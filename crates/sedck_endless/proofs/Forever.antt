@@ -24,8 +24,8 @@ long round some (suc n) = omega (arith, length-append round (again n round), lon
 
 pub never_ends : (p : Program) (lines : List (List ℕ)) → ComesBack p lines → NeverEnds p lines
 never_ends p lines h n =
-    let s = state_after (Start lines) h.steps in (
+    let s = state_after (Start (lines ∷ [])) h.steps in (
       h.steps ++ again n h.round,
-      joined p (Start lines) h.steps (again n h.round) h.is_run (goes_again p s h.round h.goes_round h.comes_back n),
+      joined p (Start (lines ∷ [])) h.steps (again n h.round) h.is_run (goes_again p s h.round h.goes_round h.comes_back n),
       omega (arith, length-append h.steps (again n h.round), long h.round h.some_step n),
     )

@@ -1,5 +1,5 @@
 -- Runs that never end.
-use Rattle.std.specs.Prelude.{◌≡◌, ◌<◌, ◌≤◌, ℕ, List, length}
+use Rattle.std.specs.Prelude.{◌≡◌, ◌<◌, ◌≤◌, ℕ, List, [], ◌∷◌, length}
 use Rattle.sedck_script.specs.Program.{Program}
 use Rattle.sedck_flow.specs.Run.{State, Start, Event, Steps, Run, state_after}
 
@@ -9,8 +9,8 @@ pub record ComesBack (p : Program) (lines : List (List ℕ)) : Type 0 where
   pub is_run : Run p lines steps
   pub round : List (Event × State)
   pub some_step : 0 < length round
-  pub goes_round : Steps p (state_after (Start lines) steps) round
-  pub comes_back : state_after (state_after (Start lines) steps) round ≡ state_after (Start lines) steps
+  pub goes_round : Steps p (state_after (Start (lines ∷ [])) steps) round
+  pub comes_back : state_after (state_after (Start (lines ∷ [])) steps) round ≡ state_after (Start (lines ∷ [])) steps
 
 -- no number bounds the steps of the runs on these lines
 abbrev pub NeverEnds : Program → List (List ℕ) → Type 0

@@ -1,6 +1,6 @@
 -- Where no command depends on characters, each run by characters is a wide run.
-use Rattle.std.proofs.Common.{◌≡◌, ◌⊎◌, inl, inr, ℕ, zero, suc, Bool, false, List, [], ◌∷◌, ◌++◌, map, Option, Some, None, refl, ap, sym, ◌∙◌, subst, arith}
-use Rattle.std.specs.Prelude.{◌||◌, Contains, All, flat_map, option_map, MatchOption, slice_get, if◌then◌else◌}
+use Rattle.std.proofs.Common.{◌≡◌, ◌⊎◌, inl, inr, ℕ, Bool, false, List, [], ◌∷◌, ◌++◌, map, Option, Some, None, refl, ap, sym, ◌∙◌, subst, arith}
+use Rattle.std.specs.Prelude.{◌||◌, Contains, All, flat_map, option_map, slice_get, if◌then◌else◌}
 use Rattle.std.specs.List.{list_any}
 use Rattle.std.proofs.lemmas.List.Concat.{flat_map-append}
 use Rattle.std.proofs.lemmas.List.Elements.{All-head, All-tail}
@@ -8,15 +8,15 @@ use Rattle.std.proofs.lemmas.List.Folds.{list_any-append}
 use Rattle.std.proofs.lemmas.Option.{none-some, same_Some, slice_get-map, slice_get_within, get_or_from_slice_get}
 use Rattle.sedck_bre.specs.Tree.{Tree}
 use Rattle.sedck_bre.specs.Match.{no_groups}
-use Rattle.sedck_script.specs.Program.{Pattern, Previous, Expression, Address, Substitution, Verb, Substitute, Transliterate, Command, Program, pattern_expressions, address_patterns, verb_patterns, patterns, expressions}
+use Rattle.sedck_script.specs.Program.{Pattern, Previous, Expression, Verb, Substitute, Transliterate, Command, Program, pattern_expressions, address_patterns, verb_patterns, patterns, expressions}
 use Rattle.sedck_script.proofs.SortedNames.{Contains-cons_cases}
 use Rattle.sedck_script.specs.ByteSafe.{is_high, splits_character, replaces_byte, command_expressions, depends_on_characters, IsByteSafe}
 use Rattle.sedck_flow.specs.Patterns.{StandsFor}
-use Rattle.sedck_flow.specs.Substitutes.{Occurrence}
-use Rattle.sedck_flow.specs.Run.{Machine, State, Start, At, Done, Event}
-use Rattle.sedck_flow.specs.WideRun.{Files, WideState, any_locale, WideTransliterates, AreMatchesIn, SubstitutesIn, SubstituteStepIn, DoesIn, WideStepBehind, StepAtIn, StepIn, StepsIn, WideRun}
+use Rattle.sedck_flow.specs.Run.{Files, State, Start, Event}
+use Rattle.sedck_flow.specs.WideRun.{any_locale, WideTransliterates, WideRun}
 use Rattle.sedck_flow.specs.CharacterRun.{characters_from, ArePartners, BecomesCharacter, CharacterTransliterates, utf_8, CharacterRun}
 use Rattle.sedck_flow.proofs.CharacterMatches.{neither, low_byte, widens}
+use Rattle.sedck_flow.proofs.Widening.{VerbWidens, Widens, steps_widen}
 
 -- ---- The expressions of a script
 
@@ -57,32 +57,6 @@ stands_whole : (p : Program) → IsByteSafe p → (pattern : Pattern) (tree : Tr
 stands_whole p safe (Expression own) tree none is =
     subst (λ t. splits_character t ≡ false) (sym is) (neither (splits_character own) false none).0
 stands_whole p safe Previous tree none has = none_has splits_character (expressions p.commands) tree (all_whole p.commands safe) has
-
--- ---- `s`
-
-matches_wide : (tree : Tree) → splits_character tree ≡ false → (matches : List Occurrence) → AreMatchesIn utf_8 tree matches → AreMatchesIn any_locale tree matches
-matches_wide tree whole [] h = tt
-matches_wide tree whole (m ∷ more) h = (widens tree whole no_groups m.whole m.groups h.0, matches_wide tree whole more h.1)
-
-substitutes_wide : (p : Program) → IsByteSafe p → (s : Substitution) → AreWhole (s.pattern ∷ []) → (old new : List ℕ) → SubstitutesIn utf_8 p s old new
-    → SubstitutesIn any_locale p s old new
-substitutes_wide p safe s none old new h = record {
-  tree = h.tree;
-  is_expression = h.is_expression;
-  front = h.front;
-  matches = h.matches;
-  some_match = h.some_match;
-  one_match = h.one_match;
-  are_matches = matches_wide h.tree (stands_whole p safe s.pattern h.tree none h.is_expression) h.matches h.are_matches;
-  are_apart = h.are_apart;
-  is_old = h.is_old;
-  is_new = h.is_new;
-}
-
-substitute_wide : (p : Program) → IsByteSafe p → (s : Substitution) → AreWhole (s.pattern ∷ []) → (m : Machine) (e : Event) (next : State)
-    → SubstituteStepIn utf_8 p s m e next → SubstituteStepIn any_locale p s m e next
-substitute_wide p safe s none m e next (inl h) = inl h
-substitute_wide p safe s none m e next (inr (is, new, h, leads)) = inr (is, new, substitutes_wide p safe s none m.pattern new h, leads)
 
 -- ---- `y`
 
@@ -139,15 +113,14 @@ transliterates_wide from to low also old new (pairs, all, is_old, is_new) =
     subst (λ x. WideTransliterates from to x new) (sym is_old)
     (subst (λ y. WideTransliterates from to (flat_map (λ p. p.0) pairs) y) (sym is_new) (pairs_wide from to low also pairs all))
 
--- ---- Steps and runs
+-- ---- Runs
 
-does_wide : (p : Program) → IsByteSafe p → (d : ℕ) (a : Address) (v : Verb) → AreWhole (verb_patterns v) → replaces_byte v ≡ false
-    → (m : Machine) (later : Files) (e : Event) (s : WideState) → DoesIn utf_8 p d a v m later e s → DoesIn any_locale p d a v m later e s
-does_wide p safe d a (Substitute s) none low m later e next (h, same) = (substitute_wide p safe s none m e next.0 h, same)
-does_wide p safe d a (Transliterate from to) none low m later e s (silent, new, h, leads) =
+verb_widens : (p : Program) → IsByteSafe p → (v : Verb) → AreWhole (verb_patterns v) → replaces_byte v ≡ false → VerbWidens p utf_8 any_locale v
+verb_widens p safe (Substitute s) none low = λ tree stands w e h. widens tree (stands_whole p safe s.pattern tree none stands) no_groups w e h
+verb_widens p safe (Transliterate from to) none low =
     let both = neither (list_any is_high from) (list_any is_high to) low in
-    (silent, new, transliterates_wide from to both.0 both.1 m.pattern new h, leads)
-does_wide p safe d a v none low m later e s h = h
+    λ old new h. transliterates_wide from to both.0 both.1 old new h
+verb_widens p safe _ none low = tt
 
 command_at : (p : Program) → IsByteSafe p → (at : ℕ) (c : Command) → slice_get p.commands at ≡ Some c → AreWhole (verb_patterns c.verb) × (replaces_byte c.verb ≡ false)
 command_at p safe at c is =
@@ -156,24 +129,11 @@ command_at p safe at c is =
     (none_has depends_on_characters p.commands c safe has) in
     ((whole_parts (address_patterns c.address) (verb_patterns c.verb) split).1, low)
 
-at_place : (p : Program) → IsByteSafe p → (d : ℕ) (m : Machine) (o : Option Command) → slice_get p.commands m.at ≡ o → (later : Files) (e : Event) (s : WideState)
-    → MatchOption o (WideStepBehind p m later e s) (λ c. StepAtIn utf_8 p d c m later e s)
-    → MatchOption o (WideStepBehind p m later e s) (λ c. StepAtIn any_locale p d c m later e s)
-at_place p safe d m None is later e s h = h
-at_place p safe d m (Some c) is later e s (inl (may, h)) =
-    let here = command_at p safe m.at c is in
-    inl (may, does_wide p safe d c.address c.verb here.0 here.1 m later e s h)
-at_place p safe d m (Some c) is later e s (inr h) = inr h
+characters_widen : (p : Program) → IsByteSafe p → Widens p utf_8 any_locale
+characters_widen p safe = record {
+  selects = λ pattern text h. tt;
+  verbs = λ at c is. let here = command_at p safe at c is in verb_widens p safe c.verb here.0 here.1;
+}
 
-step_wide : (p : Program) → IsByteSafe p → (d : ℕ) (s : WideState) (e : Event) (t : WideState) → StepIn utf_8 p d s e t → StepIn any_locale p d s e t
-step_wide p safe d (Start lines, later) e t h = h
-step_wide p safe d (At m, later) e t h = at_place p safe d m (slice_get p.commands m.at) refl later e t h
-step_wide p safe d (Done, later) e t h = absurd h
-
-steps_wide : (p : Program) → IsByteSafe p → (d : ℕ) (s : WideState) (steps : List (Event × WideState)) → StepsIn utf_8 p d s steps → StepsIn any_locale p d s steps
-steps_wide p safe d s [] h = tt
-steps_wide p safe d s (next ∷ more) h = (step_wide p safe d s next.0 next.1 h.0, steps_wide p safe d next.1 more h.1)
-
--- no line is left in the current file at first
-pub character_run_wide : (p : Program) → IsByteSafe p → (d : ℕ) (files : Files) (steps : List (Event × WideState)) → CharacterRun p d files steps → WideRun p d files steps
-character_run_wide p safe d files steps h = steps_wide p safe d (Start [], files) steps h
+pub character_run_wide : (p : Program) → IsByteSafe p → (d : ℕ) (files : Files) (steps : List (Event × State)) → CharacterRun p d files steps → WideRun p d files steps
+character_run_wide p safe d files steps h = steps_widen p utf_8 any_locale (characters_widen p safe) d (Start files) steps h

@@ -9,7 +9,6 @@ use Rattle.sedck_script.proofs.SortedNames.{Contains-cons_cases}
 use Rattle.sedck_flow.specs.Flow.{Shortens, NeverLengthens, HasKind}
 use Rattle.sedck_script.specs.References.{HasNoWhole, named_groups, AreDistinct, AreTopGroups, KeepsGroups}
 use Rattle.sedck_script.specs.Program.{Expression, Part, Group as Reference}
-use Rattle.sedck_flow.specs.WideRun.{WideState}
 use Rattle.sedck_flow.specs.Run.{Machine, At}
 use Rattle.sedck_flow.specs.declared.graph.Node.{Node}
 use Rattle.sedck_flow.specs.declared.graph.Kind.TheVariants.{Shorten, Keep}
@@ -152,6 +151,9 @@ group_not_shortens h = let less = h.1 b_in_group (97 ∷ 98 ∷ 99 ∷ []) b_alo
 unread_differ : {m n : Machine} → At m ≡ At n → length m.unread ≡ length n.unread
 unread_differ e = ap (λ (x : Machine). length x.unread) (at_inj e)
 
+later_differ : {m n : Machine} → At m ≡ At n → length m.later ≡ length n.later
+later_differ e = ap (λ (x : Machine). length x.later) (at_inj e)
+
 pub examples_hold : ExamplesHold
 examples_hold = record {
   edge_text = edge_text;
@@ -194,7 +196,7 @@ examples_hold = record {
   last_line = inr ((refl, refl), refl, refl);
   not_applied = elim [ inl (may, _) ↦ may refl | inr (_, _, e) ↦ cc ];
   other_line = elim [ inl (_, (_, (flag, _, e))) ↦ omega (arith, unread_differ e) | inr ((_, e), _, _) ↦ cc ];
-  empty_script = ((refl, refl), ((refl, refl, refl), tt));
+  empty_script = ((refl, refl), ((refl, refl, ([], inl refl, refl)), tt));
   substitutes = record {
     tree = any_xs;
     is_expression = refl;
@@ -210,11 +212,11 @@ examples_hold = record {
   begins_file = inl (tt, (refl, ([], inl refl, refl)));
   empties_hold = inl (tt, (refl, ([], inr refl, refl)));
   no_file = inl (tt, (refl, ([], inl refl, refl)));
-  quits = (inl (tt, ((refl, refl), refl)));
+  quits = inl (tt, (refl, refl));
   last_of_file = inr ((refl, refl), refl, refl);
-  no_other = λ h. elim h [ inl (may, _) ↦ absurd (may refl) | inr (_, _, is) ↦ omega (arith, ap (λ (s : WideState). length s.1) is) ];
+  no_other = λ h. elim h [ inl (may, _) ↦ absurd (may refl) | inr (_, _, is) ↦ omega (arith, later_differ is) ];
   appends_zero = inl (tt, (refl, refl));
-  all_files = ((refl, ([], inl refl, refl)), ((refl, refl, ([], inl refl, refl)), ((refl, refl, ([], inl refl, refl)), tt)));
+  all_files = ((refl, refl), ((refl, refl, ([], inl refl, refl)), ((refl, refl, ([], inl refl, refl)), tt)));
   one_character = record {
     tree = Seq (Then Any Nil);
     is_expression = refl;

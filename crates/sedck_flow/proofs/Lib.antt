@@ -3,7 +3,7 @@ pub mod References
 pub mod WideRests
 pub mod Lengths
 pub mod KindOf
-pub mod RunIsWide
+pub mod Widening
 pub mod KindsAgree
 pub mod StepsFollowEdges
 pub mod EdgesInside

@@ -1,8 +1,7 @@
--- The runs of a script in a locale of UTF-8: those of `RunIn` where matches are by characters, and `y` replaces characters (XCU sed, "y").
+-- The runs of a script in a locale of UTF-8: those where matches are by characters, and `y` replaces characters (XCU sed, "y").
 use Rattle.std.specs.Prelude.{◌≡◌, ◌⊎◌, ℕ, if◌then◌else◌, List, [], ◌∷◌, ◌++◌, All, flat_map, slice_get, Some}
 use Rattle.sedck_script.specs.Program.{Program}
-use Rattle.sedck_flow.specs.Run.{Event}
-use Rattle.sedck_flow.specs.WideRun.{Files, WideState, Locale, RunIn}
+use Rattle.sedck_flow.specs.Run.{Locale, Files, State, Start, Event, StepsIn}
 use Rattle.sedck_flow.specs.Characters.{is_character, IsOne, CharacterMatch}
 
 -- the characters of a text, before which these bytes begin one; last, what begins none that is whole
@@ -26,7 +25,7 @@ CharacterTransliterates from to old new = (pairs : List (List ℕ × List ℕ)) 
     × (old ≡ flat_map (λ pair. pair.0) pairs) × (new ≡ flat_map (λ pair. pair.1) pairs)
 
 abbrev pub utf_8 : Locale
-utf_8 = record { Matches = CharacterMatch; Transliterates = CharacterTransliterates }
+utf_8 = record { Matches = CharacterMatch; Transliterates = CharacterTransliterates; Selects = λ p pattern text. Unit {0} }
 
-abbrev pub CharacterRun : Program → ℕ → Files → List (Event × WideState) → Type 0
-CharacterRun p d files steps = RunIn utf_8 p d files steps
+abbrev pub CharacterRun : Program → ℕ → Files → List (Event × State) → Type 0
+CharacterRun p d files steps = StepsIn utf_8 d p (Start files) steps

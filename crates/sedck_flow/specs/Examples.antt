@@ -7,9 +7,10 @@ use Rattle.sedck_flow.specs.declared.graph.Edge.{Edge}
 use Rattle.sedck_flow.specs.declared.graph.Kind.{Kind}
 use Rattle.sedck_flow.specs.declared.graph.Kind.TheVariants.{Consume, Shorten, Keep, Grow}
 use Rattle.sedck_flow.specs.Flow.{Flow}
-use Rattle.sedck_flow.specs.Substitutes.{Substitutes}
-use Rattle.sedck_flow.specs.Run.{Machine, At, Done, Silent, Step, Run}
-use Rattle.sedck_flow.specs.WideRun.{any_locale, Files, SubstitutesIn, StepIn, WideRun}
+use Rattle.sedck_bre.specs.WideMatch.{WideMatch}
+use Rattle.sedck_flow.specs.Substitutes.{SubstitutesIn, Substitutes}
+use Rattle.sedck_flow.specs.Run.{Files, Machine, At, Done, Silent, StepIn, Step, Run}
+use Rattle.sedck_flow.specs.WideRun.{any_locale, WideRun}
 use Rattle.sedck_flow.specs.Words.{edge_words}
 
 -- a command with no address
@@ -79,13 +80,13 @@ group_in_dashes = Text (codes "-") ∷ Reference 1 ∷ Text (codes "-") ∷ []
 abbrev pub edge : ℕ → Bool → Bool → ℕ → Bool → Bool → Kind → Edge
 edge at flag last at' flag' last' kind = record { from = record { at = at; flag = flag; last = last }; to = record { at = at'; flag = flag'; last = last' }; kind = kind }
 
--- at the first command with the pattern space `a` and these lines left
-abbrev pub machine : List (List ℕ) → Machine
-machine unread = record { at = 0; flag = false; unread = unread; pattern = codes "a"; hold = [] }
+-- at the first command with the pattern space `a`, these lines left, and these files after the current one
+abbrev pub machine : List (List ℕ) → Files → Machine
+machine unread later = record { at = 0; flag = false; unread = unread; later = later; pattern = codes "a"; hold = [] }
 
 -- the same where a cycle has begun with this line, the last one of its file
-abbrev pub begun : List ℕ → Machine
-begun line = record (machine []) { pattern = line }
+abbrev pub begun : List ℕ → Files → Machine
+begun line later = record (machine [] later) { pattern = line }
 
 -- the files with the lines `b` and `c`, after one without lines
 abbrev pub three_files : Files
@@ -146,28 +147,28 @@ pub record ExamplesHold : Type 0 where
   pub whole_keeps : Flow (replace_once one_x (Whole ∷ [])) (edge 0 false false 1 true false Keep)
   pub whole_twice_grows : Flow (replace_once one_x (Whole ∷ Whole ∷ [])) (edge 0 false false 1 true false Grow)
   -- on the last line `$!N` is skipped, and on another it isn't
-  pub last_line : Step append_unless_last (At (machine [])) Silent (At (record (machine []) { at = 1 }))
-  pub not_applied : ¬ Step append_unless_last (At (machine [])) Silent Done
-  pub other_line : ¬ Step append_unless_last (At (machine (codes "b" ∷ []))) Silent (At (record (machine (codes "b" ∷ [])) { at = 1 }))
+  pub last_line : Step append_unless_last (At (machine [] [])) Silent (At (record (machine [] []) { at = 1 }))
+  pub not_applied : ¬ Step append_unless_last (At (machine [] [])) Silent Done
+  pub other_line : ¬ Step append_unless_last (At (machine (codes "b" ∷ []) [])) Silent (At (record (machine (codes "b" ∷ []) []) { at = 1 }))
   -- the empty script on one line: the step that begins the run, and the one that ends it
-  pub empty_script : Run (script_of []) (codes "b" ∷ []) ((Silent, At (record { at = 0; flag = false; unread = []; pattern = codes "b"; hold = [] })) ∷ (Silent, Done) ∷ [])
+  pub empty_script : Run (script_of []) (codes "b" ∷ []) ((Silent, At (begun (codes "b") [])) ∷ (Silent, Done) ∷ [])
   -- each match of x* in `ab` is replaced, the empty ones too, and none is directly after another
   pub substitutes : Substitutes (script_of []) (replacing any_xs (Text (codes "-") ∷ []) true) (codes "ab") (codes "-a-b-")
   -- where the file has no line left, `N` begins the next one that has a line, and where none has, it ends the run; `q` ends it in any case
-  pub begins_file : StepIn any_locale (script_of (plain_command NextAppend ∷ [])) 10 (At (machine []), three_files) Silent (At (begun (codes "b")), last_file)
+  pub begins_file : StepIn any_locale 10 (script_of (plain_command NextAppend ∷ [])) (At (machine [] three_files)) Silent (At (begun (codes "b") last_file))
   -- where a file begins, the hold space may be emptied
-  pub empties_hold : StepIn any_locale (script_of (plain_command NextAppend ∷ [])) 10 (At (record (machine []) { hold = codes "h" }), three_files) Silent (At (begun (codes "b")), last_file)
-  pub no_file : StepIn any_locale (script_of (plain_command NextAppend ∷ [])) 10 (At (machine []), [] ∷ []) Silent (Done, [])
-  pub quits : StepIn any_locale (script_of (plain_command Quit ∷ [])) 10 (At (machine []), three_files) Silent (Done, three_files)
+  pub empties_hold : StepIn any_locale 10 (script_of (plain_command NextAppend ∷ [])) (At (record (machine [] three_files) { hold = codes "h" })) Silent (At (begun (codes "b") last_file))
+  pub no_file : StepIn any_locale 10 (script_of (plain_command NextAppend ∷ [])) (At (machine [] ([] ∷ []))) Silent Done
+  pub quits : StepIn any_locale 10 (script_of (plain_command Quit ∷ [])) (At (machine [] three_files)) Silent Done
   -- `$` is the last line of each file, so `$!N` is skipped there
-  pub last_of_file : StepIn any_locale append_unless_last 10 (At (machine []), three_files) Silent (At (record (machine []) { at = 1 }), three_files)
-  pub no_other : ¬ StepIn any_locale append_unless_last 10 (At (machine []), three_files) Silent (At (begun (codes "b")), last_file)
+  pub last_of_file : StepIn any_locale 10 append_unless_last (At (machine [] three_files)) Silent (At (record (machine [] three_files) { at = 1 }))
+  pub no_other : ¬ StepIn any_locale 10 append_unless_last (At (machine [] three_files)) Silent (At (begun (codes "b") last_file))
   -- where lines end with a byte 0, `G` appends one
-  pub appends_zero : StepIn any_locale (script_of (plain_command GetAppend ∷ [])) 0 (At (machine []), []) Silent (At (record (machine []) { at = 1; pattern = 97 ∷ 0 ∷ [] }), [])
+  pub appends_zero : StepIn any_locale 0 (script_of (plain_command GetAppend ∷ [])) (At (machine [] [])) Silent (At (record (machine [] []) { at = 1; pattern = 97 ∷ 0 ∷ [] }))
   -- the empty script on these files
-  pub all_files : WideRun (script_of []) 10 three_files ((Silent, (At (begun (codes "b")), last_file)) ∷ (Silent, (At (begun (codes "c")), [])) ∷ (Silent, (Done, [])) ∷ [])
+  pub all_files : WideRun (script_of []) 10 three_files ((Silent, At (begun (codes "b") last_file)) ∷ (Silent, At (begun (codes "c") [])) ∷ (Silent, Done) ∷ [])
   -- `.` may be a character of two bytes
-  pub one_character : SubstitutesIn any_locale (script_of []) (replacing (Seq (Then Any Nil)) (Text (codes "e") ∷ []) false) (195 ∷ 169 ∷ []) (codes "e")
+  pub one_character : SubstitutesIn WideMatch (script_of []) (replacing (Seq (Then Any Nil)) (Text (codes "e") ∷ []) false) (195 ∷ 169 ∷ []) (codes "e")
   -- whole characters may be there, also in a group that is repeated; no part of one may be repeated, or be there without the others, and
   -- none may be in a list of `y`
   pub byte_safe : IsByteSafe (replace_once accent []) × IsByteSafe (replace_once accent_repeated [])

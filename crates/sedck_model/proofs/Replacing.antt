@@ -10,7 +10,7 @@ use Rattle.sedck_script.specs.Program.{Part, Text, Newline, Tab, Whole, Group, S
 use Rattle.sedck_script.specs.View.{part_of}
 use Rattle.sedck_commands.specs.declared.types.Part as code
 use Rattle.sedck_flow.specs.Patterns.{StandsFor}
-use Rattle.sedck_flow.specs.Substitutes.{Occurrence, part_text, replacement, matched, replaced, AreMatches, AreApart, Substitutes}
+use Rattle.sedck_flow.specs.Substitutes.{Occurrence, part_text, replacement, matched, replaced, AreMatchesIn, AreApart, Substitutes}
 use Rattle.sedck_model.specs.Spots.{Reached, Leads, groups_of, reached, beginning, AreEnds}
 use Rattle.sedck_model.specs.declared.spots.Spot.{Spot}
 use Rattle.sedck_model.specs.Private.Replacing.{ReplacesIn, Replaces, ReplacesAt, Continues, occurrence, text_for}
@@ -98,7 +98,7 @@ is_global : (b : Bool) → (b ≡ false → ⊥) → b ≡ true
 is_global true other = refl
 is_global false other = absurd (other refl)
 
-begins : (t : Tree) (s : Substitution) (old new : List ℕ) (first : Occurrence) (more : List Occurrence) → (s.global ≡ false → more ≡ []) → AreMatches t (first ∷ more)
+begins : (t : Tree) (s : Substitution) (old new : List ℕ) (first : Occurrence) (more : List Occurrence) → (s.global ≡ false → more ≡ []) → AreMatchesIn Match t (first ∷ more)
     → AreApart (first ∷ more) → old ≡ matched (first ∷ more) → new ≡ replaced s.parts (first ∷ more) → First t s old new
 begins t s old new first [] one match apart is_old is_new = record {
   whole = first.whole;
@@ -183,7 +183,7 @@ none_left first [] is = refl
 none_left first (next ∷ more) is = absurd (omega arith)
 
 begun : (p : Program) (s : Substitution) (old new front : List ℕ) (t : Tree) (matches : List Occurrence) → StandsFor p s.pattern t → 0 < length matches
-    → (s.global ≡ false → length matches ≡ 1) → AreMatches t matches → AreApart matches → old ≡ front ++ matched matches → new ≡ front ++ replaced s.parts matches
+    → (s.global ≡ false → length matches ≡ 1) → AreMatchesIn Match t matches → AreApart matches → old ≡ front ++ matched matches → new ≡ front ++ replaced s.parts matches
     → Begun p s old new
 begun p s old new front t [] stands some one match apart is_old is_new = absurd (omega arith)
 begun p s old new front t (first ∷ more) stands some one match apart is_old is_new = record {

@@ -3,8 +3,9 @@ use Rattle.std.proofs.Common.{◌≡◌, ℕ, ◌+◌, ◌<◌, List, [], ◌∷
 use Rattle.std.proofs.lemmas.List.{length-map, get_or-map, take_more}
 use Rattle.std.proofs.lemmas.Option.{slice_get_read}
 use Rattle.sedck_script.specs.Program.{Program}
-use Rattle.sedck_flow.specs.Run.{Event, State, Start, Step, Steps, Run, state_after}
-use Rattle.sedck_flow.proofs.RunsGoOn.{extended}
+use Rattle.sedck_text.specs.Bytes.{newline}
+use Rattle.sedck_flow.specs.Run.{Event, State, Start, Step, Steps, Run, state_after, posix}
+use Rattle.sedck_flow.proofs.Widening.{extended}
 use Rattle.sedck_model.specs.States.{event_of, state_of, move_of, IsFirstWrong}
 use Rattle.sedck_model.specs.declared.states.Move.{Move}
 
@@ -25,7 +26,7 @@ pub steps_more : (p : Program) (from : State) (steps : List Move) (i : ℕ) (d :
     → Step p s (event_of (get_or steps i d).event) (state_of (get_or steps i d).after) → Steps p from (take (i + 1) (map move_of steps))
 steps_more p from steps i d s below so_far here step =
     rw (one_more steps i d below)
-    (extended p from (take i (map move_of steps)) (move_of (get_or steps i d)) so_far
+    (extended posix newline p from (take i (map move_of steps)) (move_of (get_or steps i d)) so_far
     (subst (λ (t : State). Step p t (event_of (get_or steps i d).event) (state_of (get_or steps i d).after)) here step))
 
 pub here_after : (from : State) (steps : List Move) (i : ℕ) (d : Move) → i < length steps
@@ -35,7 +36,7 @@ here_after from steps i d below =
 
 -- the first step that is none
 pub first_wrong : (p : Program) (lines : List (List ℕ)) (steps : List Move) (i : ℕ) (d : Move) (s : State) → i < length steps
-    → Run p lines (take i (map move_of steps)) → s ≡ state_after (Start lines) (take i (map move_of steps))
+    → Run p lines (take i (map move_of steps)) → s ≡ state_after (Start (lines ∷ [])) (take i (map move_of steps))
     → (Step p s (event_of (get_or steps i d).event) (state_of (get_or steps i d).after) → ⊥) → IsFirstWrong p lines (map move_of steps) i
 first_wrong p lines steps i d s below run here never =
     let long : length (map move_of steps) ≡ length steps = length-map steps move_of in

@@ -1,5 +1,5 @@
--- States and steps as the code has them, by those of the model; and the first step that is none of the model's.
-use Rattle.std.specs.Prelude.{◌≡◌, ℕ, List, take, map, Some, slice_get}
+-- States and steps as the code has them, by those of the model on one file; and the first step that is none of the model's.
+use Rattle.std.specs.Prelude.{◌≡◌, ℕ, List, [], ◌∷◌, take, map, Some, slice_get}
 use Rattle.std.specs.Borrow.{Bor}
 use Rattle.sedck_script.specs.Program.{Program}
 use Rattle.sedck_flow.specs.Run as model
@@ -15,10 +15,10 @@ abbrev pub lines_of : List (Bor (List ℕ)) → List (List ℕ)
 lines_of lines = map (λ line. line.now) lines
 
 abbrev pub machine_of : Machine → model.Machine
-machine_of m = record { at = m.at; flag = m.flag; unread = lines_of m.unread.now; pattern = m.pattern.now; hold = m.hold.now }
+machine_of m = record { at = m.at; flag = m.flag; unread = lines_of m.unread.now; later = []; pattern = m.pattern.now; hold = m.hold.now }
 
 abbrev pub state_of : State → model.State
-state_of (state.Start lines) = model.Start (lines_of lines.now)
+state_of (state.Start lines) = model.Start (lines_of lines.now ∷ [])
 state_of (state.At m) = model.At (machine_of m)
 state_of state.Done = model.Done
 
@@ -35,4 +35,4 @@ pub record IsFirstWrong (p : Program) (lines : List (List ℕ)) (steps : List (m
   pub run : Run p lines (take n steps)
   pub wrong : model.Event × model.State
   pub is_wrong : slice_get steps n ≡ Some wrong
-  pub no_step : Step p (state_after (model.Start lines) (take n steps)) wrong.0 wrong.1 → ⊥
+  pub no_step : Step p (state_after (model.Start (lines ∷ [])) (take n steps)) wrong.0 wrong.1 → ⊥

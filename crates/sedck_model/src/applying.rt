@@ -1,10 +1,11 @@
 //! What a command does where it is applied, by its verb.
 
 ghost use Rattle.std.specs.Prelude.{◌≡◌, ◌≤◌, ◌↔◌, ◌+◌, ◌<◌, ◌^◌, if◌then◌else◌, false, IsTrue, IfOk};
+ghost use Rattle.sedck_text.specs.Bytes.{newline};
 ghost use Rattle.sedck_script.specs.Program.{Program};
 ghost use Rattle.sedck_script.specs.View.{address_of, substitution_of, verb_of};
 ghost use Rattle.sedck_flow.specs.Run as model;
-ghost use Rattle.sedck_flow.specs.Run.{Does, SubstituteStep, onward};
+ghost use Rattle.sedck_flow.specs.Run.{Does, SubstituteStep, onward, posix};
 ghost use Rattle.sedck_model.specs.States.{machine_of, state_of, event_of};
 ghost use Rattle.sedck_model.specs.Private.Verbs.{IsPlain};
 
@@ -52,7 +53,7 @@ fn tests(target: usize, before: &Machine, after: &State) -> bool
 fn plainly_does(address: &Address, verb: &Verb, before: &Machine, after: &State) -> bool
     requires { before.now.at + 1 < 2 ^ 64 }
     ensures { (p : Program) → (IsTrue result ↔ (IsPlain (verb_of verb.now)
-        × Does p (address_of address.now) (verb_of verb.now) (machine_of before.now) model.Silent (state_of after.now))) }
+        × Does posix newline p (address_of address.now) (verb_of verb.now) (machine_of before.now) model.Silent (state_of after.now))) }
 {
     match verb {
         Verb::Read(_) => false,
@@ -92,7 +93,7 @@ fn substitutes_on(
     budget: &mut Budget,
 ) -> Result<bool, Undecided>
     requires { before.now.at + 1 < 2 ^ 64 }
-    ensures decided { IfOk result (λ yes. IsTrue yes ↔ SubstituteStep script.now (substitution_of substitution.now)
+    ensures decided { IfOk result (λ yes. IsTrue yes ↔ SubstituteStep posix script.now (substitution_of substitution.now)
         (machine_of before.now) (event_of next.now.event) (state_of next.now.after)) }
     ensures used { result ≡ Err Undecided.OutOfBudget → budget.new.left ≡ 0 }
     ensures spent { budget.new.left ≤ budget.old.left }
@@ -124,7 +125,7 @@ pub(crate) fn does(
     budget: &mut Budget,
 ) -> Result<bool, Undecided>
     requires { before.now.at + 1 < 2 ^ 64 }
-    ensures decided { IfOk result (λ yes. IsTrue yes ↔ Does script.now (address_of command.now.address)
+    ensures decided { IfOk result (λ yes. IsTrue yes ↔ Does posix newline script.now (address_of command.now.address)
         (verb_of command.now.verb) (machine_of before.now) (event_of next.now.event) (state_of next.now.after)) }
     ensures used { result ≡ Err Undecided.OutOfBudget → budget.new.left ≡ 0 }
     ensures spent { budget.new.left ≤ budget.old.left }

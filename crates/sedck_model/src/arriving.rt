@@ -1,8 +1,8 @@
 //! Whether a step leads to a state.
 
-ghost use Rattle.std.specs.Prelude.{◌≡◌, ◌↔◌, ◌+◌, ◌<◌, ◌^◌, false, IsTrue};
+ghost use Rattle.std.specs.Prelude.{◌≡◌, ◌↔◌, ◌+◌, ◌<◌, ◌^◌, false, IsTrue, []};
 ghost use Rattle.sedck_flow.specs.Run as model;
-ghost use Rattle.sedck_flow.specs.Run.{next_cycle, onward, KeptOrReset};
+ghost use Rattle.sedck_flow.specs.Run.{NextCycle, onward, KeptOrReset};
 ghost use Rattle.sedck_model.specs.States.{lines_of, machine_of, state_of};
 
 use crate::states::{Machine, State};
@@ -42,7 +42,7 @@ pub(crate) fn is_done(after: &State) -> bool
 
 /// Whether a cycle begins by reading a line, or the run ends where no line is left.
 pub(crate) fn begins_cycle(unread: &[&[u8]], hold: &[u8], after: &State) -> bool
-    ensures { IsTrue result ↔ state_of after.now ≡ next_cycle (lines_of unread.now) hold.now }
+    ensures { IsTrue result ↔ NextCycle (lines_of unread.now) [] hold.now (state_of after.now) }
 {
     if unread.is_empty() {
         return is_done(after);

@@ -2,7 +2,7 @@
 
 ghost use Rattle.std.specs.Prelude.{◌↔◌, ◌+◌, ◌<◌, ◌^◌, ◌++◌, ◌∷◌, IsTrue};
 ghost use Rattle.sedck_text.specs.Bytes.{newline};
-ghost use Rattle.sedck_flow.specs.Run.{TakesLine, DropsFirstLine, behind_newline as rest_of};
+ghost use Rattle.sedck_flow.specs.Run.{TakesLine, DropsFirstLine, after_end};
 ghost use Rattle.sedck_model.specs.States.{lines_of, machine_of, state_of};
 
 use crate::arriving::{begins_cycle, is_done, is_kept_or_reset, is_same};
@@ -73,7 +73,7 @@ fn restarts(before: &Machine, rest: &[u8], after: &State) -> bool
 
 /// `D`: whether a cycle begins with what is behind the first newline, or with the next line where there is none.
 pub(crate) fn drops_first_line(before: &Machine, after: &State) -> bool
-    ensures { IsTrue result ↔ DropsFirstLine (machine_of before.now) (rest_of before.now.pattern.now)
+    ensures { IsTrue result ↔ DropsFirstLine (machine_of before.now) (after_end newline before.now.pattern.now)
         (state_of after.now) }
 {
     match behind_newline(before.pattern) {

@@ -4,7 +4,7 @@ ghost use Rattle.std.specs.Prelude.{◌≡◌, ◌≤◌, ◌↔◌, IsTrue, IfO
 ghost use Rattle.sedck_script.specs.Program as plain;
 ghost use Rattle.sedck_script.specs.View.{pattern_of, place_of, address_of, command_of};
 ghost use Rattle.sedck_flow.specs.Patterns.{HasMatch};
-ghost use Rattle.sedck_flow.specs.Run.{MaySelect, MayNotSelect, MayApply, MaySkip, is_conditional as has_condition};
+ghost use Rattle.sedck_flow.specs.Run.{MaySelect, MayNotSelect, MayApply, MaySkip, is_conditional as has_condition, posix};
 ghost use Rattle.sedck_model.specs.States.{machine_of};
 
 use crate::candidates::candidates;
@@ -41,7 +41,7 @@ fn may_select_at(
     budget: &mut Budget,
 ) -> Result<bool, Undecided>
     ensures decided { IfOk result (λ yes. IsTrue yes
-        ↔ MaySelect script.now (plain.One (place_of place.now)) (machine_of machine.now)) }
+        ↔ MaySelect posix script.now (plain.One (place_of place.now)) (machine_of machine.now)) }
     ensures used { result ≡ Err Undecided.OutOfBudget → budget.new.left ≡ 0 }
     ensures spent { budget.new.left ≤ budget.old.left }
 {
@@ -60,7 +60,7 @@ fn may_select(
     budget: &mut Budget,
 ) -> Result<bool, Undecided>
     ensures decided { IfOk result (λ yes. IsTrue yes
-        ↔ MaySelect script.now (address_of address.now) (machine_of machine.now)) }
+        ↔ MaySelect posix script.now (address_of address.now) (machine_of machine.now)) }
     ensures used { result ≡ Err Undecided.OutOfBudget → budget.new.left ≡ 0 }
     ensures spent { budget.new.left ≤ budget.old.left }
 {
@@ -92,7 +92,7 @@ pub(crate) fn may_apply(
     budget: &mut Budget,
 ) -> Result<bool, Undecided>
     ensures decided { IfOk result (λ yes. IsTrue yes
-        ↔ MayApply script.now (command_of command.now) (machine_of machine.now)) }
+        ↔ MayApply posix script.now (command_of command.now) (machine_of machine.now)) }
     ensures used { result ≡ Err Undecided.OutOfBudget → budget.new.left ≡ 0 }
     ensures spent { budget.new.left ≤ budget.old.left }
 {
@@ -121,7 +121,7 @@ pub(crate) fn may_skip(
     budget: &mut Budget,
 ) -> Result<bool, Undecided>
     ensures decided { IfOk result (λ yes. IsTrue yes
-        ↔ MaySkip script.now (command_of command.now) (machine_of machine.now)) }
+        ↔ MaySkip posix script.now (command_of command.now) (machine_of machine.now)) }
     ensures used { result ≡ Err Undecided.OutOfBudget → budget.new.left ≡ 0 }
     ensures spent { budget.new.left ≤ budget.old.left }
 {

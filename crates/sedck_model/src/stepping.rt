@@ -1,9 +1,10 @@
 //! Whether a step is one of the model's.
 
 ghost use Rattle.std.specs.Prelude.{◌≡◌, ◌≤◌, ◌<◌, ◌+◌, ◌^◌, ◌↔◌, IsTrue, IfOk};
+ghost use Rattle.sedck_text.specs.Bytes.{newline};
 ghost use Rattle.sedck_script.specs.View.{command_of, verb_of};
 ghost use Rattle.sedck_flow.specs.Run as model;
-ghost use Rattle.sedck_flow.specs.Run.{Step, StepAt, StepBehind, skip};
+ghost use Rattle.sedck_flow.specs.Run.{Step, StepAt, StepPast, skip, posix};
 ghost use Rattle.sedck_model.specs.States.{machine_of, state_of, event_of};
 ghost use Rattle.sedck_model.specs.Private.Verbs.{Applies, Skips};
 
@@ -75,7 +76,7 @@ fn step_at(
     budget: &mut Budget,
 ) -> Result<bool, Undecided>
     requires { before.now.at + 1 < 2 ^ 64 }
-    ensures decided { IfOk result (λ yes. IsTrue yes ↔ StepAt script.now (command_of command.now) (machine_of before.now)
+    ensures decided { IfOk result (λ yes. IsTrue yes ↔ StepAt posix newline script.now (command_of command.now) (machine_of before.now)
         (event_of next.now.event) (state_of next.now.after)) }
     ensures used { result ≡ Err Undecided.OutOfBudget → budget.new.left ≡ 0 }
     ensures spent { budget.new.left ≤ budget.old.left }
@@ -87,8 +88,8 @@ fn step_at(
 }
 
 /// Whether this is a step from after the last command.
-fn step_behind(script: &Script, before: &Machine, next: &Move) -> bool
-    ensures { IsTrue result ↔ StepBehind script.now (machine_of before.now) (event_of next.now.event) (state_of next.now.after) }
+fn step_past(script: &Script, before: &Machine, next: &Move) -> bool
+    ensures { IsTrue result ↔ StepPast script.now (machine_of before.now) (event_of next.now.event) (state_of next.now.after) }
 {
     before.at == script.commands().len()
         && is_silent(&next.event)
@@ -109,7 +110,7 @@ fn step_from(
 {
     let commands = script.commands();
     if before.at >= commands.len() {
-        return Ok(step_behind(script, before, next));
+        return Ok(step_past(script, before, next));
     }
     let command = &commands[before.at];
     step_at(script, command, before, next, budget)

@@ -3,7 +3,7 @@
 ghost use Rattle.std.specs.Prelude.{◌≡◌, ◌↔◌, ◌++◌, ◌∷◌, IsTrue};
 ghost use Rattle.std.specs.Option.{option_copied};
 ghost use Rattle.sedck_text.specs.Bytes.{newline};
-ghost use Rattle.sedck_flow.specs.Run.{behind_newline as rest_of};
+ghost use Rattle.sedck_flow.specs.Run.{after_end};
 ghost use Rattle.sedck_model.specs.States.{lines_of};
 
 /// Whether the lines are the same.
@@ -35,7 +35,7 @@ pub(crate) fn is_joined(text: &[u8], front: &[u8], back: &[u8]) -> bool
 
 /// What is behind the first newline, if there is one.
 pub(crate) fn behind_newline(text: &[u8]) -> Option<&[u8]>
-    ensures { option_copied result ≡ rest_of text.now }
+    ensures { option_copied result ≡ after_end newline text.now }
 {
     for (i, b) in text.iter().enumerate() {
         if *b == b'\n' {

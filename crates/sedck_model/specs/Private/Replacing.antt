@@ -1,9 +1,9 @@
 -- A substitution, match by match, as the code goes through the texts.
 use Rattle.std.specs.Prelude.{◌≡◌, ◌⊎◌, ℕ, ◌-◌, ◌≤◌, false, true, List, [], ◌∷◌, ◌++◌, length, take, drop}
 use Rattle.sedck_bre.specs.Tree.{Tree}
-use Rattle.sedck_bre.specs.Match.{Groups}
+use Rattle.sedck_bre.specs.Match.{Groups, Match}
 use Rattle.sedck_script.specs.Program.{Part, Substitution}
-use Rattle.sedck_flow.specs.Substitutes.{Occurrence, replacement, matched, replaced, AreMatches, AreApart}
+use Rattle.sedck_flow.specs.Substitutes.{Occurrence, replacement, matched, replaced, AreMatchesIn, AreApart}
 use Rattle.sedck_model.specs.Spots.{groups_of}
 use Rattle.sedck_model.specs.declared.spots.Spot.{Spot}
 
@@ -12,7 +12,7 @@ pub record Replaces (t : Tree) (s : Substitution) (old new : List ℕ) : Type 0 
   pub first : Occurrence
   pub more : List Occurrence
   pub one_match : s.global ≡ false → more ≡ []
-  pub are_matches : AreMatches t (first ∷ more)
+  pub are_matches : AreMatchesIn Match t (first ∷ more)
   pub are_apart : AreApart (first ∷ more)
   pub is_old : old ≡ matched (first ∷ more)
   pub is_new : new ≡ replaced s.parts (first ∷ more)

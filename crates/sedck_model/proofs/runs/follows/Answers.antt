@@ -1,4 +1,4 @@
-use Rattle.std.proofs.Common.{arith, sym, ◌∙◌}
+use Rattle.std.proofs.Common.{[], ◌∷◌, arith, sym, ◌∙◌}
 use Rattle.std.proofs.lemmas.Bool.{false≢true}
 use Rattle.sedck_flow.specs.Run as model
 use Rattle.sedck_model.specs.States.{lines_of, state_of}
@@ -13,7 +13,7 @@ returns-then-not-branch-clause-decided c =
 pub loop-i-preserved : goal.loop-i-preserved
 loop-i-preserved c = record {
   spent = omega (arith, c.step.ensures.spent, c.loop-i.invariant.spent);
-  run = steps_more c.args.script.now (model.Start (lines_of c.args.lines.now)) c.args.steps.now c.loop-i.i _ (state_of c.loop-i.before) c.loop-i-test.true
+  run = steps_more c.args.script.now (model.Start (lines_of c.args.lines.now ∷ [])) c.args.steps.now c.loop-i.i _ (state_of c.loop-i.before) c.loop-i-test.true
       c.loop-i.invariant.run c.loop-i.invariant.here (c.in_ok-step.ensures.decided.0 c.if-not-branch.false);
-  here = here_after (model.Start (lines_of c.args.lines.now)) c.args.steps.now c.loop-i.i _ c.loop-i-test.true;
+  here = here_after (model.Start (lines_of c.args.lines.now ∷ [])) c.args.steps.now c.loop-i.i _ c.loop-i-test.true;
 }

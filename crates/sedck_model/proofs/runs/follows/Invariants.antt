@@ -1,4 +1,4 @@
-use Rattle.std.proofs.Common.{◌≡◌, ◌≤◌, map, take}
+use Rattle.std.proofs.Common.{◌≡◌, ◌≤◌, [], ◌∷◌, map, take}
 use Rattle.sedck_flow.specs.Run as model
 use Rattle.sedck_flow.specs.Run.{Run, state_after}
 use Rattle.sedck_model.specs.States.{lines_of, state_of, move_of}
@@ -9,5 +9,5 @@ abbrev pub invariant-loop-i : goal.invariant-loop-i
 invariant-loop-i l = record {
   spent : l.budget.left ≤ l.fn.budget.left;
   run : Run l.script (lines_of l.lines) (take l.i (map move_of l.steps));
-  here : state_of l.before ≡ state_after (model.Start (lines_of l.lines)) (take l.i (map move_of l.steps));
+  here : state_of l.before ≡ state_after (model.Start (lines_of l.lines ∷ [])) (take l.i (map move_of l.steps));
 }

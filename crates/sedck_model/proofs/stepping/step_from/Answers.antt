@@ -4,7 +4,7 @@ use Rattle.sedck_model.proofs.stepping.step_from.Goals as goal
 pub returns-then-before-commands-clause-decided : goal.returns-then-before-commands-clause-decided
 returns-then-before-commands-clause-decided c =
     rw (command_behind c.args.script.now.commands c.commands-commands.result.now c.args.before.now.at c.commands-commands.ensures.commands c.if-before-commands.true)
-    c.step_behind.ensures
+    c.step_past.ensures
 
 pub returns-clause-decided : goal.returns-clause-decided
 returns-clause-decided c =
