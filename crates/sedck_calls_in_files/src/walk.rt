@@ -242,7 +242,7 @@ impl<R: Files + Input + AllocGlobal + Clone + Drop, O: Opener, F: Finder> Walk<'
         }
     }
 
-    /// Explains the script at the path, below a folder.
+    /// Explains a script below a folder.
     fn explain_script<S: Source, W: Sink>(
         &self,
         path: &str,
@@ -250,11 +250,22 @@ impl<R: Files + Input + AllocGlobal + Clone + Drop, O: Opener, F: Finder> Walk<'
         pass: &mut Pass,
         out: &mut W,
     ) -> Result<Status, Unexplained> {
+        match read_up_to(self.rt.alloc(), source, LONGEST_SCRIPT, InputOf::Script) {
+            Ok(text) => self.explain_whole(path, &text, pass, out),
+            Err(_) => self.skip(path, pass, out),
+        }
+    }
+
+    /// Explains the script at the path, which has this text.
+    fn explain_whole<W: Sink>(
+        &self,
+        path: &str,
+        text: &[u8],
+        pass: &mut Pass,
+        out: &mut W,
+    ) -> Result<Status, Unexplained> {
         let alloc = self.rt.alloc();
-        let Ok(text) = read_up_to(alloc, source, LONGEST_SCRIPT, InputOf::Script) else {
-            return self.skip(path, pass, out);
-        };
-        let explanation = explain(alloc, Some(path.as_bytes()), &text, None, self.scan.denied)?;
+        let explanation = explain(alloc, Some(path.as_bytes()), text, None, self.scan.denied)?;
         pass.counts.scripts = pass.counts.scripts.saturating_add(1);
         let status = explanation.status;
         write_report(
@@ -288,7 +299,6 @@ impl<R: Files + Input + AllocGlobal + Clone + Drop, O: Opener, F: Finder> Walk<'
         };
         self.report_unread(path, reason, pass, out)
     }
-
     /// Keeps that a file can't be read, and reports it where each has an object.
     fn report_unread<W: Sink>(
         &self,
