@@ -83,17 +83,15 @@ def headings():
 
 
 def check_headings(tools):
-    """Each page that a code has, whether it is printed here or not; how `Code` and the table fit is for tests/faults.py."""
-    with open(os.path.join(TOP, "crates", "sedck_formats", "src", "codes.rt")) as file:
-        rows = re.findall(r"^([a-z-]+) (\w+\.md#\S+) (\S.*)$", file.read(), flags=re.M)
-    tools.holds("rows of codes", len(rows) > 80)
-    for code, page, _ in rows:
-        tools.holds("page %s of %s" % (page, code), page in headings())
-    with open(os.path.join(TOP, "crates", "sedck_formats", "src", "codes.rt")) as file:
-        sections = re.findall(r"^(\w+\.md#\S+) \S.*$", file.read(), flags=re.M)
-    tools.holds("rows of sections", len(sections) > 50)
-    for page in sections:
-        tools.holds("section %s" % page, page in headings())
+    """Each section that a code or a hint has, whether it is printed here or not. That of a fault has the fault's name."""
+    crates = Path(TOP) / "crates"
+    found = re.findall(r'section\(\s*"(\w+\.md)",\s*"([\w-]+)",?\s*\)', (crates / "sedck_report/src/code.rt").read_text())
+    of_faults = [("FAULTS.md", name) for part in ("commands", "expressions") for name in
+                 re.findall(r'Fault::\w+ \{[^}]*\} => \(\s*\d+,\s*"([a-z-]+)"', (crates / f"sedck_{part}/src/fault.rt").read_text())]
+    of_hints = re.findall(r"^(\w+\.md)#(\S+) \S.*$", (crates / "sedck_formats/src/pages.rt").read_text(), flags=re.M)
+    tools.holds("sections", len(found) > 20 and len(of_faults) > 30 and len(of_hints) > 50)
+    for file, heading in [*found, *of_faults, *of_hints]:
+        tools.holds("section %s of %s" % (heading, file), heading == "bad-expression" or f"{file}#{heading}" in headings())
 
 
 def positions_in(value):

@@ -5,8 +5,7 @@ The faults and rejections in the tables of docs/FAULTS.md must be just those of 
 show scripts must be the answer to one of them; tests/pages.py says whether the answers are right. The message with which a section begins
 must be that of sedck-explain for the section's first script or, without one, be in the code. The findings of man/sedck-explain.1 must
 be just the codes, by name, and all of these faults and rejections must be among them: the variants of `Code` in sedck_report, and the
-faults that a code names. Each code has a row in the table of sedck_formats, with its page and its meaning. The manual page must name each
-field of the format for programs. The status is 0 only where all of this holds.
+faults that a code names. The manual page must name each field of the format for programs. The status is 0 only where all of this holds.
 """
 import json
 import os
@@ -22,7 +21,6 @@ FAULT = r"^\| (?:`rejected )?(\d+) \[?`?([a-z][\w-]+)(?=[` ])"
 NO_FINDINGS = {"bad-expression", "out-of-memory"}
 CODES = "crates/sedck_report/src/code.rt"
 FAULTS = ["crates/sedck_commands/src/fault.rt", "crates/sedck_expressions/src/fault.rt", "crates/sedck_cert/src/reading.rt"]
-ROWS = "crates/sedck_formats/src/codes.rt"
 MESSAGES = "crates/sedck_errors/src/refusals.rt"
 
 
@@ -89,12 +87,6 @@ def codes():
     return set(names) | faults - NO_FINDINGS
 
 
-def rows_differ():
-    """How the names of the rows of codes differ from the codes: each has one row."""
-    rows = re.findall(r"^([a-z-]+) \w+\.md#\S+ \S", read(ROWS), flags=re.M)
-    return "" if sorted(rows) == sorted(codes()) else "rows that lack or are too many: %s" % sorted(set(rows) ^ codes())
-
-
 def findings_differ(names):
     """How the findings of the manual page differ from the codes, and which of those names is no code."""
     page = section(read("man/sedck-explain.1").replace(r"\-", "-"), ".SH FINDINGS", r"^\.SH ")
@@ -146,8 +138,6 @@ def main():
     differs = findings_differ({name for _, name in faults})
     if differs:
         wrong.append("man/sedck-explain.1, FINDINGS: " + differs)
-    if rows_differ():
-        wrong.append("%s: %s" % (ROWS, rows_differ()))
     unnamed = fields_unnamed(explain)
     if unnamed:
         wrong.append("man/sedck-explain.1, FORMATS: fields that it doesn't name: %s" % unnamed)

@@ -381,7 +381,7 @@ commands.ReadItems commands.Labels commands.Blocks
 commands.Faults expressions.Faults cert.Faults
 commands.FaultWords expressions.FaultWords cert.FaultText cli.Lines
 flow.Words engines.Reports engines.Engines cli.Statuses cli.Causes c.Answers engines.Faults cert.Streams engines.Inputs engines.Opened
-explanation.Answers explanation.Status errors.Denials explanation.Denial explanation.Explanations explanation.Errors errors.Errors formats.Plain explain_cli.Explained explain_cli.Spelled explain_cli.Statuses calls_in_files.Lines explain_cli.CallStatus explain_cli.Readings explain_cli.Requests explain_cli.Answers report.Positions report.Shown report.Codes report.Levels report.Files report.Reported advice.Slow advice.References advice.Locale advice.Ignored advice.Added report.Html report.Ascii
+explanation.Answers answer.Status answer.Answers errors.Denials explanation.Denial explanation.Explanations explanation.Errors errors.Errors formats.Plain explain_cli.Explained explain_cli.Spelled explain_cli.Statuses calls_in_files.Lines explain_cli.CallStatus explain_cli.Readings explain_cli.Requests explain_cli.Answers report.Positions report.Shown report.Codes report.Levels report.Files report.Reported advice.Slow advice.References advice.Locale advice.Ignored advice.Added report.Html report.Ascii
 explanation.Called calls_in_files.Judged calls_in_files.Placed calls_in_files.Scanned origin.Traced origin.Texts call.Words call.Options call.Calls call.Origins call.Scripts
 formats.Names
 bre.Lengths script.Shortest script.Invariant
@@ -410,7 +410,7 @@ PARTS = [
         ("Where commands are", [("sedck_script", "locate", ("count", "locations", "order"))]),
         ("The plain spelling", [("sedck_plain", "*", None), ("sedck_locales", "*", None)]),
         ("Reports and statuses", [("sedck_engines", "*", None), ("sedck_cli", "*", None), ("sedck_c", "*", None), ("sedck_cert", "write_cert", None)]),
-        ("What is explained", [("sedck_explanation", "*", None), ("sedck_report", "*", None), ("sedck_errors", "*", None), ("sedck_advice", "*", None),
+        ("What is explained", [("sedck_explanation", "*", None), ("sedck_answer", "*", None), ("sedck_report", "*", None), ("sedck_errors", "*", None), ("sedck_advice", "*", None),
          ("sedck_explain_cli", "*", None), ("sedck_formats", "*", None), ("sedck_calls_in_files", "*", None)]),
         ("The model, decided", [("sedck_model", "*", None), ("sedck_endless", "*", None)]),
         ("Certificates of version 1", [("sedck_cert", "read_cert_one", None), ("sedck_cert", "upgrade*", None), ("sedck_cert", "CertOne*", None),

@@ -134,10 +134,11 @@ fn groups_in(bytes: &[u8]) -> usize {
 fn highest_reference(bytes: &[u8]) -> usize {
     let mut highest = 0;
     for pair in bytes.windows(2) {
-        if let [b'\\', digit] = pair
-            && digit.is_ascii_digit()
-        {
-            highest = usize::from(*digit - b'0').max(highest);
+        match pair.last() {
+            Some(digit) if pair.starts_with(b"\\") && digit.is_ascii_digit() => {
+                highest = usize::from(digit.saturating_sub(b'0')).max(highest);
+            }
+            _ => {}
         }
     }
     highest
@@ -145,9 +146,8 @@ fn highest_reference(bytes: &[u8]) -> usize {
 
 /// The first byte above 127 in the lists of `y`, where that is the command.
 fn listed_in(text: &[u8], location: Location) -> Option<Character> {
-    let [b'y', delimiter, ..] = text.get(location.verb..location.end)? else {
-        return None;
-    };
+    let command = text.get(location.verb..location.end)?;
+    let delimiter = command.strip_prefix(b"y")?.first()?;
     let begin = location.verb.checked_add(2)?;
     let lists = text.get(begin..location.end)?;
     let index = lists

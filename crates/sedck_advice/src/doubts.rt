@@ -7,7 +7,7 @@ use sedck_call::last_part;
 use sedck_report::{Code, is_printable};
 
 /// What may be doubtful of a name, in the order of the warnings.
-pub(crate) static DOUBTS: [Code; 15] = [
+pub(crate) static DOUBTS: &'static [Code] = &[
     Code::StreamName,
     Code::DeviceName,
     Code::AbsoluteName,
@@ -57,17 +57,15 @@ pub(crate) fn is_doubtful(code: Code, name: &[u8]) -> bool
 {
     let mut parts = name.split(|byte| *byte == b'/');
     match code {
-        Code::StreamName => is_one_of(name, &STREAMS),
-        Code::DeviceName => is_device(name) && !is_one_of(name, &STREAMS),
+        Code::StreamName => is_one_of(name, STREAMS),
+        Code::DeviceName => is_device(name) && !is_one_of(name, STREAMS),
         Code::AbsoluteName => name.starts_with(b"/") && !is_device(name),
-        Code::UpwardName => parts.any(|part| matches!(part, b"..")),
+        Code::UpwardName => parts.any(|part| part == b"..".as_slice()),
         Code::UnprintableName => name.iter().any(|byte| !is_printable(*byte)),
         Code::BlankAtEnd => name.ends_with(b" "),
         Code::CommandInName => name.iter().any(|byte| matches!(*byte, b';' | b'}' | b'#')),
-        Code::HiddenName => {
-            parts.any(|part| part.starts_with(b".") && !matches!(part, b"." | b".."))
-        }
-        Code::MakefileName => is_one_of(last_part(name), &MAKEFILES),
+        Code::HiddenName => { parts.any(|part| part.starts_with(b".") && !is_one_of(part, DOTS)) }
+        Code::MakefileName => is_one_of(last_part(name), MAKEFILES),
         Code::OptionName => name.starts_with(b"-"),
         Code::ShellByteInName => has_shell_byte(name),
         _ => false,
@@ -75,13 +73,16 @@ pub(crate) fn is_doubtful(code: Code, name: &[u8]) -> bool
 }
 
 /// Names that some seds read as streams.
-static STREAMS: [&'static str; 3] = ["/dev/stdin", "/dev/stdout", "/dev/stderr"];
+static STREAMS: &'static [&'static str] = &["/dev/stdin", "/dev/stdout", "/dev/stderr"];
+
+/// Names of folders, which hide nothing.
+static DOTS: &'static [&'static str] = &[".", ".."];
 
 /// Folders with devices among their files.
-static DEVICE_FOLDERS: [&'static str; 3] = ["/dev/", "/proc/", "/sys/"];
+static DEVICE_FOLDERS: &'static [&'static str] = &["/dev/", "/proc/", "/sys/"];
 
 /// Files that `make` reads by itself.
-static MAKEFILES: [&'static str; 3] = ["Makefile", "makefile", "GNUmakefile"];
+static MAKEFILES: &'static [&'static str] = &["Makefile", "makefile", "GNUmakefile"];
 
 fn is_one_of(name: &[u8], names: &[&str]) -> bool {
     names.iter().any(|other| other.as_bytes() == name)

@@ -1,7 +1,7 @@
 //! Edges of words as the seds of the BSDs write them: `[[:<:]]` and `[[:>:]]`.
 
 use crate::escapes::{Copies, GROUPS, NEXT_TO_WORD, copies_in, is_replaced};
-use crate::spot::{Spot, behind_part};
+use crate::spot::Spot;
 
 /// Whether the element of a list is an edge of a word, and the list ends with it.
 pub(crate) fn is_edge(element: &[u8]) -> bool {
@@ -29,8 +29,6 @@ pub(crate) fn edge_hint(spot: Spot) -> &'static str {
 
 /// Whether another edge follows in the expression.
 fn has_more_edges(spot: Spot) -> bool {
-    let behind = behind_part(spot.rest, spot.delimiter());
-    let end = spot.rest.len().saturating_sub(behind.len());
-    let expression = spot.rest.get(1..end).unwrap_or(&[]);
+    let expression = spot.left().get(1..).unwrap_or(&[]);
     expression.windows(6).any(is_edge)
 }

@@ -1,7 +1,7 @@
 //! What to write in place of an escape of an expression that is refused.
 
 use crate::bytes::without_blanks;
-use crate::spot::{Purpose, Spot, behind_part};
+use crate::spot::{Purpose, Spot};
 use sedck_parts::Reading;
 
 /// By the byte after the backslash, and by what is around it.
@@ -146,8 +146,7 @@ fn follows_label(spot: Spot) -> bool {
 
 /// Whether a `t` comes right after the `s` whose expression has the fault.
 fn is_tested(spot: Spot) -> bool {
-    let behind = behind_part(spot.rest, spot.delimiter());
-    let flags = behind_part(behind, spot.delimiter());
+    let flags = spot.flags();
     let end = flags.iter().position(|byte| matches!(*byte, b';' | b'\n'));
     let start = end.unwrap_or(flags.len()).saturating_add(1);
     without_blanks(flags.get(start..).unwrap_or(&[])).starts_with(b"t")
@@ -222,10 +221,7 @@ pub(crate) enum Copies {
 }
 
 pub(crate) fn copies_in(spot: Spot) -> Copies {
-    let behind = behind_part(spot.rest, spot.delimiter());
-    let length = spot.rest.len().saturating_sub(behind.len());
-    let expression = spot.rest.get(..length).unwrap_or(&[]);
-    if spot.inside().windows(2).any(opens_group) || expression.windows(2).any(opens_group) {
+    if spot.inside().windows(2).any(opens_group) || spot.left().windows(2).any(opens_group) {
         return Copies::Groups;
     }
     if replacement_of(spot).contains(&b'&') {
@@ -241,19 +237,19 @@ fn opens_group(bytes: &[u8]) -> bool {
 
 /// The replacement of the `s` in whose expression the fault is.
 fn replacement_of(spot: Spot) -> &[u8] {
-    let behind = behind_part(spot.rest, spot.delimiter());
-    let flags = behind_part(behind, spot.delimiter());
-    let length = behind.len().saturating_sub(flags.len()).saturating_sub(1);
+    let behind = spot.after_expression();
+    let length = behind
+        .len()
+        .saturating_sub(spot.flags().len())
+        .saturating_sub(1);
     behind.get(..length).unwrap_or(&[])
 }
 
 /// Whether the fault is the only sign of a word's end in its expression, as far as escapes go.
 fn has_one_end(spot: Spot) -> bool {
-    let behind = behind_part(spot.rest, spot.delimiter());
-    let length = spot.rest.len().saturating_sub(behind.len());
     let mut reading = Reading::START;
     let mut ends: usize = 0;
-    for byte in spot.rest.iter().take(length) {
+    for byte in spot.left() {
         if reading.is_escaped && matches!(*byte, b'b' | b'<' | b'>') {
             ends = ends.saturating_add(1);
         }

@@ -102,7 +102,7 @@ impl Seen {
             return self.may_repeat && (byte != b'{' || begins_with_digit(rest));
         };
         match byte {
-            b'+' => self.may_repeat || (is_ordinary(previous) && matches!(rest, b"$")),
+            b'+' => self.may_repeat || (is_ordinary(previous) && is_end_anchor(rest)),
             b'?' => self.may_repeat || (previous.is_ascii_alphabetic() && goes_on(rest)),
             _ if self.may_repeat => begins_with_digit(rest),
             _ => is_ordinary(previous) && !self.is_markup && is_interval(rest),
@@ -162,11 +162,7 @@ impl Pair {
         if self.is_first {
             return Some(start);
         }
-        if matches!(rest, b"$") {
-            Some(index)
-        } else {
-            None
-        }
+        is_end_anchor(rest).then_some(index)
     }
 
     /// The pair after this byte, which is neither of a list nor escaped.
@@ -197,6 +193,11 @@ fn has_basic_sign(expression: Expression) -> bool {
         reading = reading.after(*byte);
     }
     false
+}
+
+/// Whether nothing but a `$` is left.
+fn is_end_anchor(rest: &[u8]) -> bool {
+    rest == b"$".as_slice()
 }
 
 /// Whether the byte is one that nobody means to be next to a literal `+` at the end, nor to `{3}`. So not `$`, `#` and `%`, which

@@ -24,9 +24,9 @@ const CERTIFICATE: Foreign = Foreign {
 };
 
 /// Words with which a line of a shell script begins, and no usual line of sed.
-static SHELL_WORDS: &'static [&'static [u8]] = &[
-    b"if ", b"for ", b"while ", b"case ", b"set -", b"export ", b"echo ", b"exec ", b"cd ",
-    b"test ", b"[ ", b"sed ", b"cat ", b"grep ",
+static SHELL_WORDS: &'static [&'static str] = &[
+    "if ", "for ", "while ", "case ", "set -", "export ", "echo ", "exec ", "cd ", "test ", "[ ",
+    "sed ", "cat ", "grep ",
 ];
 
 /// What the text looks like, if it isn't a script of sed.
@@ -79,7 +79,9 @@ fn other_lines(first: &[u8], second: &[u8]) -> Option<Foreign> {
 
 /// Whether the line begins with one of the shell's words.
 fn begins_command(line: &[u8]) -> bool {
-    SHELL_WORDS.iter().any(|word| line.starts_with(*word))
+    SHELL_WORDS
+        .iter()
+        .any(|word| line.starts_with(word.as_bytes()))
 }
 
 /// Whether a word of the line ends in `sed`.

@@ -259,11 +259,7 @@ fn repeat_hint(spot: Spot) -> &'static str {
 
 /// Whether a bracket list that isn't closed has a `]`, and the beginning of a class or a symbol, which isn't closed either.
 pub fn has_open_class(spot: Spot) -> bool {
-    let behind = behind_part(spot.rest, spot.delimiter());
-    let list = spot
-        .rest
-        .get(1..spot.rest.len().saturating_sub(behind.len()))
-        .unwrap_or(&[]);
+    let list = spot.left().get(1..).unwrap_or(&[]);
     list.contains(&b']') && list.windows(2).any(begins_class)
 }
 
@@ -307,7 +303,7 @@ fn element_hint(rest: &[u8]) -> &'static str {
 }
 
 /// The names of classes, with what closes them.
-static CLASSES: [&'static str; 12] = [
+static CLASSES: &'static [&'static str] = &[
     "alnum:]", "alpha:]", "blank:]", "cntrl:]", "digit:]", "graph:]", "lower:]", "print:]",
     "punct:]", "space:]", "upper:]", "xdigit:]",
 ];

@@ -70,7 +70,7 @@ pub fn is_kept(code: Code) -> bool
 }
 
 /// The codes of warnings and notes on what a script is: all but those on what isn't known of it.
-static NAMED: [Code; 30] = [
+static NAMED: &'static [Code] = &[
     Code::OptionsInFirstLine,
     Code::BraceBehindLabel,
     Code::LooksExtended,
@@ -231,16 +231,11 @@ fn push_unknown(
     ensures { OnOk result (AddsOthers findings.old.items findings.new.items) }
 {
     let (message, hint) = unknown_words_of(alloc, word)?;
-    findings.push(Finding {
-        level: Level::Warning,
-        code: Code::UnknownCode,
-        position: Some(position),
-        end: Some(end_behind(text, position, word.bytes.len())),
-        message,
-        hint: Some(hint),
-        fix: None,
-        steps: Vec::new(alloc),
-    })?;
+    let mut finding = Finding::new(alloc, Level::Warning, Code::UnknownCode, message);
+    finding.position = Some(position);
+    finding.end = Some(end_behind(text, position, word.bytes.len()));
+    finding.hint = Some(hint);
+    findings.push(finding)?;
     Ok(())
 }
 

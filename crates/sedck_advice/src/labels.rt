@@ -76,7 +76,8 @@ fn alike_label(
 
 /// The label of a `:`; an empty one of another command.
 fn label_of(text: &[u8], location: Location) -> &[u8] {
-    let [b':', rest @ ..] = text.get(location.verb..location.end).unwrap_or(&[]) else {
+    let command = text.get(location.verb..location.end).unwrap_or(&[]);
+    let Some(rest) = command.strip_prefix(b":") else {
         return &[];
     };
     let label = without_blanks(rest);

@@ -43,4 +43,4 @@ pub use misjudged::{is_misjudged, misjudged_reason};
 pub use names::{NamedFiles, named_files};
 pub use references::references_in;
 pub use slow::{ITEM_LIMIT, Slow, slow_of};
-pub use spot::{Purpose, Spot, behind_part};
+pub use spot::{Purpose, Spot};

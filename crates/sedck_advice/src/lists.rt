@@ -148,13 +148,18 @@ fn class_in(expression: Expression) -> Option<List> {
 
 /// Whether GNU sed refuses the list for its colons: one is first, one is last, and between are other bytes, but no range and no class.
 fn is_bare_class(list: &[u8]) -> bool {
-    let [b'[', inside @ .., b']'] = list else {
-        return false;
-    };
-    let [b':', name @ .., b':'] = inside.strip_prefix(b"^").unwrap_or(inside) else {
-        return false;
-    };
-    name.iter().any(|byte| *byte != b':') && !name.iter().any(|byte| matches!(*byte, b'-' | b'['))
+    match colon_name(list) {
+        Some(name) => name.iter().any(|byte| *byte != b':')
+            && !name.iter().any(|byte| matches!(*byte, b'-' | b'[')),
+        None => false,
+    }
+}
+
+/// What is between the colons of a list that begins and ends with one.
+fn colon_name(list: &[u8]) -> Option<&[u8]> {
+    let inside = list.strip_prefix(b"[")?.strip_suffix(b"]")?;
+    let members = inside.strip_prefix(b"^").unwrap_or(inside);
+    members.strip_prefix(b":")?.strip_suffix(b":")
 }
 
 /// Whether both lists of a `y` have what would be a range.
@@ -174,7 +179,12 @@ fn has_ranges(command: &[u8]) -> bool {
 
 /// Whether the bytes around this one are ends of a range: both digits, capital or small letters, in their order.
 fn is_range(bytes: &[u8], index: usize) -> bool {
-    let Some([from, b'-', to]) = bytes.get(index.saturating_sub(1)..index.saturating_add(2)) else {
+    let before = bytes.get(index.saturating_sub(1));
+    let (Some(from), Some(b'-'), Some(to)) = (
+        before,
+        bytes.get(index),
+        bytes.get(index.saturating_add(1)),
+    ) else {
         return false;
     };
     let is_of_one_kind = (from.is_ascii_digit() && to.is_ascii_digit())

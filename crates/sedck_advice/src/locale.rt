@@ -119,21 +119,20 @@ fn push_locale(
     ensures added { OnOk result (AddsNoError findings.old.items findings.new.items) }
     ensures exactly { OnOk result (has_locale findings.new.items ≡ true) }
 {
-    findings.push(Finding {
-        level: Level::Warning,
-        code: Code::Locale,
-        position: place.map(|place| place.position),
-        end: place.and_then(|place| place.end),
-        message: String::from_str(
-            alloc,
-            "in a locale of UTF-8 sed takes whole characters here, and not bytes: nothing is known of runs there",
-        )?,
-        hint: Some(
-            "run the script with `LC_ALL=C`; or write whole characters, in a group to repeat them, as in `\\(..\\)*`, and replace them by an `s` in \
-                place of a `y`",
-        ),
-        fix: place.and_then(|place| place.fix),
-        steps: Vec::new(alloc),
-    })?;
+    let message = String::from_str(
+        alloc,
+        "in a locale of UTF-8 sed takes whole characters here, and not bytes: nothing is known of runs there",
+    )?;
+    let mut finding = Finding::new(alloc, Level::Warning, Code::Locale, message);
+    finding.hint = Some(
+        "run the script with `LC_ALL=C`; or write whole characters, in a group to repeat them, as in `\\(..\\)*`, and replace them by an `s` in \
+            place of a `y`",
+    );
+    if let Some(place) = place {
+        finding.position = Some(place.position);
+        finding.end = place.end;
+        finding.fix = place.fix;
+    }
+    findings.push(finding)?;
     Ok(())
 }

@@ -47,16 +47,13 @@ pub(crate) fn push_looks(
     ensures { OnOk result (AddsOthers findings.old.items findings.new.items) }
 {
     for look in looks {
-        findings.push(Finding {
-            level: look.level(),
-            code: look.code,
-            position: Some(look.position),
-            end: look.end,
-            message: String::from_str(alloc, look.message)?,
-            hint: Some(look.hint),
-            fix: look.fix,
-            steps: Vec::new(alloc),
-        })?;
+        let message = String::from_str(alloc, look.message)?;
+        let mut finding = Finding::new(alloc, look.level(), look.code, message);
+        finding.position = Some(look.position);
+        finding.end = look.end;
+        finding.hint = Some(look.hint);
+        finding.fix = look.fix;
+        findings.push(finding)?;
     }
     Ok(())
 }
@@ -152,10 +149,12 @@ fn comment_look(text: &[u8], position: Position) -> Look {
 
 /// What is said of a text on the line of its command. Where it begins with a backslash, `sed --posix` takes it.
 fn text_look(text: &[u8], location: Location) -> Option<Look> {
-    let [b'a' | b'c' | b'i', rest @ ..] = text.get(location.verb..location.end)? else {
+    let command = text.get(location.verb..location.end)?;
+    let verb = *command.first()?;
+    if !matches!(verb, b'a' | b'c' | b'i') {
         return None;
-    };
-    let given = without_blanks(rest);
+    }
+    let given = without_blanks(command.get(1..)?);
     if given.starts_with(b"\\\n") {
         return None;
     }
@@ -169,16 +168,16 @@ fn text_look(text: &[u8], location: Location) -> Option<Look> {
         end: None,
         code: Code::OneLineText,
         message,
-        hint: standing_text(text.get(location.verb)),
+        hint: standing_text(verb),
         fix: None,
     })
 }
 
 /// How the text of this verb is written on a line of its own.
-fn standing_text(verb: Option<&u8>) -> &'static str {
+fn standing_text(verb: u8) -> &'static str {
     match verb {
-        Some(b'c') => "write `c\\`, a newline and the text",
-        Some(b'i') => "write `i\\`, a newline and the text",
+        b'c' => "write `c\\`, a newline and the text",
+        b'i' => "write `i\\`, a newline and the text",
         _ => "write `a\\`, a newline and the text",
     }
 }

@@ -105,7 +105,7 @@ fn push_doubts<'a>(
     access: Access,
 ) -> Result<(), AllocError> {
     let name = file.name;
-    for code in &DOUBTS {
+    for code in DOUBTS {
         let is_meant = match *code {
             // What is read of both is no matter.
             Code::ReadAndWritten => access == Access::Write && has_name(paths.files.reads, name),
@@ -135,15 +135,9 @@ fn push_warning(alloc: Global, findings: &mut Vec<Finding>, doubt: Doubt) -> Res
     };
     let name = shown_name(alloc, doubt.file.name)?;
     let reason = reason_of(doubt.code);
-    findings.push(Finding {
-        level: Level::Warning,
-        code: doubt.code,
-        position: doubt.file.positions.first().copied(),
-        end: None,
-        message: format!(in alloc; "this {does} \"{name}\": {reason}")?,
-        hint: None,
-        fix: None,
-        steps: Vec::new(alloc),
-    })?;
+    let message = format!(in alloc; "this {does} \"{name}\": {reason}")?;
+    let mut finding = Finding::new(alloc, Level::Warning, doubt.code, message);
+    finding.position = doubt.file.positions.first().copied();
+    findings.push(finding)?;
     Ok(())
 }

@@ -62,6 +62,25 @@ impl<'a> Spot<'a> {
         inside.is_empty() || inside.ends_with(b"\\(")
     }
 
+    /// The expression from the fault on, with the delimiter that ends it.
+    pub fn left(self) -> &'a [u8] {
+        let length = self
+            .rest
+            .len()
+            .saturating_sub(self.after_expression().len());
+        self.rest.get(..length).unwrap_or(&[])
+    }
+
+    /// What follows the expression and its delimiter.
+    pub(crate) fn after_expression(self) -> &'a [u8] {
+        behind_part(self.rest, self.delimiter())
+    }
+
+    /// What follows the replacement of the `s` in whose expression the fault is: its flags.
+    pub(crate) fn flags(self) -> &'a [u8] {
+        behind_part(self.after_expression(), self.delimiter())
+    }
+
     /// The script from the byte after the fault's first one on.
     pub(crate) fn behind(self) -> &'a [u8] {
         self.rest.get(1..).unwrap_or(&[])
@@ -74,18 +93,13 @@ impl<'a> Spot<'a> {
 
     /// What the expression is for.
     pub fn purpose(self) -> Purpose {
-        let delimiter = self.delimiter();
-        let behind = behind_part(self.rest, delimiter);
         let opening = self
             .before
             .get(..self.expression.saturating_sub(1))
             .unwrap_or(&[]);
         if opening.ends_with(b"s") {
-            let flags = behind_part(behind, delimiter);
-            return match flags
-                .iter()
-                .find(|byte| !matches!(**byte, b'0'..=b'9' | b'p'))
-            {
+            let mut flags = self.flags().iter();
+            return match flags.find(|byte| !matches!(**byte, b'0'..=b'9' | b'p')) {
                 Some(b'g') => Purpose::ReplacesAll,
                 _ => Purpose::Replaces,
             };
@@ -94,7 +108,7 @@ impl<'a> Spot<'a> {
         if last_byte(opening) == Some(b',') {
             return Purpose::Range;
         }
-        match without_blanks(behind).first() {
+        match without_blanks(self.after_expression()).first() {
             Some(b',') => Purpose::Range,
             Some(b'!') => Purpose::Unless,
             Some(b'd') => Purpose::Deletes,
@@ -104,7 +118,7 @@ impl<'a> Spot<'a> {
 }
 
 /// What follows the delimiter that ends this part.
-pub fn behind_part(part: &[u8], delimiter: u8) -> &[u8] {
+pub(crate) fn behind_part(part: &[u8], delimiter: u8) -> &[u8] {
     let mut reading = Reading {
         place: Place::Replacement,
         delimiter,

@@ -9,7 +9,7 @@ use Rattle.sedck_engines.specs.Opened.{Known}
 use Rattle.sedck_errors.specs.declared.denied.Denied.{Denied}
 use Rattle.sedck_explanation.specs.Called.{known_bytes}
 use Rattle.sedck_explanation.specs.declared.parts.Unexplained.{Unexplained}
-use Rattle.sedck_explanation.specs.declared.status.Status.{Status}
+use Rattle.sedck_answer.specs.declared.status.Status.{Status}
 use Rattle.sedck_explanation.proofs.Answering.{on_ok}
 use Rattle.sedck_explanation.proofs.KnownBytes.{file_bytes}
 use Rattle.sedck_calls_in_files.specs.Scanned.{Holds, TextStatus, PathStatus}

@@ -2,10 +2,10 @@
 use Rattle.std.proofs.Common.{◌<◌, ◌+◌, ℕ, List, [], ◌∷◌, ◌++◌, map, length, get_or, take, sym, ap, subst}
 use Rattle.std.proofs.lemmas.List.{take_more, map-append}
 use Rattle.sedck_errors.specs.declared.denied.Denied.{Denied}
-use Rattle.sedck_explanation.specs.Status.{worse}
-use Rattle.sedck_explanation.specs.declared.status.Status.{Status}
-use Rattle.sedck_explanation.specs.declared.status.Status.TheVariants.{Accepted}
-use Rattle.sedck_explanation.specs.declared.explanation.Explanation.{Explanation}
+use Rattle.sedck_answer.specs.Status.{worse}
+use Rattle.sedck_answer.specs.declared.status.Status.{Status}
+use Rattle.sedck_answer.specs.declared.status.Status.TheVariants.{Accepted}
+use Rattle.sedck_answer.specs.declared.explanation.Explanation.{Explanation}
 use Rattle.sedck_find.specs.declared.found.FoundCall.{FoundCall}
 use Rattle.sedck_calls_in_files.specs.Judged.{IsSaidOfFound}
 use Rattle.sedck_calls_in_files.specs.Scanned.{IsWorst, IsWorstOf}

@@ -6,10 +6,10 @@ use Rattle.sedck_call.specs.declared.call.Call.{Call}
 use Rattle.sedck_explanation.specs.Called.{has_foreign, is_denied_call, IsDenied, IsCalled}
 use Rattle.sedck_errors.specs.declared.denied.Denied.{Denied}
 use Rattle.sedck_explanation.specs.Explanations.{IsExplanation}
-use Rattle.sedck_explanation.specs.Status.{is_accepted}
-use Rattle.sedck_explanation.specs.declared.status.Status.{Status}
-use Rattle.sedck_explanation.specs.declared.explanation.Explanation.{Explanation}
-use Rattle.sedck_explanation.specs.declared.status.Status.TheVariants as exit
+use Rattle.sedck_answer.specs.Status.{is_accepted}
+use Rattle.sedck_answer.specs.declared.status.Status.{Status}
+use Rattle.sedck_answer.specs.declared.explanation.Explanation.{Explanation}
+use Rattle.sedck_answer.specs.declared.status.Status.TheVariants as exit
 use Rattle.sedck_find.specs.declared.found.FoundCall.{FoundCall}
 use Rattle.sedck_find.specs.declared.found.FoundScript.{FoundScript}
 use Rattle.sedck_find.specs.declared.found.OpenHole.{OpenHole}

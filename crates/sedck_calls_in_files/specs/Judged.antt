@@ -12,11 +12,11 @@ use Rattle.sedck_explanation.specs.Called.{has_foreign, IsCalled}
 use Rattle.sedck_report.specs.Files.{names_of}
 use Rattle.sedck_errors.specs.declared.denied.Denied.{Denied}
 use Rattle.sedck_explanation.specs.Explanations.{IsExplanation}
-use Rattle.sedck_explanation.specs.Status.{is_accepted}
-use Rattle.sedck_explanation.specs.declared.status.Status.{Status}
-use Rattle.sedck_explanation.specs.declared.answer.Answer.TheVariants.{NotJudged}
-use Rattle.sedck_explanation.specs.declared.explanation.Explanation.{Explanation}
-use Rattle.sedck_explanation.specs.declared.status.Status.TheVariants as exit
+use Rattle.sedck_answer.specs.Status.{is_accepted}
+use Rattle.sedck_answer.specs.declared.status.Status.{Status}
+use Rattle.sedck_answer.specs.declared.answer.Answer.TheVariants.{NotJudged}
+use Rattle.sedck_answer.specs.declared.explanation.Explanation.{Explanation}
+use Rattle.sedck_answer.specs.declared.status.Status.TheVariants as exit
 use Rattle.sedck_find.specs.declared.found.Followed.{Followed}
 use Rattle.sedck_find.specs.declared.found.FoundCall.{FoundCall}
 use Rattle.sedck_find.specs.declared.found.FoundScript.{FoundScript}

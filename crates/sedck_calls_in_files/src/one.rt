@@ -3,7 +3,7 @@
 ghost use Rattle.std.specs.Prelude.{◌≡◌, ◌≢◌, Contains, IfOk, IfSome};
 ghost use Rattle.std.specs.Io.KnownBytes.{Keeps, Appends};
 ghost use Rattle.sedck_explanation.specs.Called.{known_bytes};
-ghost use Rattle.sedck_explanation.specs.declared.explanation.Explanation.{Explanation};
+ghost use Rattle.sedck_answer.specs.declared.explanation.Explanation.{Explanation};
 ghost use Rattle.sedck_formats.specs.Plain.{IsPlainReport};
 ghost use Rattle.sedck_calls_in_files.specs.Judged.{IsSaidOfFound};
 ghost use Rattle.sedck_calls_in_files.specs.Scanned.{SpellsOne};

@@ -62,10 +62,7 @@ fn goes_round(script: &Script, walk: &Walk) -> bool {
             facts.changes = facts.changes || may_change(&command.verb);
         }
     }
-    for step in walk.nodes.windows(2) {
-        let [from, to] = step else {
-            return false;
-        };
+    for (from, to) in walk.nodes.iter().zip(walk.nodes.iter().skip(1)) {
         let command = script.commands().get(usize::from(from.at));
         if !command.is_some_and(|command| is_certain(command, *from, *to, facts)) {
             return false;

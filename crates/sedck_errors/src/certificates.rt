@@ -31,16 +31,10 @@ pub fn certificate_refusal(alloc: Global, fault: CertFault) -> Result<Finding, A
         CertFault::OutOfMemory => return Err(AllocError),
     };
     let line = fault.line().unwrap_or(0);
-    Ok(Finding {
-        level: Level::Error,
-        code,
-        position: None,
-        end: None,
-        message: format!(in alloc; "line {line} of the certificate: expected {wanted}")?,
-        hint: Some("make the certificate again, with `sedck rank` or `sedck upgrade`"),
-        fix: None,
-        steps: Vec::new(alloc),
-    })
+    let message = format!(in alloc; "line {line} of the certificate: expected {wanted}")?;
+    let mut finding = Finding::new(alloc, Level::Error, code, message);
+    finding.hint = Some("make the certificate again, with `sedck rank` or `sedck upgrade`");
+    Ok(finding)
 }
 
 /// The finding for a certificate that is rejected.
@@ -69,16 +63,11 @@ pub fn rejection(
         }
         _ => String::from_str(alloc, words)?,
     };
-    Ok(Finding {
-        level: Level::Error,
-        code,
-        position: rejection_position(positions, why),
-        end: None,
-        message,
-        hint: Some(hint),
-        fix: None,
-        steps,
-    })
+    let mut finding = Finding::new(alloc, Level::Error, code, message);
+    finding.position = rejection_position(positions, why);
+    finding.hint = Some(hint);
+    finding.steps = steps;
+    Ok(finding)
 }
 
 /// Where the edge begins that fails; none for any other rejection.

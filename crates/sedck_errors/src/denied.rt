@@ -99,9 +99,15 @@ pub fn with_denials(
         Code::DeniedWrites,
     )?;
     let is_unbounded = denied.unbounded && has.limits.is_unbounded();
-    push_unbounded(alloc, &mut all, is_unbounded, &findings)?;
+    push_missing_limit(
+        alloc,
+        &mut all,
+        is_unbounded,
+        Code::DeniedUnbounded,
+        &findings,
+    )?;
     let is_growing = denied.growing && has.limits.is_growing();
-    push_growing(alloc, &mut all, is_growing, &findings)?;
+    push_missing_limit(alloc, &mut all, is_growing, Code::DeniedGrowing, &findings)?;
     push_warnings(alloc, &mut all, denied.warnings, &findings)?;
     push_slow(alloc, &mut all, denied.slow, has.slow)?;
     push_references(alloc, &mut all, denied.references, has.references)?;
@@ -237,11 +243,12 @@ fn push_each_reference(
     Ok(())
 }
 
-/// Adds an error where steps without a known limit are denied, and there is none.
-fn push_unbounded(
+/// Adds an error where a limit is missing and that is denied.
+fn push_missing_limit(
     alloc: Global,
     findings: &mut Vec<Finding>,
     is_denied: bool,
+    code: Code,
     given: &[Finding],
 ) -> Result<(), AllocError>
     ensures errors { OnOk result (has_error findings.new.items ≡ (has_error findings.old.items || is_denied)) }
@@ -249,46 +256,13 @@ fn push_unbounded(
     ensures locale { OnOk result (has_locale findings.new.items ≡ has_locale findings.old.items) }
 {
     if is_denied {
-        findings.push(unbounded_denial(alloc, given)?)?;
+        findings.push(missing_limit(alloc, code, given)?)?;
     }
     Ok(())
 }
 
-/// The error where no limit on the steps is known, at the place of the note that says so.
-fn unbounded_denial(alloc: Global, findings: &[Finding]) -> Result<Finding, AllocError>
-    ensures error { IfOk result (λ finding. is_error finding.level ≡ true) }
-    ensures warning { IfOk result (λ finding. is_warning finding.level ≡ false) }
-{
-    let position = findings
-        .iter()
-        .find(|finding| finding.code == Code::NoBound)
-        .and_then(|finding| finding.position);
-    let message = String::from_str(
-        alloc,
-        "no limit on the steps is known, which `--deny unbounded` forbids",
-    )?;
-    Ok(denial(alloc, Code::DeniedUnbounded, position, message))
-}
-
-/// Adds an error where spaces without a known limit are denied, and there is none.
-fn push_growing(
-    alloc: Global,
-    findings: &mut Vec<Finding>,
-    is_denied: bool,
-    given: &[Finding],
-) -> Result<(), AllocError>
-    ensures errors { OnOk result (has_error findings.new.items ≡ (has_error findings.old.items || is_denied)) }
-    ensures warnings { OnOk result (has_warning findings.new.items ≡ has_warning findings.old.items) }
-    ensures locale { OnOk result (has_locale findings.new.items ≡ has_locale findings.old.items) }
-{
-    if is_denied {
-        findings.push(growing_denial(alloc, given)?)?;
-    }
-    Ok(())
-}
-
-/// The error where no limit on the spaces is known, at the place of the note that says so.
-fn growing_denial(alloc: Global, findings: &[Finding]) -> Result<Finding, AllocError>
+/// The error where a limit is missing, at the place of the note that says so.
+fn missing_limit(alloc: Global, code: Code, findings: &[Finding]) -> Result<Finding, AllocError>
     ensures error { IfOk result (λ finding. is_error finding.level ≡ true) }
     ensures warning { IfOk result (λ finding. is_warning finding.level ≡ false) }
 {
@@ -296,11 +270,11 @@ fn growing_denial(alloc: Global, findings: &[Finding]) -> Result<Finding, AllocE
         .iter()
         .find(|finding| matches!(finding.code, Code::NoBound | Code::NoSpaceBound))
         .and_then(|finding| finding.position);
-    let message = String::from_str(
-        alloc,
-        "no limit on the memory is known, which `--deny growing` forbids",
-    )?;
-    Ok(denial(alloc, Code::DeniedGrowing, position, message))
+    let words = match code {
+        Code::DeniedUnbounded => "no limit on the steps is known, which `--deny unbounded` forbids",
+        _ => "no limit on the memory is known, which `--deny growing` forbids",
+    };
+    Ok(denial(alloc, code, position, String::from_str(alloc, words)?))
 }
 
 /// An error on something that is denied.
@@ -308,14 +282,7 @@ fn denial(alloc: Global, code: Code, position: Option<Position>, message: String
     ensures error { is_error result.level ≡ true }
     ensures warning { is_warning result.level ≡ false }
 {
-    Finding {
-        level: Level::Error,
-        code,
-        position,
-        end: None,
-        message,
-        hint: None,
-        fix: None,
-        steps: Vec::new(alloc),
-    }
+    let mut finding = Finding::new(alloc, Level::Error, code, message);
+    finding.position = position;
+    finding
 }

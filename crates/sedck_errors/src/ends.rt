@@ -4,7 +4,7 @@ ghost use Rattle.std.specs.Prelude.{◌≡◌};
 ghost use Rattle.sedck_report.specs.Reported.{IsRange, head_of};
 
 use memchr::memmem;
-use sedck_advice::{Spot, behind_part, is_blank};
+use sedck_advice::{Spot, is_blank};
 use sedck_bre::ReFault;
 use sedck_parts::Reading;
 use sedck_report::{Finding, end_behind, line_len};
@@ -80,20 +80,16 @@ fn expression_fault_length(fault: ReFault, spot: Spot) -> usize {
 
 /// A backslash with the byte after it, else one byte.
 fn escape_length(rest: &[u8]) -> usize {
-    match rest {
-        [b'\\', _, ..] => 2,
-        _ => 1,
+    if rest.starts_with(b"\\") && rest.len() > 1 {
+        2
+    } else {
+        1
     }
 }
 
 /// A bracket list to its `]`, or to the delimiter before that.
 fn list_length(spot: Spot) -> usize {
-    let behind = behind_part(spot.rest, spot.delimiter());
-    let length = spot
-        .rest
-        .len()
-        .saturating_sub(behind.len())
-        .saturating_sub(1);
+    let length = spot.left().len().saturating_sub(1);
     let mut reading = Reading::START;
     for (index, byte) in spot.rest.iter().take(length).enumerate() {
         reading = reading.after(*byte);

@@ -28,16 +28,11 @@ pub fn loop_finding(
     let mut message = String::from_str(alloc, words)?;
     add_ending(alloc, &mut message, script, walk)?;
     let steps = loop_steps(alloc, script, positions, walk)?;
-    Ok(Finding {
-        level: Level::Error,
-        code,
-        position: loop_position(positions, walk),
-        end: None,
-        message,
-        hint: Some(loop_hint(script, walk)),
-        fix: None,
-        steps,
-    })
+    let mut finding = Finding::new(alloc, Level::Error, code, message);
+    finding.position = loop_position(positions, walk);
+    finding.hint = Some(loop_hint(script, walk));
+    finding.steps = steps;
+    Ok(finding)
 }
 
 /// The code of a loop of this form, and how its message begins.
@@ -72,14 +67,8 @@ fn loop_steps(
     walk: &Walk,
 ) -> Result<Vec<Step>, AllocError> {
     let mut steps = Vec::new(alloc);
-    for index in 0..walk.kinds.len() {
-        let (Some(from), Some(to), Some(kind)) = (
-            walk.nodes.get(index),
-            walk.nodes.get(index + 1),
-            walk.kinds.get(index),
-        ) else {
-            break;
-        };
+    let ends = walk.nodes.iter().zip(walk.nodes.iter().skip(1));
+    for ((from, to), kind) in ends.zip(&walk.kinds) {
         let edge = Edge {
             from: *from,
             to: *to,
@@ -397,14 +386,7 @@ fn note(
 ) -> Result<Finding, AllocError>
     ensures { IfOk result (λ finding. finding.level ≡ Note) }
 {
-    Ok(Finding {
-        level: Level::Note,
-        code,
-        position,
-        end: None,
-        message: String::from_str(alloc, words)?,
-        hint: None,
-        fix: None,
-        steps: Vec::new(alloc),
-    })
+    let mut finding = Finding::new(alloc, Level::Note, code, String::from_str(alloc, words)?);
+    finding.position = position;
+    Ok(finding)
 }

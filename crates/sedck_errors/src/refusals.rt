@@ -40,16 +40,13 @@ pub fn script_refusal(alloc: Global, text: &[u8], fault: ScriptFault) -> Result<
         ),
     };
     let position = position_at(text, offset);
-    Ok(Finding {
-        level: Level::Error,
-        code: Code::Script(fault),
-        position: Some(position),
-        end: Some(end_behind(text, position, fault_length(fault, spot))),
-        message: refusal_words(alloc, text, fault, message)?,
-        hint,
-        fix: mend.map(|mend| fix_at(text, offset, mend)),
-        steps: Vec::new(alloc),
-    })
+    let message = refusal_words(alloc, text, fault, message)?;
+    let mut finding = Finding::new(alloc, Level::Error, Code::Script(fault), message);
+    finding.position = Some(position);
+    finding.end = Some(end_behind(text, position, fault_length(fault, spot)));
+    finding.hint = hint;
+    finding.fix = mend.map(|mend| fix_at(text, offset, mend));
+    Ok(finding)
 }
 
 /// The message, with the labels that there are where one is missing.
@@ -191,10 +188,10 @@ fn reason_of(fault: ScriptFault, spot: Spot) -> &'static str {
 
 /// What is extra after a command, or in a comment or a name.
 fn extra_reason(rest: &[u8]) -> &'static str {
-    match rest {
-        [b'\r', ..] => "unexpected carriage return",
-        [b'\\', b'\n', ..] => "unexpected backslash at the end of the line",
-        [11 | 12, ..] => "unexpected control character",
+    match (rest.first(), rest.get(1)) {
+        (Some(b'\r'), _) => "unexpected carriage return",
+        (Some(b'\\'), Some(b'\n')) => "unexpected backslash at the end of the line",
+        (Some(11 | 12), _) => "unexpected control character",
         _ => "unexpected text after a command",
     }
 }

@@ -8,9 +8,9 @@ use Rattle.sedck_call.specs.declared.call.CallFault.TheVariants as fault
 use Rattle.sedck_explanation.specs.Called.{has_foreign, AreParts, IsCalled}
 use Rattle.sedck_engines.specs.Opened.{Known}
 use Rattle.sedck_errors.specs.declared.denied.Denied.{Denied}
-use Rattle.sedck_explanation.specs.declared.explanation.Explanation.{Explanation}
-use Rattle.sedck_explanation.specs.declared.status.Status.{Status}
-use Rattle.sedck_explanation.specs.declared.status.Status.TheVariants.{Refused}
+use Rattle.sedck_answer.specs.declared.explanation.Explanation.{Explanation}
+use Rattle.sedck_answer.specs.declared.status.Status.{Status}
+use Rattle.sedck_answer.specs.declared.status.Status.TheVariants.{Refused}
 use Rattle.sedck_explain_cli.specs.CallStatus.{HasCallStatus}
 
 -- words with a fault are no call

@@ -3,10 +3,10 @@ use Rattle.std.proofs.Common.{◌≡◌, ◌<◌, ◌+◌, ℕ, nat_le, Bool, tr
 use Rattle.sedck_engines.specs.Opened.{Known}
 use Rattle.sedck_engines.specs.declared.answer.RunFault.{RunFault}
 use Rattle.sedck_errors.specs.declared.denied.Denied.{Denied}
-use Rattle.sedck_explanation.specs.Status.{rank, worse}
-use Rattle.sedck_explanation.specs.declared.status.Status.{Status}
-use Rattle.sedck_explanation.specs.declared.status.Status.TheVariants.{Accepted, Failed}
-use Rattle.sedck_explanation.specs.declared.explanation.Explanation.{Explanation}
+use Rattle.sedck_answer.specs.Status.{rank, worse}
+use Rattle.sedck_answer.specs.declared.status.Status.{Status}
+use Rattle.sedck_answer.specs.declared.status.Status.TheVariants.{Accepted, Failed}
+use Rattle.sedck_answer.specs.declared.explanation.Explanation.{Explanation}
 use Rattle.sedck_explanation.proofs.Answering.{on_ok}
 use Rattle.sedck_explanation.proofs.KnownBytes.{read_known}
 use Rattle.sedck_formats.specs.Plain.{Output}

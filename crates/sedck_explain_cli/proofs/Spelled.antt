@@ -11,13 +11,13 @@ use Rattle.sedck_explanation.specs.Called.{known_bytes}
 use Rattle.sedck_explanation.proofs.Answering.{on_ok}
 use Rattle.sedck_explanation.specs.Denial.{expressions_of, status_under}
 use Rattle.sedck_explanation.specs.Explanations.{Keeps, KeepsScript, IsExplanation}
-use Rattle.sedck_explanation.specs.declared.answer.Answer.{Answer}
+use Rattle.sedck_answer.specs.declared.answer.Answer.{Answer}
 use Rattle.sedck_explanation.specs.declared.answer.Expressions.{Expressions}
-use Rattle.sedck_explanation.specs.declared.answer.Answer.TheVariants.{Accepted, Rejected, Endless, ScriptRefused, CertificateRefused, NotJudged}
-use Rattle.sedck_explanation.specs.Status.{IsOfAnswer}
-use Rattle.sedck_explanation.specs.declared.status.Status.{Status}
-use Rattle.sedck_explanation.specs.declared.explanation.Explanation.{Explanation}
-use Rattle.sedck_explanation.specs.declared.status.Status.TheVariants as exit
+use Rattle.sedck_answer.specs.declared.answer.Answer.TheVariants.{Accepted, Rejected, Endless, ScriptRefused, CertificateRefused, NotJudged}
+use Rattle.sedck_answer.specs.Status.{IsOfAnswer}
+use Rattle.sedck_answer.specs.declared.status.Status.{Status}
+use Rattle.sedck_answer.specs.declared.explanation.Explanation.{Explanation}
+use Rattle.sedck_answer.specs.declared.status.Status.TheVariants as exit
 use Rattle.sedck_plain.specs.WrittenLists.{HaveSameLists}
 use Rattle.sedck_formats.specs.Plain.{Output, IsPlainStatus, IsPlainOutput, Writes}
 use Rattle.sedck_calls_in_files.specs.Scanned.{Holds, IsWorstOf}

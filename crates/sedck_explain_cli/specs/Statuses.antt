@@ -5,8 +5,8 @@ use Rattle.sedck_engines.specs.Opened.{Known}
 use Rattle.sedck_errors.specs.declared.denied.Denied.{Denied}
 use Rattle.sedck_explanation.specs.Called.{known_bytes}
 use Rattle.sedck_explanation.specs.Explanations.{IsExplanation}
-use Rattle.sedck_explanation.specs.declared.explanation.Explanation.{Explanation}
-use Rattle.sedck_explanation.specs.declared.status.Status.{Status}
+use Rattle.sedck_answer.specs.declared.explanation.Explanation.{Explanation}
+use Rattle.sedck_answer.specs.declared.status.Status.{Status}
 use Rattle.sedck_explain_cli.specs.Requests.{certificate_of}
 use Rattle.sedck_explain_cli.specs.declared.request.Request.{Request}
 

@@ -3,7 +3,7 @@
 ghost use Rattle.std.specs.Prelude.{◌≡◌, ◌≢◌, ◌⊎◌, true, false, map, IfOk, OnOk};
 ghost use Rattle.std.specs.Io.KnownBytes.{Keeps};
 ghost use Rattle.sedck_explanation.specs.Called.{IsAcceptedCall};
-ghost use Rattle.sedck_explanation.specs.Status.{IsOfAnswer};
+ghost use Rattle.sedck_answer.specs.Status.{IsOfAnswer};
 ghost use Rattle.sedck_explain_cli.specs.CallStatus.{HasCallStatus};
 ghost use Rattle.sedck_explain_cli.specs.Private.Shown.{IsShown};
 ghost use Rattle.sedck_explain_cli.specs.Requests.{is_plain};

@@ -3,7 +3,7 @@
 ghost use Rattle.std.specs.Prelude.{◌≡◌, ◌≢◌, ◌⊎◌, ◌++◌, true, false, codes, map, None, IfOk, OnOk};
 ghost use Rattle.std.specs.Io.KnownBytes.{Keeps, Appends};
 ghost use Rattle.sedck_explanation.specs.Called.{IsAcceptedCall};
-ghost use Rattle.sedck_explanation.specs.Status.{IsOfAnswer};
+ghost use Rattle.sedck_answer.specs.Status.{IsOfAnswer};
 ghost use Rattle.sedck_engines.specs.Opened.{unknown};
 ghost use Rattle.sedck_explain_cli.specs.CallStatus.{HasCallStatus};
 ghost use Rattle.sedck_calls_in_files.specs.Lines.{error_line};

@@ -3,8 +3,8 @@
 ghost use Rattle.std.specs.Prelude.{◌≡◌, ◌≢◌, true, false, ℕ, List, Option, Some, None, IsTrue, IfOk, IfErr, IfSome, OnOk};
 ghost use Rattle.std.specs.Option.{option_map};
 ghost use Rattle.std.specs.Io.KnownBytes.{Keeps, Appends};
-ghost use Rattle.sedck_explanation.specs.Status.{IsOfAnswer};
-ghost use Rattle.sedck_explanation.specs.declared.explanation.Explanation.{Explanation};
+ghost use Rattle.sedck_answer.specs.Status.{IsOfAnswer};
+ghost use Rattle.sedck_answer.specs.declared.explanation.Explanation.{Explanation};
 ghost use Rattle.sedck_engines.specs.declared.answer.RunFault.TheVariants as fault;
 ghost use Rattle.sedck_explain_cli.specs.Explained.{IsReport, IsExplained, IsExplainedWith, IsReason};
 

@@ -5,7 +5,7 @@ ghost use Rattle.std.specs.Option.{option_map};
 ghost use Rattle.std.specs.Io.KnownBytes.{Keeps, Appends};
 ghost use Rattle.sedck_engines.specs.Inputs.{IsRead};
 ghost use Rattle.sedck_explanation.specs.Called.{known_bytes};
-ghost use Rattle.sedck_explanation.specs.Status.{IsOfAnswer};
+ghost use Rattle.sedck_answer.specs.Status.{IsOfAnswer};
 ghost use Rattle.sedck_formats.specs.Plain.{IsPlainReport};
 ghost use Rattle.sedck_calls_in_files.specs.Scanned.{IsWorstOf};
 ghost use Rattle.sedck_explain_cli.specs.Requests.{certificate_of, scripts_of};

@@ -11,8 +11,8 @@ use Rattle.sedck_cert.specs.Headline.{Only, IsScriptFaultOf}
 use Rattle.sedck_cert.specs.declared.reading.CertFault.{CertFault}
 use Rattle.sedck_cert.specs.declared.reading.CertFault.TheVariants as cert
 use Rattle.sedck_cert.specs.declared.verifying.Fault.TheVariants as below
-use Rattle.sedck_explanation.specs.declared.answer.Answer.{Answer}
-use Rattle.sedck_explanation.specs.declared.answer.Answer.TheVariants.{CertificateRefused, Accepted, Rejected, Endless}
+use Rattle.sedck_answer.specs.declared.answer.Answer.{Answer}
+use Rattle.sedck_answer.specs.declared.answer.Answer.TheVariants.{CertificateRefused, Accepted, Rejected, Endless}
 use Rattle.sedck_explanation.specs.Answers.{IsAnswer}
 use Rattle.sedck_explanation.specs.Private.Answering.{IsFoundAnswer, IsJudgedAnswer, refusal}
 

@@ -8,13 +8,13 @@ use Rattle.sedck_advice.specs.Added.{AddsNoError}
 use Rattle.sedck_advice.proofs.Added.{or-false}
 use Rattle.sedck_explanation.specs.Denial.{is_denied, status_under}
 use Rattle.sedck_explanation.specs.Errors.{BeginsWithAnswer}
-use Rattle.sedck_explanation.specs.Status.{Status, is_accepted}
+use Rattle.sedck_answer.specs.Status.{Status, is_accepted}
 use Rattle.sedck_explanation.specs.Private.Errors.{IsRefused, AreFindingsOf, IsFindingOf}
 use Rattle.sedck_explanation.specs.Private.Explaining.{AreDeniedFindings}
-use Rattle.sedck_explanation.specs.declared.answer.Answer.{Answer}
+use Rattle.sedck_answer.specs.declared.answer.Answer.{Answer}
 use Rattle.sedck_explanation.specs.declared.answer.Expressions.{Expressions}
-use Rattle.sedck_explanation.specs.declared.answer.Answer.TheVariants.{ScriptRefused, CertificateRefused, Accepted, Rejected, Endless, NotJudged}
-use Rattle.sedck_explanation.specs.declared.status.Status.TheVariants as exit
+use Rattle.sedck_answer.specs.declared.answer.Answer.TheVariants.{ScriptRefused, CertificateRefused, Accepted, Rejected, Endless, NotJudged}
+use Rattle.sedck_answer.specs.declared.status.Status.TheVariants as exit
 
 -- ---- From the finding of the answer to all findings
 

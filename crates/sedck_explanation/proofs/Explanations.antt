@@ -14,12 +14,13 @@ use Rattle.sedck_cert.proofs.NamesListed.{reads_listed, writes_listed, only_list
 use Rattle.sedck_report.specs.Positions.{position_in}
 use Rattle.sedck_errors.specs.declared.denied.Denied.{Denied}
 use Rattle.sedck_explanation.specs.Answers.{IsAnswer}
-use Rattle.sedck_explanation.specs.Explanations.{Keeps, KeepsNothing, IsExplanation}
+use Rattle.sedck_answer.specs.Answers.{KeepsNothing}
+use Rattle.sedck_explanation.specs.Explanations.{Keeps, IsExplanation}
 use Rattle.sedck_explanation.specs.Private.Errors.{IsOfScript, IsRefused}
 use Rattle.sedck_explanation.specs.Private.Explaining.{Explains, KeepsLocated}
-use Rattle.sedck_explanation.specs.declared.answer.Answer.{Answer}
-use Rattle.sedck_explanation.specs.declared.answer.Answer.TheVariants.{ScriptRefused, CertificateRefused, Accepted, Rejected, Endless, NotJudged}
-use Rattle.sedck_explanation.specs.declared.explanation.Explanation.{Explanation}
+use Rattle.sedck_answer.specs.declared.answer.Answer.{Answer}
+use Rattle.sedck_answer.specs.declared.answer.Answer.TheVariants.{ScriptRefused, CertificateRefused, Accepted, Rejected, Endless, NotJudged}
+use Rattle.sedck_answer.specs.declared.explanation.Explanation.{Explanation}
 
 -- what follows from two promises on success
 pub on_both : {T E : Type 0} (P Q R : T → Type 0) (r : Result T E) → ((x : T) → P x → Q x → R x) → IfOk r P → IfOk r Q → IfOk r R

@@ -12,11 +12,11 @@ use Rattle.sedck_errors.specs.declared.denied.Denied.{Denied}
 use Rattle.sedck_errors.specs.declared.warnings.DeniedWarnings.{DeniedWarnings}
 use Rattle.sedck_explanation.specs.Denial.{status_under, warns_of_denied}
 use Rattle.sedck_explanation.specs.Errors.{BeginsWithAnswer}
-use Rattle.sedck_explanation.specs.Status.{Status, is_accepted}
+use Rattle.sedck_answer.specs.Status.{Status, is_accepted}
 use Rattle.sedck_explanation.specs.Private.Reporting.{errors_in, KeepsErrors, AreReported}
-use Rattle.sedck_explanation.specs.declared.answer.Answer.{Answer}
+use Rattle.sedck_answer.specs.declared.answer.Answer.{Answer}
 use Rattle.sedck_explanation.specs.declared.answer.Expressions.{Expressions}
-use Rattle.sedck_explanation.specs.declared.answer.Answer.TheVariants.{ScriptRefused, CertificateRefused, Accepted, Rejected, Endless, NotJudged}
+use Rattle.sedck_answer.specs.declared.answer.Answer.TheVariants.{ScriptRefused, CertificateRefused, Accepted, Rejected, Endless, NotJudged}
 use Rattle.sedck_explanation.proofs.Reports.{errors_of_ordered}
 
 -- a list has something

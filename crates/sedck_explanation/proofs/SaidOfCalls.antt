@@ -7,7 +7,7 @@ use Rattle.sedck_errors.specs.Denials.{denies}
 use Rattle.sedck_explanation.specs.Denial.{warns_of_denied}
 use Rattle.sedck_errors.specs.declared.denied.Denied.{Denied}
 use Rattle.sedck_explanation.specs.Explanations.{IsExplanation}
-use Rattle.sedck_explanation.specs.declared.explanation.Explanation.{Explanation}
+use Rattle.sedck_answer.specs.declared.explanation.Explanation.{Explanation}
 
 -- where that is denied, an operand that is overwritten is warned of
 abbrev IsWarned : Denied → Call → Explanation → Type 0

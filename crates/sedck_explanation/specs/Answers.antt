@@ -11,10 +11,8 @@ use Rattle.sedck_cert.specs.Rejections.{IsRejection}
 use Rattle.sedck_cert.specs.Headline.{Only, SpellBoth, IsScriptFaultOf}
 use Rattle.sedck_cert.specs.Limits.{AreLimits}
 use Rattle.sedck_search.specs.Found.{IsLoop}
-use Rattle.sedck_explanation.specs.declared.answer.Answer.{Answer}
-use Rattle.sedck_explanation.specs.declared.answer.Answer.TheVariants.{ScriptRefused, CertificateRefused, Accepted, Rejected, Endless, NotJudged}
-use Rattle.sedck_explanation.specs.Status.{Status}
-use Rattle.sedck_explanation.specs.declared.status.Status.TheVariants as exit
+use Rattle.sedck_answer.specs.declared.answer.Answer.{Answer}
+use Rattle.sedck_answer.specs.declared.answer.Answer.TheVariants.{ScriptRefused, CertificateRefused, Accepted, Rejected, Endless, NotJudged}
 
 -- the text spells one script alone, for which this holds
 abbrev pub SpellsOneWith : List ℕ → (Program → Type 0) → Type 0
@@ -33,12 +31,3 @@ IsAnswer text None (Rejected cert why) = ⊥
 IsAnswer text (Some bytes) (Endless walk) = ⊥
 IsAnswer text None (Endless walk) = SpellsOneWith text (λ p. IsLoop p walk)
 IsAnswer text given NotJudged = ⊥
-
--- the exit status
-abbrev pub status_of : Answer → Status
-status_of (Accepted cert limits) = exit.Accepted
-status_of (Rejected cert why) = exit.Rejected
-status_of (Endless walk) = exit.Rejected
-status_of (ScriptRefused why) = exit.Refused
-status_of (CertificateRefused why) = exit.Refused
-status_of NotJudged = exit.Refused

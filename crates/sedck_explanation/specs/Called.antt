@@ -21,8 +21,8 @@ use Rattle.sedck_errors.specs.Denials.{denies}
 use Rattle.sedck_errors.specs.declared.denied.Denied.{Denied}
 use Rattle.sedck_explanation.specs.Denial.{warns_of_denied}
 use Rattle.sedck_explanation.specs.Explanations.{IsExplanation, Keeps}
-use Rattle.sedck_explanation.specs.Status.{Status, Accepted, Rejected, is_accepted}
-use Rattle.sedck_explanation.specs.declared.explanation.Explanation.{Explanation}
+use Rattle.sedck_answer.specs.Status.{Status, Accepted, Rejected, is_accepted}
+use Rattle.sedck_answer.specs.declared.explanation.Explanation.{Explanation}
 
 -- An option that makes sed read another language than that of the model: extended expressions. With `-s` and `-i` there are several
 -- inputs, each with its last line, and with `-z` a byte 0 ends a line: of these the promise is the same.

@@ -10,11 +10,11 @@ use Rattle.sedck_advice.specs.Slow.{is_slow}
 use Rattle.sedck_advice.specs.References.{has_references}
 use Rattle.sedck_errors.specs.Denials.{denies, no_warnings}
 use Rattle.sedck_errors.specs.declared.denied.Denied.{Denied}
-use Rattle.sedck_explanation.specs.Answers.{status_of}
-use Rattle.sedck_explanation.specs.declared.answer.Answer.{Answer}
-use Rattle.sedck_explanation.specs.declared.answer.Answer.TheVariants.{Accepted}
+use Rattle.sedck_answer.specs.Answers.{status_of}
+use Rattle.sedck_answer.specs.declared.answer.Answer.{Answer}
+use Rattle.sedck_answer.specs.declared.answer.Answer.TheVariants.{Accepted}
 use Rattle.sedck_explanation.specs.declared.answer.Expressions.{Expressions}
-use Rattle.sedck_explanation.specs.Status.{Status, Rejected}
+use Rattle.sedck_answer.specs.Status.{Status, Rejected}
 
 -- nothing is denied, and nothing is known of the locale
 abbrev pub nothing : Denied

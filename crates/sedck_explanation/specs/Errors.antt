@@ -5,10 +5,10 @@ use Rattle.sedck_report.specs.Positions.{position_in}
 use Rattle.sedck_report.specs.declared.finding.Finding.{Finding}
 use Rattle.sedck_report.specs.declared.places.Position.{Position}
 use Rattle.sedck_errors.specs.Errors.{first_position, rejection_position, IsFaultOffset}
-use Rattle.sedck_explanation.specs.Status.{is_accepted}
-use Rattle.sedck_explanation.specs.declared.answer.Answer.{Answer}
-use Rattle.sedck_explanation.specs.declared.answer.Answer.TheVariants.{ScriptRefused, CertificateRefused, Accepted, Rejected, Endless, NotJudged}
-use Rattle.sedck_explanation.specs.declared.explanation.Explanation.{Explanation}
+use Rattle.sedck_answer.specs.Status.{is_accepted}
+use Rattle.sedck_answer.specs.declared.answer.Answer.{Answer}
+use Rattle.sedck_answer.specs.declared.answer.Answer.TheVariants.{ScriptRefused, CertificateRefused, Accepted, Rejected, Endless, NotJudged}
+use Rattle.sedck_answer.specs.declared.explanation.Explanation.{Explanation}
 
 -- the position in the script's text of the error of an answer that isn't a yes
 abbrev pub IsErrorPosition : List ℕ → List Position → Answer → Option Position → Type 0

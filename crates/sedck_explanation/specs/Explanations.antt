@@ -15,12 +15,13 @@ use Rattle.sedck_report.specs.declared.finding.Finding.{Finding}
 use Rattle.sedck_report.specs.declared.places.Position.{Position}
 use Rattle.sedck_advice.specs.Locale.{depends_on_locale}
 use Rattle.sedck_errors.specs.declared.denied.Denied.{Denied}
+use Rattle.sedck_answer.specs.Answers.{KeepsNothing}
 use Rattle.sedck_explanation.specs.Answers.{IsAnswer}
 use Rattle.sedck_explanation.specs.Denial.{expressions_of, status_under}
 use Rattle.sedck_explanation.specs.Errors.{HasErrors}
-use Rattle.sedck_explanation.specs.declared.answer.Answer.{Answer}
-use Rattle.sedck_explanation.specs.declared.answer.Answer.TheVariants.{ScriptRefused, NotJudged}
-use Rattle.sedck_explanation.specs.declared.explanation.Explanation.{Explanation}
+use Rattle.sedck_answer.specs.declared.answer.Answer.{Answer}
+use Rattle.sedck_answer.specs.declared.answer.Answer.TheVariants.{ScriptRefused, NotJudged}
+use Rattle.sedck_answer.specs.declared.explanation.Explanation.{Explanation}
 
 -- the positions are those of the verbs, as every list of items has them that the text is read as
 abbrev pub AreVerbPositions : List ℕ → List Position → Type 0
@@ -36,13 +37,6 @@ pub record KeepsScript (text : List ℕ) (e : Explanation) : Type 0 where
   pub reads : names_of e.reads.items ≡ reads script
   pub writes : names_of e.writes.items ≡ writes script
   pub positions : AreVerbPositions text e.positions.items
-
--- nothing is kept
-pub record KeepsNothing (e : Explanation) : Type 0 where
-  pub script : e.script ≡ None
-  pub reads : e.reads.items ≡ []
-  pub writes : e.writes.items ≡ []
-  pub positions : e.positions.items ≡ []
 
 -- the script is kept but where it is refused or not judged
 abbrev pub Keeps : List ℕ → Answer → Explanation → Type 0

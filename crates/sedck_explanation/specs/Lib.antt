@@ -1,5 +1,4 @@
 -- What the public contracts cite, in reading order.
-pub mod Status
 pub mod Answers
 pub mod Denial
 pub mod Errors

@@ -1,4 +1,4 @@
-//! What the engines answer of a script, alone or with a certificate.
+//! How the answer on a script is found, alone or with a certificate, and its status where something is denied.
 
 ghost use Rattle.std.specs.Prelude.{◌≡◌, ◌&&◌, ◌||◌, ℕ, List, IfOk, IfSome, Some, None, length};
 ghost use Rattle.std.specs.Option.{option_map};
@@ -10,44 +10,20 @@ ghost use Rattle.sedck_script.specs.Spelling.{Spells};
 ghost use Rattle.sedck_cert.specs.Headline.{Only};
 ghost use Rattle.sedck_cert.specs.declared.verifying.Fault.TheVariants as below;
 ghost use Rattle.sedck_report.specs.Files.{is_there};
-ghost use Rattle.sedck_explanation.specs.Answers.{IsAnswer, status_of};
+ghost use Rattle.sedck_answer.specs.Answers.{status_of};
+ghost use Rattle.sedck_answer.specs.Status.{IsOfAnswer};
+ghost use Rattle.sedck_explanation.specs.Answers.{IsAnswer};
 ghost use Rattle.sedck_explanation.specs.Denial.{nothing, status_under, warns_of_denied};
-ghost use Rattle.sedck_explanation.specs.Status.{IsOfAnswer};
 ghost use Rattle.sedck_explanation.specs.Private.Answering.{IsFoundAnswer, IsJudgedAnswer, IsAcceptedAnswer, refusal};
 ghost use Rattle.sedck_explanation.specs.Private.Errors.{IsRefused};
 
-use crate::status::Status;
-use sedck_cert::{Cert, CertFault, Limits, Rejection, Verdict, check, limits_of, read_any};
+use sedck_answer::{Answer, Status};
+use sedck_cert::{Cert, CertFault, Limits, Verdict, check, limits_of, read_any};
 use sedck_errors::{Denied, any_denied, has_reads, has_writes};
 use sedck_report::Finding;
 use sedck_script::{Located, Script, ScriptFault, locate};
-use sedck_search::{Found, Walk, search};
+use sedck_search::{Found, search};
 use std::alloc::{AllocError, Global};
-
-/// What is known of a script.
-#[derive(Drop)]
-pub enum Answer {
-    /// The script's text is refused. This is never `OutOfMemory`.
-    ScriptRefused(ScriptFault),
-    /// The certificate's text is refused. This is never `OutOfMemory`.
-    CertificateRefused(CertFault),
-    /// This certificate is accepted: the one that was given, or else one that was found.
-    Accepted {
-        cert: Cert,
-        /// The limits on the steps of the script's runs and on their spaces.
-        limits: Limits,
-    },
-    /// The certificate that was given is rejected.
-    Rejected {
-        cert: Cert,
-        /// The first reason.
-        why: Rejection,
-    },
-    /// A loop rules all certificates out.
-    Endless(Walk),
-    /// The words of a call of sed are refused, or one of its options changes what the script means.
-    NotJudged,
-}
 
 /// What may be denied of a script's expressions.
 #[derive(Clone, Copy)]
@@ -66,44 +42,29 @@ impl Expressions {
     };
 }
 
-impl Answer {
-    /// The exit status.
-    pub fn status(&self) -> Status
-        ensures value { result ≡ status_of self.now }
-        ensures few { IsOfAnswer result }
-    {
-        match self {
-            Answer::Accepted { .. } => Status::Accepted,
-            Answer::Rejected { .. } | Answer::Endless(_) => Status::Rejected,
-            Answer::ScriptRefused(_) | Answer::CertificateRefused(_) | Answer::NotJudged =>
-                Status::Refused,
-        }
-    }
-
-    /// The exit status where this is denied: `Rejected` for a script that is accepted and has what is denied, else as `status`. Of
-    /// the findings the warnings count that are denied.
-    pub fn status_under(
-        &self,
-        denied: Denied,
-        findings: &[Finding],
-        expressions: Expressions,
-    ) -> Status
-        ensures value { result ≡ status_under denied findings.now expressions self.now }
-        ensures few { IsOfAnswer result }
-        // A no stays what it is, and without a denial a yes does too.
-        ensures never_a_yes { result ≡ Status.Accepted → status_of self.now ≡ Status.Accepted }
-        ensures same { denied ≡ nothing → result ≡ status_of self.now }
-    {
-        match self {
-            Answer::Accepted { cert, limits } => {
-                if has_denied(denied, cert, *limits, findings, expressions) {
-                    Status::Rejected
-                } else {
-                    Status::Accepted
-                }
+/// The exit status where this is denied: `Rejected` for a script that is accepted and has what is denied, else that of the answer. Of
+/// the findings the warnings count that are denied.
+pub fn status_under(
+    answer: &Answer,
+    denied: Denied,
+    findings: &[Finding],
+    expressions: Expressions,
+) -> Status
+    ensures value { result ≡ status_under denied findings.now expressions answer.now }
+    ensures few { IsOfAnswer result }
+    // A no stays what it is, and without a denial a yes does too.
+    ensures never_a_yes { result ≡ Status.Accepted → status_of answer.now ≡ Status.Accepted }
+    ensures same { denied ≡ nothing → result ≡ status_of answer.now }
+{
+    match answer {
+        Answer::Accepted { cert, limits } => {
+            if has_denied(denied, cert, *limits, findings, expressions) {
+                Status::Rejected
+            } else {
+                Status::Accepted
             }
-            _ => self.status(),
         }
+        _ => answer.status(),
     }
 }
 

@@ -2,15 +2,12 @@
 
 ghost use Rattle.std.specs.Prelude.{◌≡◌, None, [], IfOk};
 ghost use Rattle.sedck_explanation.specs.Called.{IsCalled, IsDenied, is_denied_call as is_denied};
-ghost use Rattle.sedck_explanation.specs.Explanations.{IsExplanation, Keeps, KeepsNothing};
-ghost use Rattle.sedck_explanation.specs.Status.{IsOfAnswer};
-ghost use Rattle.sedck_explanation.specs.declared.answer.Answer.TheVariants.{NotJudged};
+ghost use Rattle.sedck_explanation.specs.Explanations.{IsExplanation, Keeps};
+ghost use Rattle.sedck_answer.specs.Status.{IsOfAnswer};
 
-use crate::answer::Answer;
 use crate::explaining::explain_call;
-use crate::explanation::Explanation;
 use crate::options::{call_warnings, denied_overwriting, is_in_place};
-use crate::status::Status;
+use sedck_answer::{Explanation, Status};
 use sedck_call::Call;
 use sedck_errors::Denied;
 use sedck_report::{Code, Finding, Level};
@@ -76,27 +73,6 @@ fn denied_call<'a>(
     Ok(explanation)
 }
 
-/// The explanation of a call whose script isn't judged: these findings say why.
-pub fn not_judged<'a>(alloc: Global, text: &'a [u8], findings: Vec<Finding>) -> Explanation<'a>
-    ensures text { result.text.now ≡ text.now }
-    ensures answer { result.answer ≡ NotJudged }
-    ensures status { result.status ≡ Status.Refused }
-    ensures keeps { KeepsNothing result }
-    ensures findings { result.findings ≡ findings }
-{
-    Explanation {
-        text,
-        source: &[],
-        answer: Answer::NotJudged,
-        status: Status::Refused,
-        script: None,
-        positions: Vec::new(alloc),
-        findings,
-        reads: Vec::new(alloc),
-        writes: Vec::new(alloc),
-    }
-}
-
 /// A finding on the words of a call, which have no position in the script.
 pub fn call_finding(
     alloc: Global,
@@ -111,14 +87,7 @@ pub fn call_finding(
     ensures end { result.end ≡ None }
     ensures steps { result.steps.items ≡ [] }
 {
-    Finding {
-        level,
-        code,
-        position: None,
-        end: None,
-        message,
-        hint,
-        fix: None,
-        steps: Vec::new(alloc),
-    }
+    let mut finding = Finding::new(alloc, level, code, message);
+    finding.hint = hint;
+    finding
 }

@@ -8,20 +8,20 @@ ghost use Rattle.sedck_report.specs.Levels.{has_warning, has_locale, has_error, 
 ghost use Rattle.sedck_report.specs.Positions.{position_in};
 ghost use Rattle.sedck_advice.specs.Added.{AddsNoError};
 ghost use Rattle.sedck_advice.specs.Locale.{depends_on_locale};
-ghost use Rattle.sedck_explanation.specs.Explanations.{IsExplanation, KeepsNothing};
+ghost use Rattle.sedck_answer.specs.Answers.{KeepsNothing};
+ghost use Rattle.sedck_explanation.specs.Explanations.{IsExplanation};
 ghost use Rattle.sedck_explanation.specs.Denial.{expressions_of, warns_of_denied};
-ghost use Rattle.sedck_explanation.specs.Status.{IsOfAnswer};
+ghost use Rattle.sedck_answer.specs.Status.{IsOfAnswer};
 ghost use Rattle.sedck_explanation.specs.Private.Errors.{IsOfScript, IsRefused, CanBeReported, AreFindingsOf, IsFindingOf};
 ghost use Rattle.sedck_explanation.specs.Private.Explaining.{Explains, Reports, WarnedWith, KeepsLocated, HasLists, AreDeniedFindings, kinds_of};
 
-use crate::answer::{Answer, Answered, Expressions, answer_of};
-use crate::explanation::Explanation;
+use crate::answer::{Answered, Expressions, answer_of, status_under};
 use crate::reporting::{ignored_codes, reported};
-use crate::status::Status;
 use sedck_advice::{
     NamedFiles, ReadScript, Slow, add_warnings, ignoring_words, locale_warnings, named_files,
     references_in, slow_of,
 };
+use sedck_answer::{Answer, Explanation, Status};
 use sedck_errors::{
     Deniable, Denied, certificate_refusal, growth_note, loop_finding, rejection, script_refusal,
     with_denials,
@@ -207,7 +207,7 @@ fn reports(
     add_warnings(alloc, &mut found, script)?;
     let expressions = expressions_in_script(alloc, text, located, &lists.positions)?;
     let all = denied_findings(alloc, found, denied, answer, lists, &expressions)?;
-    let status = answer.status_under(denied, &all, expressions.kinds());
+    let status = status_under(answer, denied, &all, expressions.kinds());
     let ignored = ignored_codes(alloc, &words)?;
     let findings = reported(alloc, text, locations, all, &ignored, denied.warnings)?;
     Ok((status, findings))
@@ -282,7 +282,7 @@ fn refused<'a>(
 {
     let mut found = refusal_findings(alloc, text, &answer)?;
     found.append(&mut warnings)?;
-    let status = answer.status_under(denied, &found, Expressions::NONE);
+    let status = status_under(&answer, denied, &found, Expressions::NONE);
     let findings = reported(alloc, text, &[], found, &[], denied.warnings)?;
     Ok(Explanation {
         text,

@@ -8,21 +8,18 @@
 mod answer;
 mod called;
 mod explaining;
-mod explanation;
 mod options;
 mod parts;
 mod reporting;
-mod status;
 
-pub use answer::{Answer, Expressions};
-pub use called::{call_finding, explain_called, not_judged};
+pub use answer::{Expressions, status_under};
+pub use called::{call_finding, explain_called};
 pub use explaining::explain;
-pub use explanation::Explanation;
 pub use options::{foreign_findings, has_foreign, refusal_of};
 pub use parts::{Unexplained, parts_of};
+pub use sedck_answer::{Answer, Explanation, Status, not_judged};
 pub use sedck_errors::{Denied, DeniedWarnings};
 pub use sedck_report::{
     Code, Finding, Fix, Level, NamedFile, NewText, Position, Step, is_printable, position_at,
     position_from, shown_line, shown_name,
 };
-pub use status::Status;

@@ -2,9 +2,10 @@
 
 use crate::found::{OpenHole, Role};
 use crate::parts::Runner;
+use crate::script::Around;
 use crate::words::CallWord;
 use sedck_call::{Call, CallOption, Given, Piece, Taken};
-use sedck_origin::{Hole, Result, Way, is_among};
+use sedck_origin::{Hole, Result, Way};
 use sedck_shell::Pattern;
 use std::alloc::Global;
 
@@ -15,32 +16,35 @@ const MOST: usize = 1000;
 #[derive(Drop)]
 pub(crate) struct Conditions<'a> {
     words: &'a [CallWord],
+    /// The number of the operand that is the script, and of the word `--` that ends the options, if there are such.
+    script: Option<usize>,
+    end: Option<usize>,
     pub holes: Vec<OpenHole>,
     /// Whether a word may be anything, so that the call isn't known.
     pub is_unknown: bool,
 }
 
 impl Conditions<'_> {
-    /// The conditions on these words of a call, beside those on its script; `name` is where the name of the sed is.
+    /// The conditions on these words of a call, beside those on its script.
     pub fn of<'a>(
         alloc: Global,
         call: &Call,
         words: &'a [CallWord],
-        name: Hole,
-        runner: Runner,
+        around: Around<'_>,
     ) -> Result<Conditions<'a>> {
         let mut conditions = Conditions {
             words,
+            script: script_number(call),
+            end: operands_start(&call.given, words),
             holes: Vec::new(alloc),
             is_unknown: false,
         };
-        let end = operands_start(alloc, &call.given, words)?;
         for item in &call.given {
-            conditions.add_item(call, *item, end)?;
+            conditions.add_item(*item)?;
         }
-        conditions.add_order(call, end)?;
-        if runner == Runner::Adding && end.is_none() {
-            conditions.push(name, Role::Added)?;
+        conditions.add_order(&call.given)?;
+        if around.runner == Runner::Adding && conditions.end.is_none() {
+            conditions.push(around.name, Role::Added)?;
         }
         conditions.is_unknown |= conditions.holes.len() > MOST;
         Ok(conditions)
@@ -51,8 +55,8 @@ impl Conditions<'_> {
         Ok(self.holes.push(OpenHole::outside(hole, role))?)
     }
 
-    /// Adds the conditions on what a word gives. Behind the word of number `end` there are no options.
-    fn add_item(&mut self, call: &Call, item: Given, end: Option<usize>) -> Result<()> {
+    /// Adds the conditions on what a word gives.
+    fn add_item(&mut self, item: Given) -> Result<()> {
         match item {
             Given::Alone(_, number) => self.add_word(number),
             Given::With(CallOption::Expression, origin) => self.add_pattern(origin.word),
@@ -65,8 +69,8 @@ impl Conditions<'_> {
                 }
                 self.add_word(origin.word)
             }
-            Given::Operand(number) if is_script(call, number) => self.add_pattern(number),
-            Given::Operand(number) if is_behind(number, end) => Ok(()),
+            Given::Operand(number) if self.script == Some(number) => self.add_pattern(number),
+            Given::Operand(number) if self.is_after_end(number) => Ok(()),
             Given::Operand(number) => self.add_operand(number),
         }
     }
@@ -88,7 +92,7 @@ impl Conditions<'_> {
     /// Adds the condition on a word that is a pattern.
     fn add_pattern(&mut self, number: usize) -> Result<()> {
         match self.words.get(number) {
-            Some(word) if word.pattern != Pattern::None => self.push(word.place(), Role::Pattern),
+            Some(word) if word.pattern != Pattern::None => self.push(word.place, Role::Pattern),
             _ => Ok(()),
         }
     }
@@ -103,23 +107,23 @@ impl Conditions<'_> {
             return self.push(hole, Role::Operand);
         }
         if word.pattern == Pattern::First {
-            return self.push(word.place(), Role::Names);
+            return self.push(word.place, Role::Names);
         }
         Ok(())
     }
 
     /// Adds the condition on options that change the script and follow an operand: where POSIXLY_CORRECT is set they are operands.
-    fn add_order(&mut self, call: &Call, end: Option<usize>) -> Result<()> {
+    fn add_order(&mut self, given: &[Given]) -> Result<()> {
         let mut first = None;
-        for item in &call.given {
+        for item in given {
             match *item {
-                Given::Operand(number) if first.is_none() && !is_behind(number, end) => {
+                Given::Operand(number) if first.is_none() && !self.is_after_end(number) => {
                     first = Some(number);
                 }
                 Given::With(CallOption::Expression | CallOption::File, _)
                 | Given::Alone(CallOption::Help | CallOption::Version, _) => {
                     if let Some(word) = first.and_then(|number| self.words.get(number)) {
-                        return self.push(word.place(), Role::Options);
+                        return self.push(word.place, Role::Options);
                     }
                 }
                 _ => {}
@@ -127,41 +131,43 @@ impl Conditions<'_> {
         }
         Ok(())
     }
+
+    /// Whether the operand of this number is after the word that ends the options: there are none then.
+    fn is_after_end(&self, number: usize) -> bool {
+        self.end.is_some_and(|end| end < number)
+    }
 }
 
-/// Whether the operand of this number is behind the word that ends the options, if there is one.
-fn is_behind(number: usize, end: Option<usize>) -> bool {
-    end.is_some_and(|end| end < number)
+/// The number of the operand that is the script, if one is.
+fn script_number(call: &Call) -> Option<usize> {
+    match call.pieces.first() {
+        Some(Piece::Text(origin)) if origin.from == 0 => Some(origin.word),
+        _ => None,
+    }
 }
 
 /// The number of the word `--` that ends the options, if there is one: the only one that gives nothing and is no option.
-fn operands_start(alloc: Global, given: &[Given], words: &[CallWord]) -> Result<Option<usize>> {
-    let mut are_given = Vec::new(alloc);
-    for _ in words {
-        are_given.push(false)?;
-    }
+fn operands_start(given: &[Given], words: &[CallWord]) -> Option<usize> {
+    let mut next = 0usize;
     for item in given {
+        // What is given is in the words' order.
         let number = match *item {
             Given::Alone(_, number) | Given::Operand(number) => number,
             Given::With(_, origin) => origin.word,
         };
-        if let Some(is_given) = are_given.get_mut(number) {
-            *is_given = true;
+        let end = end_between(words, next, number);
+        if end.is_some() {
+            return end;
         }
+        next = number.saturating_add(1);
     }
-    for (number, word) in words.iter().enumerate() {
-        let is_given = are_given.get(number).copied().unwrap_or(true);
-        if !is_given && is_among(&word.traced.bytes, &["--"]) {
-            return Ok(Some(number));
-        }
-    }
-    Ok(None)
+    end_between(words, next, words.len())
 }
 
-/// Whether the operand of this number is the script.
-fn is_script(call: &Call, number: usize) -> bool {
-    match call.pieces.first() {
-        Some(Piece::Text(origin)) => origin.word == number && origin.from == 0,
-        _ => false,
-    }
+/// The number of the first `--` from one word on to before another one.
+fn end_between(words: &[CallWord], from: usize, to: usize) -> Option<usize> {
+    let part = words.get(from..to).unwrap_or(&[]);
+    let mut words = part.iter();
+    let place = words.position(|word| word.traced.bytes.as_slice() == b"--".as_slice())?;
+    Some(from.saturating_add(place))
 }

@@ -140,6 +140,11 @@ impl OpenHole {
             is_variable: false,
         }
     }
+
+    /// Whether it is on options after an operand.
+    pub(crate) fn is_of_order(&self) -> bool {
+        matches!(self.role, Role::Options)
+    }
 }
 
 /// What a hole may change.

@@ -57,9 +57,7 @@ pub(crate) fn roles_of(
     if roles.is_unknown {
         return Ok(None);
     }
-    let text = std::mem::replace(&mut roles.text, empty(alloc));
-    let holes = std::mem::replace(&mut roles.holes, Vec::new(alloc));
-    Ok(Some((text, holes)))
+    Ok(Some((roles.text, roles.holes)))
 }
 
 impl Roles {

@@ -1,8 +1,11 @@
 //! Macros of M4 in sources of Autoconf.
 
-use crate::units::is_one_among;
+use crate::names::Names;
+use crate::units::{begins_name, is_one_among};
+use crate::words::CallWord;
 use sedck_hosts::Kind;
-use sedck_origin::{Origin, Result, is_name_byte};
+use sedck_origin::{Origin, Result, Traced, is_name_byte};
+use sedck_shell::ShellWord;
 use std::alloc::Global;
 
 /// Macros whose first argument is the name of a macro that they define.
@@ -32,22 +35,15 @@ pub(crate) fn macros_of(alloc: Global, kind: Kind, file: &[u8]) -> Result<Vec<Ve
         return Ok(macros);
     }
     for index in 0..file.len() {
-        let rest = file.get(index..).unwrap_or(&[]);
-        let before = file.get(index.saturating_sub(1)).copied();
-        let is_inside = index > 0 && before.is_some_and(is_name_byte);
-        if is_inside {
+        let name = name_in(file, index);
+        let after = file.get(index.saturating_add(name.len())..).unwrap_or(&[]);
+        if !after.starts_with(b"(") || !is_one_among(name, DEFINING) {
             continue;
         }
-        let name = name_at(rest);
-        let behind = rest.get(name.len()..).unwrap_or(&[]);
-        if !behind.starts_with(b"(") || !is_one_among(name, DEFINING) {
-            continue;
-        }
-        let defined = name_at(without_quotes(behind));
+        let quotes = after.iter().position(|byte| !b"([ \t\n".contains(byte));
+        let defined = name_at(after.get(quotes.unwrap_or(after.len())..).unwrap_or(&[]));
         if !defined.is_empty() {
-            let mut owned = Vec::new(alloc);
-            owned.extend_from_slice(defined)?;
-            macros.push(owned)?;
+            macros.push(Vec::from_slice(alloc, defined)?)?;
         }
     }
     macros.sort()?;
@@ -55,55 +51,56 @@ pub(crate) fn macros_of(alloc: Global, kind: Kind, file: &[u8]) -> Result<Vec<Ve
     Ok(macros)
 }
 
-/// What is behind a parenthesis, blanks and brackets.
-fn without_quotes(text: &[u8]) -> &[u8] {
-    let begins = text
-        .iter()
-        .position(|byte| !b"([ \t\n".contains(byte))
-        .unwrap_or(text.len());
-    text.get(begins..).unwrap_or(&[])
+/// The name that begins at the index of the text; nothing where none begins there.
+fn name_in(text: &[u8], index: usize) -> &[u8] {
+    if begins_name(text, index) {
+        return name_at(text.get(index..).unwrap_or(&[]));
+    }
+    &[]
 }
 
 /// The name at the beginning of the text; nothing where it doesn't begin with one.
 fn name_at(text: &[u8]) -> &[u8] {
-    if let Some(b'0'..=b'9') = text.first() {
+    if text.first().is_some_and(|first| first.is_ascii_digit()) {
         return &[];
     }
-    let end = text
-        .iter()
-        .position(|byte| !is_name_byte(*byte))
-        .unwrap_or(text.len());
-    text.get(..end).unwrap_or(&[])
+    let end = text.iter().position(|byte| !is_name_byte(*byte));
+    text.get(..end.unwrap_or(text.len())).unwrap_or(&[])
+}
+
+/// Whether the words of a command are prose within brackets: the name is right after one, and the next word is letters alone.
+pub(crate) fn is_prose(file: &[u8], name: &ShellWord, others: &[ShellWord]) -> bool {
+    let before = file.get(..name.start).unwrap_or(&[]);
+    let is_plain = others.first().is_none_or(|next| {
+        let mut units = next.units.iter();
+        let is_word = !next.is_quoted && next.units.len() > 1;
+        is_word && units.all(|unit| unit.byte().is_some_and(|byte| byte.is_ascii_alphabetic()))
+    });
+    before.ends_with(b"[") && is_plain && name.is("sed")
+}
+
+/// Whether macros may change the script, which has this text, or a word of the call.
+pub(crate) fn has_macro(names: &Names<'_>, words: &[CallWord], text: &Traced) -> bool {
+    let mut words = words.iter();
+    has_bracket(&text.bytes)
+        || has_macro_name(&text.bytes, &names.macros)
+        || has_macro_hole(names.file, &text.origins)
+        || words.any(|word| has_macro_name(&word.traced.bytes, &names.macros))
 }
 
 /// Whether a bracket is in the text, which is a quote of M4.
-pub(crate) fn has_bracket(text: &[u8]) -> bool {
+fn has_bracket(text: &[u8]) -> bool {
     text.iter().any(|byte| matches!(*byte, b'[' | b']'))
 }
 
 /// Whether a word of the text is the name of a macro: of one of these, or one of Autoconf, Automake, Libtool, pkg-config or M4.
-pub(crate) fn has_macro_name(text: &[u8], macros: &[Vec<u8>]) -> bool {
-    let mut is_inside = false;
-    for (index, byte) in text.iter().enumerate() {
-        if !is_inside && is_macro(text.get(index..).unwrap_or(&[]), macros) {
-            return true;
-        }
-        is_inside = is_name_byte(*byte);
-    }
-    false
-}
-
-/// Whether the text begins with the name of a macro.
-fn is_macro(text: &[u8], macros: &[Vec<u8>]) -> bool {
-    let name = name_at(text);
-    if name.is_empty() {
-        return false;
-    }
-    let is_called = text.get(name.len()) == Some(&b'(');
-    begins_macro(name)
-        || is_one_among(name, BARE)
-        || (is_called && is_one_among(name, CALLED))
-        || is_defined(macros, name)
+fn has_macro_name(text: &[u8], macros: &[Vec<u8>]) -> bool {
+    (0..text.len()).any(|index| {
+        let name = name_in(text, index);
+        let is_called = text.get(index.saturating_add(name.len())) == Some(&b'(');
+        let is_known = begins_macro(name) || is_one_among(name, BARE) || is_defined(macros, name);
+        !name.is_empty() && (is_known || (is_called && is_one_among(name, CALLED)))
+    })
 }
 
 /// Whether one of these macros, which are in order, has the name.
@@ -122,7 +119,7 @@ fn begins_macro(name: &[u8]) -> bool {
 }
 
 /// Whether a hole is a quadrigraph of Autoconf, or a parameter of a macro.
-pub(crate) fn has_macro_hole(file: &[u8], origins: &[Origin]) -> bool {
+fn has_macro_hole(file: &[u8], origins: &[Origin]) -> bool {
     origins.iter().any(|origin| match *origin {
         Origin::Hole(hole) => matches!(
             file.get(hole.start..hole.end),

@@ -1,8 +1,8 @@
 //! Scripts whose commands have their delimiters in lists, with other delimiters.
 
 use crate::found::{OpenHole, Role};
-use crate::words::{add, empty};
-use sedck_origin::{Hole, Origin, Result, Traced, Way};
+use crate::words::{add, empty, quoted};
+use sedck_origin::{Hole, Origin, Result, Traced};
 use sedck_parts::{Mend, Reading, escapes_delimiter, mends_in};
 use std::alloc::Global;
 
@@ -75,7 +75,7 @@ fn is_at(origins: &[Origin], index: usize) -> bool {
     matches!(origins.get(index), Some(Origin::At(_)))
 }
 
-/// Whether the file has these bytes and holes one right behind another, from this offset on, and in the place of each hole just the name of
+/// Whether the file has these bytes and holes one right after another, from this offset on, and in the place of each hole just the name of
 /// a variable: more may have the delimiter, too.
 fn is_unquoted(file: &[u8], origins: &[Origin], start: usize) -> bool {
     let mut next = start;
@@ -104,9 +104,5 @@ fn hole_between(origins: &[Origin], first: usize, last: usize) -> Hole {
         Some(Origin::At(offset)) => *offset,
         _ => 0,
     };
-    Hole {
-        start: offset_of(first),
-        end: offset_of(last).saturating_add(1),
-        way: Way::Quoted,
-    }
+    quoted(offset_of(first), offset_of(last).saturating_add(1))
 }

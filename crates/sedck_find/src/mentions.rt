@@ -5,11 +5,10 @@ use crate::names::Names;
 use crate::parts::{Part, Runner};
 use crate::programs::{LONGEST, Program, is_sed_word};
 use crate::units::{
-    bytes_of, ends_with, has_hole, is_letters, is_one_among, last_part, variable_length,
+    begins_name, bytes_of, ends_with, has_hole, is_letters, is_one_among, is_one_in, is_option,
+    known_bytes, last_part, lone_hole, rest, variable_of,
 };
-use sedck_origin::{
-    Result, Unit, begins_with, byte_at, hole_name, is_among, is_name_byte, is_one_of, is_text,
-};
+use sedck_origin::{Result, Unit, begins_with, byte_at, hole_name, is_name_byte, is_text};
 use sedck_shell::ShellWord;
 
 /// Commands whose words are no commands.
@@ -34,21 +33,19 @@ static EDITORS: &'static [&'static str] = &[
     "GIT_EXTERNAL_DIFF",
 ];
 
-/// The offset of what may call sed in this part of a command, where it is none of a sed. In prose, and in a value of make's, a word behind
+/// The offset of what may call sed in this part of a command, where it is none of a sed. In prose, and in a value of make's, a word after
 /// the name of a sed must look like an option or a script.
 pub(crate) fn mention_in(
     names: &Names<'_>,
     words: &[ShellWord],
-    part: Part,
+    part: &Part,
     is_strict: bool,
 ) -> Result<Option<usize>> {
-    let Some(words) = words.get(part.name..part.end) else {
+    let Some((name, others)) = part.words(words) else {
         return Ok(None);
     };
-    let Some((name, others)) = words.split_first() else {
-        return Ok(None);
-    };
-    let called = name.units.get(part.glued..).unwrap_or(&[]);
+    let words = words.get(part.name..part.end).unwrap_or(&[]);
+    let called = rest(&name.units, part.glued);
     let bytes = bytes_of(names.alloc, last_part(called))?;
     let known = bytes.as_deref().unwrap_or(&[]);
     let from = first_open(names, known, words);
@@ -65,7 +62,7 @@ pub(crate) fn mention_in(
     Ok(text_in(words, from, is_one_among(known, RUNNING)))
 }
 
-/// The offset of the first of these words, from this number on, that is the name of a sed and has a word behind it, or gets one by `xargs`;
+/// The offset of the first of these words, from this number on, that is the name of a sed and has a word after it, or gets one by `xargs`;
 /// or that is a value with such words.
 fn word_in(
     names: &Names<'_>,
@@ -74,15 +71,12 @@ fn word_in(
     runner: Runner,
     is_strict: bool,
 ) -> Result<Option<usize>> {
-    for index in from..words.len() {
+    for (index, word) in words.iter().enumerate().skip(from) {
         let is_called = match words.get(index.saturating_add(1)) {
             Some(next) => !is_strict || looks_called(next),
             None => runner == Runner::Adding,
         };
-        let Some(word) = words.get(index) else {
-            break;
-        };
-        let is_value = matches!(*word.units.as_slice(), [Unit::Hole(hole)] if hole.way.is_split());
+        let is_value = lone_hole(&word.units).is_some_and(|hole| hole.way.is_split());
         if (is_value && has_value(names, &word.units)) || (is_called && is_sed_word(names, word)?) {
             return Ok(Some(word.start));
         }
@@ -91,29 +85,28 @@ fn word_in(
 }
 
 /// The offset of the first of these words, from this number on, that is a text with a call of sed; a shell or another command may run any
-/// one, or those behind some options.
+/// one, or those after some options.
 fn text_in(words: &[ShellWord], from: usize, is_running: bool) -> Option<usize> {
-    for index in from..words.len() {
-        let before = words.get(index.saturating_sub(1));
-        let is_text = is_running || before.is_some_and(|before| is_command_option(&before.units));
-        match words.get(index) {
-            Some(word) if has_text(&word.units, is_text) => return Some(word.start),
-            _ => {}
+    let mut is_run = is_running;
+    for (index, word) in words.iter().enumerate() {
+        if index >= from && has_text(&word.units, is_run) {
+            return Some(word.start);
         }
+        is_run = is_running || is_command_option(&word.units);
     }
     None
 }
 
 /// The number of the first word that may be a command: none where the words of a command with this name are no commands.
 fn first_open(names: &Names<'_>, name: &[u8], words: &[ShellWord]) -> usize {
-    let is_loop = is_among(name, &["for", "select"])
-        && words.get(2).is_none_or(|word| word.is("in"));
+    let is_loop = is_one_in(name, "for select") && words.get(2).is_none_or(|word| word.is("in"));
     let is_plain = is_loop || is_one_among(name, PLAIN);
     if !is_plain || names.is_function(name) {
         return 1;
     }
-    let brace = words.iter().skip(1).position(|word| !word.is_quoted
-        && is_one_of(&word.units, &["{", "}", "]]"]));
+    let mut others = words.iter().skip(1);
+    let brace = others.position(|word| !word.is_quoted
+        && (word.is("{") || word.is("}") || word.is("]]")));
     brace.map_or(words.len(), |place| place.saturating_add(1))
 }
 
@@ -123,24 +116,25 @@ pub(crate) fn editor_in(names: &Names<'_>, words: &[ShellWord]) -> Result<Option
         if !is_assignment(&word.units) || !has_call(&word.units) {
             continue;
         }
-        let length = variable_length(&word.units);
-        let name = bytes_of(names.alloc, word.units.get(..length).unwrap_or(&[]))?;
-        if name.is_some_and(|name| is_one_among(&name, EDITORS)) {
+        if is_one_among(
+            &known_bytes(names.alloc, variable_of(&word.units))?,
+            EDITORS,
+        ) {
             return Ok(Some(word.start));
         }
     }
     Ok(None)
 }
 
-/// Whether a name that isn't known has `sed` written in it: behind its holes, or in the place of one.
+/// Whether a name that isn't known has `sed` written in it: after its holes, or in the place of one.
 fn names_sed(names: &Names<'_>, units: &[Unit]) -> bool {
-    if has_hole(units) && ends_with_sed(units) {
+    if has_hole(units) && begins_with(rest(units, units.len().saturating_sub(3)), "sed") {
         return true;
     }
     units.iter().take(LONGEST).any(|unit| match *unit {
         Unit::Hole(hole) => {
             let written = names.written_hole(hole);
-            writes_sed(written.get(..written.len().min(LONGEST)).unwrap_or(&[]))
+            writes_sed(written.get(..LONGEST).unwrap_or(written))
         }
         _ => false,
     })
@@ -158,73 +152,56 @@ fn has_value(names: &Names<'_>, units: &[Unit]) -> bool {
     })
 }
 
-/// Whether the units end with `sed`.
-fn ends_with_sed(units: &[Unit]) -> bool {
-    let from = units.len().saturating_sub(3);
-    begins_with(units.get(from..).unwrap_or(&[]), "sed")
-}
-
 /// Whether what is written in place of a hole has the name `sed`. In a command that is one which writes the name, and no call.
 pub(crate) fn writes_sed(written: &[u8]) -> bool {
-    let is_command = matches!(written, [b'$', b'(', ..] | [b'`', ..]);
-    for index in 0..written.len() {
-        let rest = written.get(index..).unwrap_or(&[]);
-        let before = written.get(index.saturating_sub(1)).copied();
-        let is_inside = index > 0 && before.is_some_and(is_name_byte);
-        if is_inside || !rest.starts_with(b"sed") {
-            continue;
+    let is_command = written.starts_with(b"$(") || written.starts_with(b"`");
+    (0..written.len()).any(|index| {
+        let text = written.get(index..).unwrap_or(&[]);
+        match text.strip_prefix(b"sed") {
+            Some(after) if begins_name(written, index) => ends_sed(after, is_command),
+            _ => false,
         }
-        let behind = rest.get(3..).unwrap_or(&[]);
-        let blanks = behind
-            .iter()
-            .position(|byte| *byte != b' ')
-            .unwrap_or(behind.len());
-        let is_name = !behind.first().is_some_and(|byte| is_name_byte(*byte));
-        let is_last = behind
-            .get(blanks)
-            .is_none_or(|next| b")`|;&<>2".contains(next));
-        if is_name && (!is_command || is_last) {
-            return true;
-        }
-    }
-    false
+    })
+}
+
+/// Whether what is after `sed` ends the name, and for the command also its last word.
+fn ends_sed(after: &[u8], is_command: bool) -> bool {
+    let mut others = after.iter().filter(|byte| **byte != b' ');
+    let is_last = others.next().is_none_or(|next| b")`|;&<>2".contains(next));
+    let is_name = !after.first().is_some_and(|byte| is_name_byte(*byte));
+    is_name && (!is_command || is_last)
 }
 
 /// Whether the units are a word that has a call of sed in a text: where it is known to be run any one, and else one that begins it, or what
-/// is behind a sign, and has an option or a script behind it.
+/// is after a sign, and has an option or a script after it.
 fn has_text(units: &[Unit], is_run: bool) -> bool {
-    for index in 0..units.len() {
-        let rest = units.get(index..).unwrap_or(&[]);
-        if !begins_call(units, index) {
-            continue;
-        }
-        let next = byte_at(rest, 4);
-        let is_script = next.is_none_or(|next| !next.is_ascii_alphabetic() || is_letter(rest));
+    (0..units.len()).any(|index| {
+        let text = rest(units, index);
         let before = byte_at(units, index.saturating_sub(1));
         let is_first = index == 0 || before.is_some_and(|before| b"=/;|&(!\n".contains(&before));
-        if is_run || (is_first && is_script) {
-            return true;
-        }
-    }
-    false
+        begins_call(units, index) && (is_run || (is_first && has_script(text)))
+    })
 }
 
-/// Whether a single letter is behind the name and a blank that begin the units.
-fn is_letter(units: &[Unit]) -> bool {
-    !byte_at(units, 5).is_some_and(is_name_byte)
+/// Whether an option or a script may be after the name and the blank that begin the units: no word of letters, but for a single one.
+fn has_script(units: &[Unit]) -> bool {
+    let is_letter = byte_at(units, 4).is_some_and(|byte| byte.is_ascii_alphabetic());
+    !is_letter || !byte_at(units, 5).is_some_and(is_name_byte)
 }
 
 /// Whether `sed` and a blank are among the units from this one on, and no part of a name.
 fn begins_call(units: &[Unit], index: usize) -> bool {
+    let text = rest(units, index);
+    if !begins_with(text, "sed ") && !begins_with(text, "sed\t") {
+        return false;
+    }
     let before = byte_at(units, index.saturating_sub(1));
     let is_inside = index > 0 && before.is_some_and(|byte| is_name_byte(byte) || byte == b'.');
-    let rest = units.get(index..).unwrap_or(&[]);
-    let is_name = begins_with(rest, "sed ") || begins_with(rest, "sed\t");
-    let is_option = index > 1 && before == Some(b'S') && byte_at(units, 0) == Some(b'-');
-    is_name && (!is_inside || is_option)
+    let is_split = index > 1 && before == Some(b'S') && is_option(units);
+    !is_inside || is_split
 }
 
-/// Whether the units have `sed` as a word, with a blank behind it.
+/// Whether the units have `sed` as a word, with a blank after it.
 fn has_call(units: &[Unit]) -> bool {
     (0..units.len()).any(|index| begins_call(units, index))
 }
@@ -232,21 +209,18 @@ fn has_call(units: &[Unit]) -> bool {
 /// Whether the units have `sed` as a word, which may be the last one.
 fn has_name(units: &[Unit]) -> bool {
     let end = units.len().saturating_sub(3);
-    let is_last = is_text(units.get(end..).unwrap_or(&[]), "sed")
-        && (end == 0 || !byte_at(units, end.saturating_sub(1)).is_some_and(is_name_byte));
-    is_last || has_call(units)
+    let is_inside = end > 0 && byte_at(units, end.saturating_sub(1)).is_some_and(is_name_byte);
+    (begins_with(rest(units, end), "sed") && !is_inside) || has_call(units)
 }
 
 /// Whether the word before a text is an option that says that a shell runs it.
 fn is_command_option(units: &[Unit]) -> bool {
-    (is_letters(units) && ends_with(units, b'c')) || is_one_of(units, &["--command"])
+    (is_letters(units) && ends_with(units, b'c')) || is_text(units, "--command")
 }
 
-/// Whether the word behind a name looks like an option or a script: it begins with a hyphen, is quoted or has a slash.
+/// Whether the word after a name looks like an option or a script: it begins with a hyphen, is quoted or has a slash.
 fn looks_called(word: &ShellWord) -> bool {
-    let has_slash = word
-        .units
-        .iter()
-        .any(|unit| matches!(*unit, Unit::Byte(b'/', _)));
-    word.is_quoted || has_slash || byte_at(&word.units, 0) == Some(b'-')
+    let mut units = word.units.iter();
+    let has_slash = units.any(|unit| matches!(*unit, Unit::Byte(b'/', _)));
+    word.is_quoted || has_slash || is_option(&word.units)
 }

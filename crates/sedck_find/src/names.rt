@@ -3,11 +3,11 @@
 use crate::found::Assumptions;
 use crate::macros::is_defined;
 use crate::settings::Settings;
-use crate::units::{bytes_of, is_one_among};
+use crate::units::{bytes_of, is_one_among, is_one_in};
 use crate::values::Value;
 use sedck_hosts::Kind;
-use sedck_origin::{Hole, Result, Unit, hole_name, is_among};
-use sedck_shell::{Form, Site};
+use sedck_origin::{Hole, Result, Unit, hole_name};
+use sedck_shell::{Dialect, Form, Site};
 use std::alloc::Global;
 use std::collections::BTreeMap;
 
@@ -31,17 +31,17 @@ impl Scope {
         }
     }
 
-    /// The spot with this offset, of a command that is there in its text.
-    pub fn spot(self, site: Site, at: usize) -> Spot {
+    /// The point with this offset, of a command that is there in its text.
+    pub fn point(self, site: Site, at: usize) -> Point {
         let (scope, mut site) = (self, site);
         site.is_certain = site.is_certain && matches!(self, Scope::Own(_));
-        Spot { scope, site, at }
+        Point { scope, site, at }
     }
 }
 
 /// Where a variable is set or used.
 #[derive(Clone, Copy)]
-pub(crate) struct Spot {
+pub(crate) struct Point {
     pub scope: Scope,
     pub site: Site,
     /// The offset in the file.
@@ -54,7 +54,7 @@ pub(crate) struct Fact {
     /// Its value; none if that isn't written, or it is set more than once.
     pub value: Option<Vec<Unit>>,
     /// Where it is set.
-    pub spot: Spot,
+    pub point: Point,
     /// Whether a value that it is given somewhere begins with the name of a sed.
     pub is_sed: bool,
 }
@@ -85,14 +85,14 @@ pub(crate) struct Names<'a> {
 
 impl<'a> Names<'a> {
     /// Notes that the variable is set there, to this value if it is known.
-    pub fn note(&mut self, name: Vec<u8>, value: Option<Vec<Unit>>, spot: Spot) -> Result<()> {
+    pub fn note(&mut self, name: Vec<u8>, value: Option<Vec<Unit>>, point: Point) -> Result<()> {
         if let Some(fact) = self.facts.get_mut(name.as_slice()) {
             fact.value = None;
             return Ok(());
         }
         let fact = Fact {
             value,
-            spot,
+            point,
             is_sed: false,
         };
         self.facts.insert(name, fact)?;
@@ -113,17 +113,17 @@ impl<'a> Names<'a> {
 
     /// Notes that the variable is set to what isn't known.
     pub fn note_unknown(&mut self, name: Vec<u8>) -> Result<()> {
-        self.note(name, None, Scope::Other.spot(Site::default(), 0))
+        self.note(name, None, Scope::Other.point(Site::default(), 0))
     }
 
     /// Notes that a command there may set variables which it doesn't name.
-    pub fn note_open(&mut self, spot: Spot) -> Result<()> {
+    pub fn note_open(&mut self, point: Point) -> Result<()> {
         self.may_fix_locale = true;
-        let Some(text) = spot.scope.text() else {
+        let Some(text) = point.scope.text() else {
             return Ok(());
         };
-        let first = self.open.get(&text).copied().unwrap_or(spot.at);
-        self.open.insert(text, first.min(spot.at))?;
+        let first = self.open.get(&text).copied().unwrap_or(point.at);
+        self.open.insert(text, first.min(point.at))?;
         Ok(())
     }
 
@@ -135,7 +135,7 @@ impl<'a> Names<'a> {
     /// Notes the name of a function or an alias. Any may be run where it isn't known, or is a word before a command that not each shell reserves.
     pub fn note_function(&mut self, name: &[Unit]) -> Result<()> {
         match bytes_of(self.alloc, name)? {
-            Some(name) if !is_among(&name, &["time", "coproc"]) => {
+            Some(name) if !is_one_in(&name, "time coproc") => {
                 self.functions.insert(name, ())?;
             }
             _ => self.settings.has_tables = true,
@@ -158,20 +158,25 @@ impl<'a> Names<'a> {
         self.kind == Kind::Make
     }
 
+    /// Whether macros of M4 may change what the file has.
+    pub fn has_macros(&self) -> bool {
+        self.form.dialect == Dialect::Macros
+    }
+
     /// Whether make replaces the hole.
     fn is_made(&self, hole: Hole) -> bool {
         self.is_make() && !is_doubled(self.file, hole.start)
     }
 
     /// The name of the variable that is the hole, which is there, if its value may be given with the call of this program.
-    pub fn variable_at(&self, hole: Hole, spot: Spot) -> Option<&'a [u8]> {
+    pub fn variable_at(&self, hole: Hole, point: Point) -> Option<&'a [u8]> {
         let name = replaced_name(self.written_hole(hole), self.kind)?;
-        (spot.scope != Scope::Other || self.is_made(hole)).then_some(name)
+        (point.scope != Scope::Other || self.is_made(hole)).then_some(name)
     }
 
     /// The value that replaces the hole, which is there.
-    pub fn value_of(&self, hole: Hole, spot: Spot) -> Option<Value<'_>> {
-        let name = self.variable_at(hole, spot)?;
+    pub fn value_of(&self, hole: Hole, point: Point) -> Option<Value<'_>> {
+        let name = self.variable_at(hole, point)?;
         let mut assumed = self.assumed.variables.iter();
         if let Some(one) = assumed.find(|one| one.name == name) {
             return Some(Value::Given(one.value.unwrap_or(&[])));
@@ -180,9 +185,16 @@ impl<'a> Names<'a> {
             return None;
         }
         let fact = self.facts.get(name)?;
-        let is_there = match self.kind {
-            Kind::Make => self.is_made(hole) && fact.spot.site.is_certain && !self.is_open,
-            _ => self.is_followed(fact, name, hole, spot),
+        let is_there = if self.is_make() {
+            self.is_made(hole) && fact.point.site.is_certain && !self.is_open
+        } else {
+            // Where the file sets IFS, a value may be split at any byte.
+            let may_split = hole.way.is_split() && self.facts.get(b"IFS".as_slice()).is_some();
+            let used = Point {
+                at: hole.start,
+                ..point
+            };
+            self.lasts(fact, used) && !may_split && !is_one_among(name, SET_BY_SHELL)
         };
         match &fact.value {
             Some(value) if is_there => Some(Value::Written(value)),
@@ -190,36 +202,26 @@ impl<'a> Names<'a> {
         }
     }
 
-    /// Whether the variable with this name has the value there that the file writes.
-    fn is_followed(&self, fact: &Fact, name: &[u8], hole: Hole, spot: Spot) -> bool {
-        let open = spot
-            .scope
-            .text()
-            .and_then(|text| self.open.get(&text).copied());
-        // Where the file sets IFS, a value may be split at any byte.
-        let may_split = hole.way.is_split() && self.facts.get(b"IFS".as_slice()).is_some();
-        let at = hole.start;
-        let is_kept = is_followed(fact, Spot { at, ..spot }, open);
-        is_kept && !self.is_open && !may_split && !is_one_among(name, SET_BY_SHELL)
+    /// Whether a variable that is used has the value which the file writes, whatever the environment, the arguments and the files are:
+    ///
+    /// - The file sets it once, and to a text without expansions.
+    /// - That is before the use, in the text that the same shell reads.
+    /// - Each run of the text comes to the assignment: it is in no condition, loop, pipe, subshell or group, after no `&&` or `||`, and
+    ///   doesn't run beside others. In a function the same holds of its runs, and the use is in that function.
+    /// - Before the use no command may set variables that it doesn't name: `.`, `eval` and `trap` of what isn't known, `read`, `export`
+    ///   and the like with a name that isn't known, references to names, aliases, and a command whose name isn't known. Where the use
+    ///   itself is in a loop, a function or the like, none may in the whole text.
+    fn lasts(&self, fact: &Fact, used: Point) -> bool {
+        let set = fact.point;
+        let text = used.scope.text();
+        let is_before = set.scope.text() == text && set.at < used.at;
+        let is_reached = set.site.is_certain
+            && (set.site.body == 0 || set.site.body == used.site.body);
+        let is_once = used.site.is_certain && used.site.body == 0;
+        let open = text.and_then(|text| self.open.get(&text).copied());
+        let is_closed = open.is_none_or(|offset| is_once && used.at < offset);
+        is_before && is_reached && is_closed && !self.is_open
     }
-}
-
-/// Whether a variable that is used has the value which the file writes, whatever the environment, the arguments and the files are:
-///
-/// - The file sets it once, and to a text without expansions.
-/// - That is before the use, in the text that the same shell reads.
-/// - Each run of the text comes to the assignment: it is in no condition, loop, pipe, subshell or group, behind no `&&` or `||`, and
-///   doesn't run beside others. In a function the same holds of its runs, and the use is in that function.
-/// - Before the use no command may set variables that it doesn't name: `.`, `eval` and `trap` of what isn't known, `read`, `export` and
-///   the like with a name that isn't known, references to names, aliases, and a command whose name isn't known. Where the use itself is in
-///   a loop, a function or the like, none may in the whole text. `open` is the offset of the first one that may.
-fn is_followed(fact: &Fact, used: Spot, open: Option<usize>) -> bool {
-    let set = fact.spot;
-    let is_before = set.scope.text() == used.scope.text() && set.at < used.at;
-    let is_reached = set.site.is_certain && (set.site.body == 0 || set.site.body == used.site.body);
-    let is_once = used.site.is_certain && used.site.body == 0;
-    let is_kept = open.is_none_or(|offset| is_once && used.at < offset);
-    is_before && is_reached && is_kept
 }
 
 /// Variables that a shell sets by itself.
@@ -235,12 +237,11 @@ pub(crate) fn replaced_name(written: &[u8], kind: Kind) -> Option<&[u8]> {
     if let Some(b'0'..=b'9') = name.first() {
         return None;
     }
-    let others = written.len().saturating_sub(name.len());
-    let is_name = match written {
-        [b'$', b'{', .., b'}'] => others == 3,
-        [b'$', b'(', .., b')'] => others == 3 && kind == Kind::Make,
-        [b'@', .., b'@'] => others == 2,
-        [b'$', ..] => others == 1,
+    let is_name = match written.len().saturating_sub(name.len()) {
+        3 if written.starts_with(b"${") => written.ends_with(b"}"),
+        3 if written.starts_with(b"$(") => written.ends_with(b")") && kind == Kind::Make,
+        2 => written.starts_with(b"@") && written.ends_with(b"@"),
+        1 => written.starts_with(b"$"),
         _ => false,
     };
     if is_name { Some(name) } else { None }
@@ -248,11 +249,9 @@ pub(crate) fn replaced_name(written: &[u8], kind: Kind) -> Option<&[u8]> {
 
 /// Whether an odd number of dollar signs precedes the offset, so that the one there is the shell's and not make's.
 fn is_doubled(file: &[u8], offset: usize) -> bool {
-    let before = file
-        .get(offset.saturating_sub(DOLLARS)..offset)
-        .unwrap_or(&[]);
+    let before = file.get(offset.saturating_sub(DOLLARS)..offset);
     let mut is_odd = false;
-    for byte in before {
+    for byte in before.unwrap_or(&[]) {
         is_odd = *byte == b'$' && !is_odd;
     }
     is_odd

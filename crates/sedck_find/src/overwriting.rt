@@ -4,9 +4,10 @@ use crate::found::{FoundScript, Overwritten};
 use crate::names::{Names, replaced_name};
 use crate::parts::Runner;
 use crate::texts::Held;
-use crate::words::{CallWord, Filler};
+use crate::units::is_one_in;
+use crate::words::{CallWord, Filler, STANDARD};
 use sedck_call::{Call, CallOption, Given, path_of};
-use sedck_origin::{Origin, Result, Traced, hole_name, is_among};
+use sedck_origin::{Origin, Result, Traced, hole_name};
 use sedck_shell::{ShellWord, Target};
 
 /// The most redirections of a call that are looked at, so that the time stays linear.
@@ -30,7 +31,7 @@ pub(crate) fn overwritten_by(
         if !target.is_emptied && !is_written {
             continue;
         }
-        let Some(path) = path_at(filler, held, &target.word)? else {
+        let Some(path) = path_at(filler, &target.word)? else {
             continue;
         };
         let is_read = has_operand(filler.names, call, words, &path)?
@@ -68,12 +69,10 @@ fn is_in_place(call: &Call) -> bool {
 /// Whether an operand of the call has this path.
 fn has_operand(names: &Names<'_>, call: &Call, words: &[CallWord], path: &[u8]) -> Result<bool> {
     for number in &call.inputs {
-        let Some(word) = words.get(*number) else {
-            continue;
-        };
-        let other = written_path(names, &word.traced)?;
-        if other.is_some_and(|other| other.as_slice() == path) {
-            return Ok(true);
+        if let Some(word) = words.get(*number) {
+            if written_path(names, &word.traced)?.as_deref() == Some(path) {
+                return Ok(true);
+            }
         }
     }
     Ok(false)
@@ -84,7 +83,7 @@ fn reads_standard(call: &Call, words: &[CallWord], runner: Runner) -> bool {
     let is_free = matches!(runner, Runner::Plain | Runner::Find);
     let is_named = call.inputs.iter().any(|number| {
         let word = words.get(*number);
-        word.is_some_and(|word| is_among(&word.traced.bytes, &["-", "/dev/stdin"]))
+        word.is_some_and(|word| is_one_in(&word.traced.bytes, STANDARD))
     });
     is_free && (is_named || call.inputs.is_empty())
 }
@@ -94,14 +93,13 @@ fn is_source(filler: &mut Filler<'_>, held: &Held, path: &[u8]) -> Result<bool> 
     let Some(source) = &held.command.source else {
         return Ok(false);
     };
-    let other = path_at(filler, held, source)?;
-    Ok(other.is_some_and(|other| other.as_slice() == path))
+    Ok(path_at(filler, source)?.as_deref() == Some(path))
 }
 
 /// The path that the word of a redirection is. What its variables have is no matter of the call's words.
-fn path_at(filler: &mut Filler<'_>, held: &Held, word: &ShellWord) -> Result<Option<Vec<u8>>> {
+fn path_at(filler: &mut Filler<'_>, word: &ShellWord) -> Result<Option<Vec<u8>>> {
     let count = filler.followed.len();
-    let word = filler.word(word, held.spot())?;
+    let word = filler.word(word)?;
     filler.followed.truncate(count);
     written_path(filler.names, &word.traced)
 }
@@ -112,20 +110,19 @@ fn written_path(names: &Names<'_>, traced: &Traced) -> Result<Option<Vec<u8>>> {
     let mut written = Vec::new(names.alloc);
     let mut last = None;
     for (byte, origin) in traced.bytes.iter().zip(traced.origins.iter()) {
-        let Origin::Hole(hole) = *origin else {
-            written.push(*byte)?;
-            continue;
-        };
-        if last == Some(hole) {
-            continue;
+        match *origin {
+            Origin::Hole(hole) if last == Some(hole) => {}
+            Origin::Hole(hole) => {
+                last = Some(hole);
+                let Some(name) = lasting_name(names, names.written_hole(hole)) else {
+                    return Ok(None);
+                };
+                written.push(0)?;
+                written.extend_from_slice(name)?;
+                written.push(0)?;
+            }
+            _ => written.push(*byte)?,
         }
-        last = Some(hole);
-        let Some(name) = lasting_name(names, names.written_hole(hole)) else {
-            return Ok(None);
-        };
-        written.push(0)?;
-        written.extend_from_slice(name)?;
-        written.push(0)?;
     }
     Ok(Some(path_of(names.alloc, &written)?))
 }

@@ -1,12 +1,12 @@
 //! The commands in the words of a command, which may run others.
 
 use crate::assigning::{is_assignment, is_c_locale};
-use crate::names::{Names, Spot};
+use crate::names::{Names, Point};
 use crate::programs::{
     Before, Program, Wrapper, before_command, glued_name, is_sed_word, program_of,
 };
 use crate::replaced::{Replaced, adds_operands, replaced_by};
-use crate::units::{bytes_of, has_hole};
+use crate::units::{begins_open, bytes_of, has_hole, is_option, known_bytes, rest};
 use sedck_origin::{Result, Unit, byte_at, is_one_of};
 use sedck_shell::ShellWord;
 use std::alloc::Global;
@@ -14,7 +14,7 @@ use std::alloc::Global;
 /// What `find` runs a command for.
 static EXECUTING: &'static [&'static str] = &["-exec", "-execdir", "-ok", "-okdir"];
 
-/// Reserved words behind which a command begins.
+/// Reserved words after which a command begins.
 static RESERVED: &'static [&'static str] = &[
     "if", "then", "else", "elif", "do", "while", "until", "{", "!", "time",
 ];
@@ -61,6 +61,11 @@ impl Part {
         has_more_unknown: false,
         c_locale: false,
     };
+
+    /// Its name and its other words, in the words of the whole command.
+    pub fn words<'a>(&self, words: &'a [ShellWord]) -> Option<(&'a ShellWord, &'a [ShellWord])> {
+        words.get(self.name..self.end)?.split_first()
+    }
 }
 
 /// What runs a command.
@@ -76,32 +81,21 @@ pub(crate) enum Runner {
     Replacing,
 }
 
-/// What takes an assignment before the name of a command.
-#[derive(Clone, Copy, PartialEq, Eq)]
-enum Setter {
-    /// The shell, unless the variable is read-only.
-    Shell,
-    /// `env`.
-    Env,
-    /// A command that takes it for a name.
-    Nothing,
-}
-
 /// What the next word is.
 #[derive(Clone, Copy)]
 enum State {
     /// The name of a command.
     Name,
-    /// An option of a wrapper, or what follows.
-    Option(Wrapper),
-    /// The argument of an option of a wrapper.
-    Argument(Wrapper),
-    /// One of so many operands of a wrapper, and then the name of a command.
+    /// An option of the wrapper, or what follows.
+    Option,
+    /// The argument of an option of the wrapper.
+    Argument,
+    /// One of so many operands of the wrapper, and then the name of a command.
     Operand(usize),
     /// A word of `find`.
     Find,
-    /// A word of this command.
-    Word(Part),
+    /// A word of the command that is next.
+    Word,
 }
 
 /// The state of looking for commands.
@@ -109,51 +103,54 @@ enum State {
 struct Finder<'a> {
     names: &'a Names<'a>,
     words: &'a [ShellWord],
-    spot: Spot,
+    point: Point,
     parts: Vec<Part>,
-    /// What is known of the next command.
+    /// The command whose words are read, or what is known of the next one.
     next: Part,
     /// Whether an option of the last `xargs` has it replace something, and whether it may add operands all the same.
     replaces: bool,
     may_add: bool,
     /// Whether `find` has names from a list, which may begin with a hyphen.
     is_listed: bool,
-    setter: Setter,
+    /// Whether an assignment before the next name sets a variable: the shell or `env` takes it, and it can't be read-only there.
+    assigns: bool,
     state: State,
     /// Whether the command is run by `find`.
     is_found: bool,
     /// Whether `find` asks first, so that the command doesn't end at `+`.
     asks: bool,
-    /// How many commands run the next one, and the number of the word that is the name of the last one.
+    /// How many commands run the next one, the last one of them, and the number of the word that is its name.
     wrappers: usize,
-    runner_name: usize,
+    wrapper: Wrapper,
+    wrapper_name: usize,
     /// Whether the word before is `{}`.
     follows_braces: bool,
 }
 
 /// The commands in these words of a command, also those that aren't known.
-pub(crate) fn parts_of(names: &Names<'_>, words: &[ShellWord], spot: Spot) -> Result<Vec<Part>> {
+pub(crate) fn parts_of(names: &Names<'_>, words: &[ShellWord], point: Point) -> Result<Vec<Part>> {
     let mut finder = Finder {
         names,
         words,
-        spot,
+        point,
         parts: Vec::new(names.alloc),
         next: Part::FIRST,
         replaces: false,
         may_add: false,
         is_listed: false,
-        setter: Setter::Shell,
+        assigns: !names.may_fix_locale,
         state: State::Name,
         is_found: false,
         asks: false,
         wrappers: 0,
-        runner_name: 0,
+        wrapper: Wrapper::PREFIX,
+        wrapper_name: 0,
         follows_braces: false,
     };
     for (index, word) in words.iter().enumerate() {
         finder.read(index, word)?;
         finder.follows_braces = word.is("{}");
-        if !finder.is_found && matches!(finder.state, State::Word(_)) {
+        if !finder.is_found && matches!(finder.state, State::Word) {
             break;
         }
     }
@@ -166,13 +163,13 @@ impl Finder<'_> {
     fn read(&mut self, index: usize, word: &ShellWord) -> Result<()> {
         match self.state {
             State::Name | State::Operand(0) => return self.read_name(index, word),
-            State::Option(wrapper) => return self.read_option(index, word, wrapper),
-            State::Argument(wrapper) => self.state = State::Option(wrapper),
+            State::Option => return self.read_option(index, word),
+            State::Argument => self.state = State::Option,
             State::Operand(count) => self.state = State::Operand(count.saturating_sub(1)),
             State::Find if is_one_of(&word.units, EXECUTING) => {
                 self.state = State::Name;
                 self.is_found = true;
-                self.asks = is_one_of(&word.units, &["-ok", "-okdir"]);
+                self.asks = word.is("-ok") || word.is("-okdir");
                 if self.next.runner == Runner::Plain && self.is_listed {
                     self.next.runner = Runner::Replacing;
                 } else if self.next.runner == Runner::Plain {
@@ -180,10 +177,10 @@ impl Finder<'_> {
                 }
                 self.next.replaced.has_braces = true;
                 self.wrappers = 0;
-                self.set_by(Setter::Nothing);
+                self.start_assignments(false);
             }
             State::Find => return self.read_in_find(index, word),
-            State::Word(_) => {
+            State::Word => {
                 let is_last = self.follows_braces && !self.asks && word.is("+");
                 let is_end = is_last || word.is(";");
                 if self.is_found && is_end {
@@ -198,14 +195,12 @@ impl Finder<'_> {
     /// Reads a word of `find` that runs no command, unless what is before it does so.
     fn read_in_find(&mut self, index: usize, word: &ShellWord) -> Result<()> {
         let name = index.saturating_sub(1);
-        let is_open = self
-            .words
-            .get(name)
-            .is_some_and(|before| has_hole(&before.units));
+        let before = self.words.get(name);
+        let is_open = before.is_some_and(|before| has_hole(&before.units));
         if is_open && is_sed_word(self.names, word)? {
-            let part = self.part(Program::Other, name, 0);
-            let end = self.words.len();
-            self.parts.push(Part { end, ..part })?;
+            self.begin(Program::Other, name, 0);
+            self.end(self.words.len())?;
+            self.state = State::Find;
         }
         Ok(())
     }
@@ -215,58 +210,52 @@ impl Finder<'_> {
         self.state = State::Name;
         if is_assignment(&word.units) {
             if let Some(is_c) = is_c_locale(&word.units) {
-                self.next.c_locale = is_c && self.is_kept();
+                self.next.c_locale = is_c && self.assigns;
             }
             return Ok(());
         }
-        let is_option = index == 0 && word.is("-p");
+        let is_first_option = index == 0 && word.is("-p");
         let glued = self.pass_glued(index, word);
-        if is_option || (glued > 0 && is_passed(word.units.get(glued..).unwrap_or(&[]))) {
+        let name = rest(&word.units, glued);
+        if is_first_option || (glued > 0 && is_passed(name)) {
             return Ok(());
         }
-        let program = program_of(self.names, word, glued, self.spot)?;
+        let program = program_of(self.names, word, glued, self.point)?;
         if let Program::Wrapper(_) | Program::Find = program {
-            self.note_runner(word.units.get(glued..).unwrap_or(&[]))?;
+            self.note_runner(name)?;
         }
-        self.state = match program {
-            Program::Wrapper(wrapper) if self.wrappers < WRAPPED => {
-                self.pass(index, wrapper);
-                State::Option(wrapper)
-            }
-            Program::Wrapper(_) => State::Word(self.part(Program::Other, index, glued)),
+        match program {
+            Program::Wrapper(wrapper) if self.wrappers < WRAPPED => self.pass(index, wrapper),
+            Program::Wrapper(_) => self.begin(Program::Other, index, glued),
             Program::Find => {
                 self.is_listed = may_list(self.words.get(index..).unwrap_or(&[]));
-                State::Find
+                self.state = State::Find;
             }
-            _ => State::Word(self.part(program, index, glued)),
-        };
+            _ => self.begin(program, index, glued),
+        }
         self.wrappers = self.wrappers.saturating_add(1);
         Ok(())
     }
 
     /// How many units of the word precede the name of a command in it, and may run that: one, or none.
     fn pass_glued(&mut self, index: usize, word: &ShellWord) -> usize {
-        let glued = word
-            .units
-            .len()
-            .saturating_sub(glued_name(&word.units).len());
+        let name = glued_name(&word.units).len();
+        let glued = word.units.len().saturating_sub(name);
         if glued > 0 {
             self.note_unknown(index);
-            self.set_by(Setter::Nothing);
+            self.start_assignments(false);
         }
         glued
     }
 
-    /// The command whose name is the word of this number, without so many units.
-    fn part(&self, program: Program, name: usize, glued: usize) -> Part {
-        Part {
-            program,
-            name,
-            glued,
-            end: name,
-            is_direct: self.next.runner == Runner::Plain && self.wrappers == 0,
-            ..self.next
-        }
+    /// Begins the command whose name is the word of this number, without so many units.
+    fn begin(&mut self, program: Program, name: usize, glued: usize) {
+        self.next.program = program;
+        self.next.name = name;
+        self.next.glued = glued;
+        self.next.end = name;
+        self.next.is_direct = self.next.runner == Runner::Plain && self.wrappers == 0;
+        self.state = State::Word;
     }
 
     /// Notes the name of a command that runs another one.
@@ -284,15 +273,6 @@ impl Finder<'_> {
         self.next.unknown = Some(index);
     }
 
-    /// Whether an assignment before a name stands.
-    fn is_kept(&self) -> bool {
-        match self.setter {
-            Setter::Shell => !self.names.may_fix_locale,
-            Setter::Env => true,
-            Setter::Nothing => false,
-        }
-    }
-
     /// Notes that the word of this number is the name of a command that runs another one. It may change what was set before it.
     fn pass(&mut self, index: usize, wrapper: Wrapper) {
         if wrapper.is_adding {
@@ -301,57 +281,47 @@ impl Finder<'_> {
             self.replaces = false;
             self.next.runner = Runner::Adding;
         }
-        self.runner_name = index;
         if wrapper.is_unknown {
             self.note_unknown(index);
         }
-        self.set_by(if wrapper.is_env {
-            Setter::Env
-        } else {
-            Setter::Nothing
-        });
+        self.wrapper = wrapper;
+        self.wrapper_name = index;
+        self.state = State::Option;
+        self.start_assignments(wrapper.is_env);
     }
 
-    /// Notes what takes the next assignments.
-    fn set_by(&mut self, setter: Setter) {
-        self.setter = setter;
+    /// Notes whether the next assignments set variables. What was set before is gone.
+    fn start_assignments(&mut self, assigns: bool) {
+        self.assigns = assigns;
         self.next.c_locale = false;
     }
 
-    /// Reads a word behind the name of a wrapper.
-    fn read_option(&mut self, index: usize, word: &ShellWord, wrapper: Wrapper) -> Result<()> {
-        if wrapper.is_adding {
+    /// Reads a word after the name of a wrapper.
+    fn read_option(&mut self, index: usize, word: &ShellWord) -> Result<()> {
+        if self.wrapper.is_adding {
             self.note_replacing(index, word)?;
         }
         let before = match bytes_of(self.names.alloc, &word.units)? {
-            Some(bytes) => before_command(wrapper, &bytes),
+            Some(bytes) => before_command(self.wrapper, &bytes),
             // An option with a value that isn't known, as `-P$N`.
-            None if byte_at(&word.units, 0) == Some(b'-') => Before::Option,
+            None if is_option(&word.units) => Before::Option,
             None => Before::Word,
         };
+        let operands = self.wrapper.operands;
         match before {
             Before::Option => {}
-            Before::Awaiting => self.state = State::Argument(wrapper),
-            Before::Stop => {
-                let name = self.runner_name;
-                self.state = State::Word(self.part(Program::Other, name, 0));
-            }
-            Before::End => self.state = State::Operand(wrapper.operands),
-            Before::Word if wrapper.operands == 0 => return self.read_name(index, word),
-            Before::Word => self.state = State::Operand(wrapper.operands.saturating_sub(1)),
+            Before::Awaiting => self.state = State::Argument,
+            Before::Stop => self.begin(Program::Other, self.wrapper_name, 0),
+            Before::End => self.state = State::Operand(operands),
+            Before::Word if operands == 0 => return self.read_name(index, word),
+            Before::Word => self.state = State::Operand(operands.saturating_sub(1)),
         }
         Ok(())
     }
 
     /// Notes an option with which `xargs` puts lines into the words. It adds no operands then, unless another option may have it do so.
     fn note_replacing(&mut self, index: usize, word: &ShellWord) -> Result<()> {
-        let mut known = Vec::new(self.names.alloc);
-        for unit in &word.units {
-            match unit.byte() {
-                Some(byte) => known.push(byte)?,
-                None => break,
-            }
-        }
+        let known = known_bytes(self.names.alloc, &word.units)?;
         let is_known = known.len() == word.units.len();
         self.may_add = self.may_add || adds_operands(&known);
         if let Some(replacing) = replaced_by(index, &known, is_known) {
@@ -366,48 +336,40 @@ impl Finder<'_> {
         Ok(())
     }
 
-    /// Ends the command before the word of this number.
+    /// Ends the command, if there is one, before the word of this number.
     fn end(&mut self, end: usize) -> Result<()> {
-        if let State::Word(part) = self.state {
-            self.parts.push(Part { end, ..part })?;
+        if let State::Word = self.state {
+            let part = Part { end, ..self.next };
+            self.parts.push(part)?;
         }
         Ok(())
     }
 }
 
-/// Whether these units behind what may run them begin no command by themselves: an assignment, or a reserved word.
+/// Whether these units after what may run them begin no command by themselves: an assignment, or a reserved word.
 fn is_passed(units: &[Unit]) -> bool {
     is_assignment(units) || is_one_of(units, RESERVED)
 }
 
 /// Whether `find` with these words may have names from a list, which may begin with a hyphen: where one of them is `-files0-from`, or may be.
-/// A variable that is one word takes the next one for the list, and `find` refuses what is behind that unless it is an option.
+/// A variable that is one word takes the next one for the list, and `find` refuses what is after that unless it is an option.
 fn may_list(words: &[ShellWord]) -> bool {
-    let end = words
-        .iter()
-        .position(|word| is_one_of(&word.units, EXECUTING))
-        .unwrap_or(words.len());
-    for (index, word) in words.iter().take(end).enumerate() {
-        let next = index.saturating_add(1);
-        let is_refused = begins_option(words.get(next))
-            && begins_path(words.get(next.saturating_add(1)));
-        let is_hole = matches!(word.units.first(), Some(Unit::Hole(_)));
-        if word.is("-files0-from") || (is_hole && !is_refused) {
+    for (index, word) in words.iter().enumerate() {
+        if is_one_of(&word.units, EXECUTING) {
+            break;
+        }
+        let mut others = words.get(index.saturating_add(1)..).unwrap_or(&[]).iter();
+        let is_refused = others.next().is_some_and(|next| is_option(&next.units))
+            && others.next().is_some_and(|next| begins_path(&next.units));
+        if word.is("-files0-from") || (begins_open(&word.units) && !is_refused) {
             return true;
         }
     }
     false
 }
 
-/// Whether the word is known to begin with a hyphen.
-fn begins_option(word: Option<&ShellWord>) -> bool {
-    word.is_some_and(|word| byte_at(&word.units, 0) == Some(b'-'))
-}
-
 /// Whether the word is known to be a path for `find`, and no part of an expression.
-fn begins_path(word: Option<&ShellWord>) -> bool {
-    word.is_some_and(|word| {
-        byte_at(&word.units, 0).is_some_and(|first| !b"-()!,".contains(&first))
-            && !has_hole(&word.units)
-    })
+fn begins_path(units: &[Unit]) -> bool {
+    let is_path = byte_at(units, 0).is_some_and(|first| !b"-()!,".contains(&first));
+    is_path && !has_hole(units)
 }

@@ -1,10 +1,10 @@
 //! What the name of a command calls.
 
 use crate::mentions::writes_sed;
-use crate::names::{Names, Spot, replaced_name};
-use crate::units::{bytes_of, is_one_among, last_part};
+use crate::names::{Names, Point, replaced_name};
+use crate::units::{bytes_of, is_one_among, is_one_in, last_part, lone_hole, meant_by, rest};
 use crate::values::{BLANKS, Value};
-use sedck_origin::{Hole, Result, Unit, byte_at, hole_name, is_among, named};
+use sedck_origin::{Hole, Result, Unit, byte_at, hole_name};
 use sedck_shell::ShellWord;
 use std::alloc::Global;
 
@@ -30,9 +30,9 @@ pub(crate) enum Program {
 #[derive(Clone, Copy)]
 pub(crate) struct Wrapper {
     /// The letters of the options that take an argument.
-    letters: &'static [u8],
+    letters: &'static str,
     /// The letters of the options with which no command runs that is known.
-    stops: &'static [u8],
+    stops: &'static str,
     /// How many operands precede the command.
     pub operands: usize,
     /// Whether it is `xargs`, which adds operands.
@@ -43,42 +43,28 @@ pub(crate) struct Wrapper {
     pub is_unknown: bool,
 }
 
-/// The names of commands that run another one, the letters of their options that take an argument, those of options with which no command
-/// runs that is known, and how many operands precede the command.
-type Named = (&'static [&'static str], &'static [u8], &'static [u8], usize);
-
-/// The commands that run another one.
-static WRAPPERS: &'static [Named] = &[
-    (&["env"], b"uC", b"S", 0),
-    (&["exec"], b"a", b"", 0),
-    (&["command"], b"", b"vV", 0),
-    (&["xargs"], b"adEILnPsJ", b"", 0),
-    (&["sudo"], b"ugpChrtTUDRac", b"el", 0),
-    (&["doas"], b"uCa", b"", 0),
-    (&["nice"], b"n", b"", 0),
-    (&["ionice"], b"cn", b"pPu", 0),
-    (&["nohup", "setsid", "builtin"], b"", b"", 0),
-    (&["busybox", "toybox"], b"", b"", 0),
-    (&["time"], b"fo", b"", 0),
-    (&["timeout", "gtimeout"], b"ks", b"", 1),
-    (&["stdbuf"], b"ioe", b"", 0),
-    (&["chroot", "taskset"], b"", b"", 1),
-    (&["fakeroot"], b"lisb", b"", 0),
-    (&["flock"], b"wEc", b"", 1),
-    (&["strace"], b"eoOpPsSuaIbX", b"", 0),
-    (&["ltrace"], b"eolpsuaxADFn", b"", 0),
-    (&["chrt"], b"TPD", b"", 1),
+/// The commands that run another one: their names, the letters of their options that take an argument, those of options with which no
+/// command runs that is known, and how many operands precede the command.
+static WRAPPERS: &'static [(&'static str, &'static str, &'static str, usize)] = &[
+    ("env", "uC", "S", 0),
+    ("exec", "a", "", 0),
+    ("command", "", "vV", 0),
+    ("xargs", "adEILnPsJ", "", 0),
+    ("sudo", "ugpChrtTUDRac", "el", 0),
+    ("doas", "uCa", "", 0),
+    ("nice", "n", "", 0),
+    ("ionice", "cn", "pPu", 0),
+    ("nohup setsid builtin busybox toybox", "", "", 0),
+    ("time", "fo", "", 0),
+    ("timeout gtimeout", "ks", "", 1),
+    ("stdbuf", "ioe", "", 0),
+    ("chroot taskset", "", "", 1),
+    ("fakeroot", "lisb", "", 0),
+    ("flock", "wEc", "", 1),
+    ("strace", "eoOpPsSuaIbX", "", 0),
+    ("ltrace", "eolpsuaxADFn", "", 0),
+    ("chrt", "TPD", "", 1),
 ];
-
-/// A command that comes before the one which it runs.
-const PREFIX: Wrapper = Wrapper {
-    letters: b"",
-    stops: b"",
-    operands: 0,
-    is_adding: false,
-    is_env: false,
-    is_unknown: true,
-};
 
 /// Long options that take the next word.
 static LONG: &'static [&'static str] = &[
@@ -88,20 +74,20 @@ static LONG: &'static [&'static str] = &[
 ];
 
 /// Names of other programs, and what they are.
-static PROGRAMS: &'static [(Program, &'static [&'static str])] = &[
-    (Program::Shell, &["sh", "bash", "dash", "ksh", "zsh", "ash"]),
-    (Program::Shell, &["mksh", "ksh93"]),
-    (Program::Again, &["eval", "trap"]),
-    (Program::Sourcing, &[".", "source"]),
-    (Program::User, &["su", "runuser"]),
-    (Program::Find, &["find"]),
+static PROGRAMS: &'static [(Program, &'static str)] = &[
+    (Program::Sed, SEDS),
+    (Program::Shell, "sh bash dash ksh zsh ash mksh ksh93"),
+    (Program::Again, "eval trap"),
+    (Program::Sourcing, ". source"),
+    (Program::User, "su runuser"),
+    (Program::Find, "find"),
 ];
 
 /// The names of seds.
-static SEDS: &'static [&'static str] = &["sed", "gsed", "ssed"];
+const SEDS: &str = "sed gsed ssed";
 
 /// The names of variables that have the path of a shell.
-static SHELL_VARIABLES: &'static [&'static str] = &["SHELL", "CONFIG_SHELL", "BASH", "POSIX_SHELL"];
+const SHELL_VARIABLES: &str = "SHELL CONFIG_SHELL BASH POSIX_SHELL";
 
 /// The longest text of a hole, and the longest path, that is looked at, so that the time stays linear.
 pub(crate) const LONGEST: usize = 256;
@@ -123,25 +109,35 @@ pub(crate) enum Before {
 
 /// What the word with these bytes is, where options of the wrapper may stand.
 pub(crate) fn before_command(wrapper: Wrapper, word: &[u8]) -> Before {
-    match word {
-        [b'-', b'-'] => Before::End,
-        [b'-', b'-', ..] if is_one_among(word, LONG) => Before::Awaiting,
+    match word.strip_prefix(b"-") {
+        None => Before::Word,
+        Some(letters) if !letters.starts_with(b"-") => wrapper.letters_before(letters),
+        Some(_) if is_one_among(word, LONG) => Before::Awaiting,
         // What is split there may be another command.
-        [b'-', b'-', b's', ..] if wrapper.is_env => Before::Stop,
-        [b'-', b'-', ..] => Before::Option,
-        [b'-', letters @ ..] => wrapper.letters_before(letters),
-        _ => Before::Word,
+        Some(_) if wrapper.is_env && word.starts_with(b"--s") => Before::Stop,
+        Some(_) if word.len() > 2 => Before::Option,
+        Some(_) => Before::End,
     }
 }
 
 impl Wrapper {
+    /// A command that comes before the one which it runs.
+    pub const PREFIX: Wrapper = Wrapper {
+        letters: "",
+        stops: "",
+        operands: 0,
+        is_adding: false,
+        is_env: false,
+        is_unknown: true,
+    };
+
     /// What a word of option letters is.
     fn letters_before(self, letters: &[u8]) -> Before {
         for (index, letter) in letters.iter().enumerate() {
-            if self.stops.contains(letter) {
+            if self.stops.as_bytes().contains(letter) {
                 return Before::Stop;
             }
-            if self.letters.contains(letter) {
+            if self.letters.as_bytes().contains(letter) {
                 let is_last = index.saturating_add(1) == letters.len();
                 return if is_last {
                     Before::Awaiting
@@ -154,7 +150,7 @@ impl Wrapper {
     }
 }
 
-/// The name of a command in a word: what is behind a variable that begins it, of which a shell may make other words, unless that is a part of
+/// The name of a command in a word: what is after a variable that begins it, of which a shell may make other words, unless that is a part of
 /// a path. As in `$(Q)sed`, it may be nothing, or what runs the command.
 pub(crate) fn glued_name(units: &[Unit]) -> &[Unit] {
     match units {
@@ -167,7 +163,7 @@ pub(crate) fn glued_name(units: &[Unit]) -> &[Unit] {
 
 /// Whether the word is the name of a sed, perhaps behind what isn't known, or a variable that has one.
 pub(crate) fn is_sed_word(names: &Names<'_>, word: &ShellWord) -> Result<bool> {
-    if let [Unit::Hole(hole)] = *word.units.as_slice() {
+    if let Some(hole) = lone_hole(&word.units) {
         let written = names.written_hole(hole);
         return Ok(hole_name(written).is_some_and(|name| {
             is_sed_variable(name) || names.may_be_sed(name) || writes_sed(written)
@@ -175,11 +171,8 @@ pub(crate) fn is_sed_word(names: &Names<'_>, word: &ShellWord) -> Result<bool> {
     }
     // What is before the name may be nothing, or a part of its path.
     let part = last_part(&word.units);
-    let holes = part
-        .iter()
-        .position(|unit| !matches!(*unit, Unit::Hole(_)))
-        .unwrap_or(part.len());
-    let name = part.get(holes..).unwrap_or(&[]);
+    let known = part.iter().position(|unit| unit.byte().is_some());
+    let name = rest(part, known.unwrap_or(part.len()));
     if name.len() > LONGEST {
         return Ok(false);
     }
@@ -192,59 +185,54 @@ pub(crate) fn program_of(
     names: &Names<'_>,
     word: &ShellWord,
     glued: usize,
-    spot: Spot,
+    point: Point,
 ) -> Result<Program> {
-    let units = word.units.get(glued..).unwrap_or(&[]);
-    if let [Unit::Hole(hole)] = *units {
-        return called_by(names, hole, spot);
+    let units = rest(&word.units, glued);
+    if let Some(hole) = lone_hole(units) {
+        return called_by(names, hole, point);
     }
-    match bytes_of(names.alloc, last_part(units))? {
-        Some(name) => Ok(named_program(&name)),
-        None => Ok(Program::Other),
-    }
+    let name = bytes_of(names.alloc, last_part(units))?;
+    Ok(name.map_or(Program::Other, |name| named_program(&name)))
 }
 
 /// What is called by a name that is written.
 fn named_program(name: &[u8]) -> Program {
-    if is_among(name, SEDS) {
-        return Program::Sed;
-    }
     for (others, letters, stops, operands) in WRAPPERS {
-        if is_among(name, others) {
+        if is_one_in(name, others) {
             return Program::Wrapper(Wrapper {
                 letters,
                 stops,
                 operands: *operands,
-                is_adding: is_among(name, &["xargs"]),
-                is_env: is_among(name, &["env"]),
+                is_adding: is_one_in(name, "xargs"),
+                is_env: is_one_in(name, "env"),
                 is_unknown: false,
             });
         }
     }
-    named(PROGRAMS, name).unwrap_or(Program::Other)
+    meant_by(PROGRAMS, name).unwrap_or(Program::Other)
 }
 
 /// Whether the last part of the path is the name of a sed.
 pub(crate) fn is_sed_path(path: &[u8]) -> bool {
     let slash = path.iter().rposition(|byte| *byte == b'/');
     let from = slash.map_or(0, |slash| slash.saturating_add(1));
-    is_among(path.get(from..).unwrap_or(&[]), SEDS)
+    is_one_in(path.get(from..).unwrap_or(&[]), SEDS)
 }
 
 /// Whether a variable of this name has the path of a sed.
 pub(crate) fn is_sed_variable(name: &[u8]) -> bool {
-    is_among(name, &["SED", "GSED"])
+    is_one_in(name, "SED GSED")
 }
 
 /// What the hole calls, which is the whole word.
-fn called_by(names: &Names<'_>, hole: Hole, spot: Spot) -> Result<Program> {
-    if let Some(value) = names.value_of(hole, spot) {
+fn called_by(names: &Names<'_>, hole: Hole, point: Point) -> Result<Program> {
+    if let Some(value) = names.value_of(hole, point) {
         let is_split = hole.way.is_split();
         let first = first_word(names.alloc, value, is_split)?;
         return Ok(if is_sed_path(&first) {
             Program::Sed
         } else if first.is_empty() && is_split {
-            Program::Wrapper(PREFIX)
+            Program::Wrapper(Wrapper::PREFIX)
         } else {
             Program::Other
         });
@@ -260,14 +248,13 @@ fn called_by(names: &Names<'_>, hole: Hole, spot: Spot) -> Result<Program> {
 fn first_word(alloc: Global, value: Value<'_>, is_split: bool) -> Result<Vec<u8>> {
     let mut path = Vec::new(alloc);
     for index in 0..value.len().min(LONGEST) {
-        match value.get(index) {
-            Some((byte, _)) if is_split && BLANKS.contains(&byte) => {
-                if !path.is_empty() {
-                    break;
-                }
-            }
-            Some((byte, _)) => path.push(byte)?,
-            None => break,
+        let Some((byte, _)) = value.get(index) else {
+            break;
+        };
+        if !is_split || !BLANKS.contains(&byte) {
+            path.push(byte)?;
+        } else if !path.is_empty() {
+            break;
         }
     }
     Ok(path)
@@ -275,7 +262,7 @@ fn first_word(alloc: Global, value: Value<'_>, is_split: bool) -> Result<Vec<u8>
 
 /// What is called by what is written, if no value is known.
 fn called_by_name(written: &[u8], names: &Names<'_>) -> Program {
-    if writes_sed(written) || is_among(written, &["%{__sed}", "%__sed"]) {
+    if writes_sed(written) || is_one_in(written, "%{__sed} %__sed") {
         return Program::Sed;
     }
     let Some(name) = hole_name(written) else {
@@ -286,10 +273,10 @@ fn called_by_name(written: &[u8], names: &Names<'_>) -> Program {
     let is_sed = is_whole && is_sed_variable(name);
     if is_sed || (is_whole && names.may_be_sed(name)) {
         Program::Sed
-    } else if is_whole && is_among(name, SHELL_VARIABLES) {
+    } else if is_whole && is_one_in(name, SHELL_VARIABLES) {
         Program::Shell
-    } else if is_whole && is_among(name, &["SUDO", "sudo"]) {
-        Program::Wrapper(PREFIX)
+    } else if is_whole && is_one_in(name, "SUDO sudo") {
+        Program::Wrapper(Wrapper::PREFIX)
     } else {
         Program::Other
     }

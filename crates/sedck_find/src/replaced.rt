@@ -1,6 +1,6 @@
 //! What `find` and `xargs` put into the words of a command before it runs.
 
-use crate::units::bytes_of;
+use crate::units::{bytes_of, rest};
 use sedck_origin::{Result, Unit};
 use sedck_shell::ShellWord;
 use std::alloc::Global;
@@ -54,25 +54,22 @@ impl Replaced {
     }
 
     /// The texts that are replaced in the words of this command; none where one isn't known.
-    pub fn texts(self, alloc: Global, words: &[ShellWord]) -> Result<Option<Vec<Vec<u8>>>> {
+    pub fn texts(&self, alloc: Global, words: &[ShellWord]) -> Result<Option<Vec<Vec<u8>>>> {
         let mut texts = Vec::new(alloc);
         if self.has_more {
             return Ok(None);
         }
         if self.has_braces {
-            let mut braces = Vec::new(alloc);
-            braces.extend_from_slice(b"{}")?;
-            texts.push(braces)?;
+            texts.push(Vec::from_slice(alloc, b"{}".as_slice())?)?;
         }
         for part in [self.first, self.second] {
-            let Some(WordPart { word, from }) = part else {
+            let Some(part) = part else {
                 continue;
             };
-            let units = match words.get(word) {
-                Some(word) => word.units.get(from..).unwrap_or(&[]),
-                None => &[],
+            let Some(word) = words.get(part.word) else {
+                continue;
             };
-            match bytes_of(alloc, units)? {
+            match bytes_of(alloc, rest(&word.units, part.from))? {
                 Some(text) => texts.push(text)?,
                 None => return Ok(None),
             }
@@ -84,10 +81,9 @@ impl Replaced {
 /// What `xargs` replaces with the option that is the word of this number and has these bytes; they are its beginning where not all of it
 /// is known.
 pub(crate) fn replaced_by(index: usize, option: &[u8], is_known: bool) -> Option<Replacing> {
-    match option {
-        [b'-', b'-', b'r', ..] => Some(long_replacing(index, option, is_known)),
-        [b'-', b'-', ..] => None,
-        [b'-', letters @ ..] => letters_replacing(index, letters, is_known),
+    match option.strip_prefix(b"-") {
+        Some(letters) if !letters.starts_with(b"-") => letters_replacing(index, letters, is_known),
+        Some(name) if name.starts_with(b"-r") => Some(long_replacing(index, option, is_known)),
         _ => None,
     }
 }
@@ -103,38 +99,30 @@ fn long_replacing(index: usize, option: &[u8], is_known: bool) -> Replacing {
 
 /// The same of a word of letters, of which some take what follows.
 fn letters_replacing(index: usize, letters: &[u8], is_known: bool) -> Option<Replacing> {
-    for (place, letter) in letters.iter().enumerate() {
-        let next = place.saturating_add(1);
-        let is_last = next == letters.len() && is_known;
-        match *letter {
-            b'I' | b'J' if is_last => return Some(part_of(index.saturating_add(1), 0)),
-            b'i' if is_last => return Some(Replacing::Braces),
-            b'I' | b'J' | b'i' => return Some(part_of(index, next.saturating_add(1))),
-            other if ENDING.contains(&other) => return None,
-            _ => {}
-        }
-    }
-    if is_known {
-        None
-    } else {
-        Some(Replacing::Anything)
+    let Some(place) = letters.iter().position(|letter| ENDING.contains(letter)) else {
+        return (!is_known).then_some(Replacing::Anything);
+    };
+    let next = place.saturating_add(1);
+    let is_last = next == letters.len() && is_known;
+    match letters.get(place) {
+        Some(b'I' | b'J') if is_last => Some(part_of(index.saturating_add(1), 0)),
+        Some(b'i') if is_last => Some(Replacing::Braces),
+        Some(b'I' | b'J' | b'i') => Some(part_of(index, next.saturating_add(1))),
+        _ => None,
     }
 }
 
 /// Whether the option of `xargs` may have it add operands beside what it replaces, as `-n` and `-L` may.
 pub(crate) fn adds_operands(option: &[u8]) -> bool {
-    match option {
-        [b'-', b'-', b'm', b'a', b'x', b'-', next, ..] => matches!(*next, b'a' | b'l'),
-        [b'-', b'-', ..] => false,
-        [b'-', letters @ ..] => {
-            let last = letters.iter().find(|letter| ENDING.contains(letter));
-            matches!(last, Some(b'J' | b'L' | b'l' | b'n'))
-        }
-        _ => false,
+    if let Some(name) = option.strip_prefix(b"--max-") {
+        return matches!(name.first(), Some(b'a' | b'l'));
     }
+    let is_letters = option.starts_with(b"-") && !option.starts_with(b"--");
+    let ending = option.iter().find(|letter| ENDING.contains(letter));
+    is_letters && matches!(ending, Some(b'J' | b'L' | b'l' | b'n'))
 }
 
-/// Letters of options of `xargs` behind which no other letter is one.
+/// Letters of options of `xargs` after which no other letter is one.
 const ENDING: &[u8] = b"IJiadEeLlnPsRS";
 
 /// What the word of this number has from this unit on.

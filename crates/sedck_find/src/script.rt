@@ -3,20 +3,19 @@
 use crate::conditions::Conditions;
 use crate::found::{FoundScript, OpenHole, Role, Unknown};
 use crate::holes::roles_of;
-use crate::macros::{has_bracket, has_macro_hole, has_macro_name};
+use crate::macros::has_macro;
 use crate::mending::mended;
+use crate::names::Names;
 use crate::parts::Runner;
-use crate::words::{CallWord, LONGEST};
+use crate::units::is_one_in;
+use crate::words::{CallWord, LONGEST, STANDARD};
 use sedck_call::{Call, CallFault, CallOption, Given, Piece, call_of};
-use sedck_origin::{Hole, Result, Traced, Way, has_hole, is_among};
-use sedck_shell::Dialect;
-use std::alloc::{AllocError, Global};
+use sedck_origin::{Hole, Result, Way, has_hole};
+use std::alloc::AllocError;
 
 /// What is known of a call beside its words.
 #[derive(Clone, Copy)]
 pub(crate) struct Around<'a> {
-    pub file: &'a [u8],
-    pub dialect: Dialect,
     /// Where the name of the sed is.
     pub name: Hole,
     pub runner: Runner,
@@ -24,20 +23,15 @@ pub(crate) struct Around<'a> {
     pub here: Option<&'a CallWord>,
     /// What must hold of the name of the sed, and of what runs it.
     pub named: &'a [OpenHole],
-    /// Whether a pattern without a match may vanish.
-    pub has_no_match: bool,
-    /// The names of the macros of M4 that the file defines, in order.
-    pub macros: &'a [Vec<u8>],
-    /// Whether delimiters in lists are parts of these.
-    pub mends: bool,
 }
 
 /// The script of a call with these words.
 pub(crate) fn script_of(
-    alloc: Global,
+    names: &Names<'_>,
     words: &[CallWord],
     around: Around<'_>,
 ) -> Result<FoundScript> {
+    let alloc = names.alloc;
     let mut slices = Vec::new(alloc);
     let mut length = 0usize;
     for word in words {
@@ -50,53 +44,51 @@ pub(crate) fn script_of(
     // What xargs adds may be the script.
     let is_open = around.runner == Runner::Adding
         || words.iter().any(|word| has_hole(&word.traced.origins));
-    let is_macro = around.dialect == Dialect::Macros;
     match call_of(alloc, &slices) {
-        Ok(call) => script_in(alloc, call, words, around),
+        Ok(call) => script_in(names, call, words, around),
         Err(CallFault::OutOfMemory) => Err(AllocError),
         Err(_) if is_open => Ok(FoundScript::Unknown(Unknown::Words)),
         // A bracket of M4 may end a command.
-        Err(_) if is_macro => Ok(FoundScript::Unknown(Unknown::Macro)),
+        Err(_) if names.has_macros() => Ok(FoundScript::Unknown(Unknown::Macro)),
         Err(fault) => Ok(FoundScript::Refused(fault)),
     }
 }
 
 /// The script of a call that a sed takes.
 fn script_in(
-    alloc: Global,
+    names: &Names<'_>,
     call: Call,
     words: &[CallWord],
     around: Around<'_>,
 ) -> Result<FoundScript> {
+    let here = around.here;
     let is_extended = |item: &Given| matches!(*item, Given::Alone(CallOption::Extended, _));
     if call.given.iter().any(is_extended) {
         return Ok(FoundScript::Foreign(call));
     }
-    if let Some(unknown) = unknown_words(&call, words, around.here) {
+    if let Some(unknown) = unknown_words(&call, words, here) {
         return Ok(FoundScript::Unknown(unknown));
     }
-    if is_suffix(&call, words) {
-        return Ok(FoundScript::Unknown(Unknown::Suffix));
-    }
-    let Some((mut text, mut holes)) = roles_of(alloc, &call, words, around.here)? else {
+    let Some((mut text, mut holes)) = roles_of(names.alloc, &call, words, here)? else {
         return Ok(FoundScript::Unknown(Unknown::Part));
     };
-    if around.mends {
-        text = mended(alloc, around.file, text, &mut holes)?;
+    if names.assumed.mends {
+        text = mended(names.alloc, names.file, text, &mut holes)?;
     }
-    let conditions = Conditions::of(alloc, &call, words, around.name, around.runner)?;
+    let conditions = Conditions::of(names.alloc, &call, words, around)?;
     if conditions.is_unknown {
         return Ok(FoundScript::Unknown(Unknown::Words));
     }
+    let others = conditions.holes;
     let has_pattern = |hole: &OpenHole| matches!(hole.role, Role::Pattern);
-    if around.has_no_match && conditions.holes.iter().any(has_pattern) {
+    if names.settings.has_no_match && others.iter().any(has_pattern) {
         return Ok(FoundScript::Unknown(Unknown::Setting));
     }
-    holes.extend_from_slice(&conditions.holes)?;
-    holes.extend_from_slice(around.named)?;
-    if around.dialect == Dialect::Macros && has_macro(words, &text, around) {
+    if names.has_macros() && has_macro(names, words, &text) {
         return Ok(FoundScript::Unknown(Unknown::Macro));
     }
+    holes.extend_from_slice(&others)?;
+    holes.extend_from_slice(around.named)?;
     Ok(FoundScript::Text { call, text, holes })
 }
 
@@ -106,23 +98,12 @@ fn is_suffix(call: &Call, words: &[CallWord]) -> bool {
     let [Piece::Text(origin)] = *call.pieces.as_slice() else {
         return false;
     };
-    let is_empty = words
-        .get(origin.word)
-        .is_some_and(|word| word.traced.bytes.is_empty());
+    let word = words.get(origin.word);
+    let is_empty = word.is_some_and(|word| word.traced.bytes.is_empty());
     let is_in_place = |item: &Given| matches!(*item, Given::Alone(CallOption::InPlace, _));
     let is_operand =
         |item: &Given| matches!(*item, Given::Operand(number) if number == origin.word);
     is_empty && call.given.iter().any(is_in_place) && call.given.iter().any(is_operand)
-}
-
-/// Whether macros of M4 may change the script or a word of the call.
-fn has_macro(words: &[CallWord], text: &Traced, around: Around<'_>) -> bool {
-    has_bracket(&text.bytes)
-        || has_macro_name(&text.bytes, around.macros)
-        || has_macro_hole(around.file, &text.origins)
-        || words
-            .iter()
-            .any(|word| has_macro_name(&word.traced.bytes, around.macros))
 }
 
 /// Why the script isn't known, if its words say so.
@@ -131,46 +112,34 @@ fn unknown_words(call: &Call, words: &[CallWord], here: Option<&CallWord>) -> Op
     if has_open_word(&call.given, words, origin.word) {
         return Some(Unknown::Words);
     }
-    call.pieces
-        .iter()
-        .find_map(|piece| unknown_piece(*piece, words, here))
+    let mut pieces = call.pieces.iter();
+    let unknown = pieces.find_map(|piece| unknown_piece(*piece, words, here));
+    unknown.or(is_suffix(call, words).then_some(Unknown::Suffix))
 }
 
 /// Whether a word before the script begins with a hole, so that it may be another option, and isn't what an option takes.
 fn has_open_word(given: &[Given], words: &[CallWord], first: usize) -> bool {
-    for word in words.iter().take(first) {
-        if word.hole_at(0).is_some_and(|hole| hole.way != Way::Quoted) {
-            return true;
-        }
-    }
-    given.iter().any(|item| match *item {
-        Given::Operand(number) if number < first => {
-            words.get(number).is_some_and(|word| word.is_hole(0))
-        }
-        _ => false,
-    })
+    let mut before = words.iter().take(first);
+    before.any(|word| word.hole_at(0).is_some_and(|hole| hole.way != Way::Quoted))
+        || given.iter().any(|item| match *item {
+            Given::Operand(number) if number < first => {
+                words.get(number).is_some_and(|word| word.is_hole(0))
+            }
+            _ => false,
+        })
 }
 
 /// Why the piece isn't known.
 fn unknown_piece(piece: Piece, words: &[CallWord], here: Option<&CallWord>) -> Option<Unknown> {
+    let (Piece::Text(origin) | Piece::File(origin)) = piece;
+    let word = words.get(origin.word)?;
     match piece {
-        Piece::File(origin) => {
-            let path = match words.get(origin.word) {
-                Some(word) => word.traced.bytes.get(origin.from..).unwrap_or(&[]),
-                None => &[],
-            };
-            let is_known = here.is_some() && is_among(path, &["-", "/dev/stdin"]);
-            if is_known { None } else { Some(Unknown::File) }
+        Piece::File(_) => {
+            let path = word.traced.bytes.get(origin.from..).unwrap_or(&[]);
+            let is_known = here.is_some() && is_one_in(path, STANDARD);
+            (!is_known).then_some(Unknown::File)
         }
-        Piece::Text(origin) => {
-            let word = words.get(origin.word)?;
-            if word.is_hole_from(origin.from) {
-                Some(Unknown::Words)
-            } else if word.is_hole(origin.from) {
-                Some(Unknown::Part)
-            } else {
-                None
-            }
-        }
+        Piece::Text(_) if word.is_hole_from(origin.from) => Some(Unknown::Words),
+        Piece::Text(_) => word.is_hole(origin.from).then_some(Unknown::Part),
     }
 }

@@ -1,9 +1,9 @@
 //! Settings of a shell by which a call may have other words, or another program runs in place of the sed.
 
 use crate::names::Names;
-use crate::units::{has_hole, is_letters};
+use crate::units::{begins_open, has_any, has_hole, has_letter, is_option};
 use sedck_hosts::Assignment;
-use sedck_origin::{Result, Unit, byte_at, is_one_of, is_text};
+use sedck_origin::{Result, Unit, is_text};
 use sedck_shell::ShellWord;
 
 /// What a file sets somewhere. It counts for all of its calls.
@@ -45,29 +45,26 @@ static SIGNS: &'static [&'static str] = &[
 
 /// The settings that the text of a file shows, whatever commands it has.
 pub(crate) fn settings_of(file: &[u8]) -> Settings {
-    let end = file
-        .iter()
-        .position(|byte| *byte == b'\n')
-        .unwrap_or(file.len());
-    let line = file.get(..end).unwrap_or(&[]);
+    let mut lines = file.split(|byte| *byte == b'\n');
+    let line = lines.next().unwrap_or(&[]);
     let is_program = line.starts_with(b"#!");
-    let is_zsh = is_program && has_any(line, &["zsh"]);
+    let is_zsh = is_program && has_names(line, &["zsh"]);
     Settings {
         has_keywords: is_program && names_keywords(line),
-        has_no_match: has_any(file, &["nullglob"]),
-        has_signs: has_any(file, SIGNS),
-        has_tables: has_any(file, TABLES) || (is_zsh && has_any(file, TABLES_OF_ZSH)),
+        has_no_match: has_names(file, &["nullglob"]),
+        has_signs: has_names(file, SIGNS),
+        has_tables: has_names(file, TABLES) || (is_zsh && has_names(file, TABLES_OF_ZSH)),
     }
 }
 
 /// Whether a word of the first line is an option with the letter `k`.
 fn names_keywords(line: &[u8]) -> bool {
-    line.split(|byte| matches!(*byte, b' ' | b'\t'))
-        .any(|word| word.starts_with(b"-") && word.contains(&b'k'))
+    let mut words = line.split(|byte| matches!(*byte, b' ' | b'\t'));
+    words.any(|word| word.starts_with(b"-") && word.contains(&b'k'))
 }
 
 /// Whether one of the names is in these bytes.
-fn has_any(bytes: &[u8], names: &[&str]) -> bool {
+fn has_names(bytes: &[u8], names: &[&str]) -> bool {
     (0..bytes.len()).any(|from| {
         let rest = bytes.get(from..).unwrap_or(&[]);
         names.iter().any(|name| begins_with_name(rest, name))
@@ -104,9 +101,8 @@ impl Names<'_> {
     /// Notes that `hash` and `enable` put other programs in place of some: with an option `-p` or `-f`, or as `name=path`.
     pub fn note_hashed(&mut self, operands: &[ShellWord]) {
         self.settings.has_tables |= operands.iter().any(|word| {
-            let is_option = byte_at(&word.units, 0) == Some(b'-');
-            is_hole_first(&word.units)
-                || has_letter(&word.units, if is_option { b"=pf" } else { b"=" })
+            let signs = if is_option(&word.units) { "=pf" } else { "=" };
+            begins_open(&word.units) || has_any(&word.units, signs)
         });
     }
 
@@ -116,10 +112,7 @@ impl Names<'_> {
             return Ok(());
         }
         for word in operands {
-            let is_option = byte_at(&word.units, 0) == Some(b'-');
-            if is_option && has_letter(&word.units, b"gs") {
-                self.settings.has_tables = true;
-            }
+            self.settings.has_tables |= is_option(&word.units) && has_any(&word.units, "gs");
             let mut parts = word.units.split(|unit| unit.byte() == Some(b'='));
             self.note_function(parts.next().unwrap_or(&[]))?;
         }
@@ -137,26 +130,13 @@ impl Names<'_> {
     }
 }
 
-/// Whether a word behind `set`, `shopt` or the name of a shell may set the option `keyword`.
+/// Whether a word after `set`, `shopt` or the name of a shell may set the option `keyword`.
 pub(crate) fn is_keyword_option(units: &[Unit]) -> bool {
-    is_hole_first(units)
-        || is_one_of(units, &["keyword"])
-        || (is_letters(units) && has_letter(units, b"k"))
+    begins_open(units) || is_text(units, "keyword") || has_letter(units, "k")
 }
 
 /// Whether a word among the units may set it.
 fn has_keywords(units: &[Unit]) -> bool {
     let mut words = units.split(|unit| matches!(unit.byte(), Some(b' ' | b'\t')));
     words.any(is_keyword_option)
-}
-
-/// Whether it isn't known how the units begin.
-fn is_hole_first(units: &[Unit]) -> bool {
-    matches!(units.first(), Some(Unit::Hole(_)))
-}
-
-/// Whether one of the units is one of these letters.
-fn has_letter(units: &[Unit], letters: &[u8]) -> bool {
-    let mut bytes = units.iter().filter_map(|unit| unit.byte());
-    bytes.any(|byte| letters.contains(&byte))
 }

@@ -1,12 +1,12 @@
 //! The texts of a file, and those in them that are handed to a shell.
 
 use crate::assigning::may_fix_locale;
-use crate::names::{Names, Scope, Spot};
+use crate::names::{Names, Point, Scope};
 use crate::parts::{Part, parts_of};
 use crate::programs::Program;
 use crate::replaced::with_holes;
 use crate::settings::is_keyword_option;
-use crate::units::{bytes_of, is_letters, last_part};
+use crate::units::{after, begins_open, bytes_of, has_letter, is_letters, last_part, rest};
 use sedck_hosts::is_dollar_quoting;
 use sedck_origin::{Result, Text, Unit, begins_with, byte_at};
 use sedck_shell::{Form, ShellCommand, ShellWord, read_shell};
@@ -26,8 +26,27 @@ pub(crate) struct Held {
 
 impl Held {
     /// Where it is.
-    pub fn spot(&self) -> Spot {
-        self.scope.spot(self.command.site, 0)
+    pub fn point(&self) -> Point {
+        self.scope.point(self.command.site, 0)
+    }
+}
+
+/// How a text is read, and where its commands run.
+#[derive(Clone, Copy)]
+struct Manner {
+    form: Form,
+    scope: Scope,
+}
+
+impl Manner {
+    /// The manner of another shell, which is called there, and may read `$'..'` or not.
+    fn other(self, reads_dollar_quotes: bool) -> Manner {
+        let mut form = self.form;
+        form.has_dollar_quotes = form.has_dollar_quotes && reads_dollar_quotes;
+        Manner {
+            form,
+            scope: Scope::Other,
+        }
     }
 }
 
@@ -35,13 +54,12 @@ impl Held {
 #[derive(Drop)]
 pub(crate) struct Inner {
     units: Vec<Unit>,
-    scope: Scope,
-    form: Form,
+    manner: Manner,
 }
 
 /// What was read of a file.
 #[derive(Drop)]
-pub(crate) struct Reading<'a> {
+pub(crate) struct Texts<'a> {
     pub names: Names<'a>,
     /// The commands that may call sed.
     pub held: Vec<Held>,
@@ -52,23 +70,25 @@ pub(crate) struct Reading<'a> {
     pub unread: Vec<usize>,
 }
 
-impl Reading<'_> {
+impl Texts<'_> {
     /// Reads a text of the file.
     pub fn read(&mut self, text: Text, scope: Scope, is_value: bool) -> Result<()> {
-        self.read_as(text, self.names.form, scope, is_value)
+        let form = self.names.form;
+        self.read_as(text, Manner { form, scope }, is_value)
     }
 
-    /// Reads a text that is of this form.
-    fn read_as(&mut self, text: Text, form: Form, scope: Scope, is_value: bool) -> Result<()> {
-        let read = read_shell(self.names.alloc, text, form)?;
+    /// Reads a text in this manner.
+    fn read_as(&mut self, text: Text, manner: Manner, is_value: bool) -> Result<()> {
+        let read = read_shell(self.names.alloc, text, manner.form)?;
         if !is_value {
             self.unread.extend_from_slice(&read.unread)?;
         }
         for name in &read.functions {
             self.names.note_function(&name.units)?;
         }
+        let scope = manner.scope;
         for command in read.commands {
-            self.note(&command, form, scope)?;
+            self.note(&command, manner)?;
             if may_call(&command.words) {
                 self.held.push(Held {
                     command,
@@ -85,7 +105,7 @@ impl Reading<'_> {
         for _ in 0..LEVELS {
             let texts = std::mem::replace(&mut self.inner, Vec::new(self.names.alloc));
             for text in &texts {
-                self.read_as(Text::Units(&text.units), text.form, text.scope, false)?;
+                self.read_as(Text::Units(&text.units), text.manner, false)?;
             }
         }
         for text in &self.inner {
@@ -97,92 +117,79 @@ impl Reading<'_> {
     }
 
     /// Notes what a command sets, and the texts in it.
-    fn note(&mut self, command: &ShellCommand, form: Form, scope: Scope) -> Result<()> {
+    fn note(&mut self, command: &ShellCommand, manner: Manner) -> Result<()> {
         let words = command.words.as_slice();
         self.names.may_fix_locale |= may_fix_locale(words);
-        self.names.note_command(command, scope)?;
-        let parts = parts_of(&self.names, words, Scope::Other.spot(command.site, 0))?;
+        self.names.note_command(command, manner.scope)?;
+        let parts = parts_of(&self.names, words, Scope::Other.point(command.site, 0))?;
         for part in &parts {
-            self.note_part(*part, command, form, scope)?;
+            self.note_part(part, command, manner)?;
         }
         Ok(())
     }
 
     /// Notes the text that a part of a command has for a shell. A here-document or a here-string that `.` reads isn't understood, and none that
     /// a shell reads by a name.
-    fn note_part(
-        &mut self,
-        part: Part,
-        command: &ShellCommand,
-        form: Form,
-        scope: Scope,
-    ) -> Result<()> {
-        let Some([name, words @ ..]) = command.words.get(part.name..part.end) else {
+    fn note_part(&mut self, part: &Part, command: &ShellCommand, manner: Manner) -> Result<()> {
+        let Some((name, words)) = part.words(&command.words) else {
             return Ok(());
         };
-        match (part.program, command.words.first()) {
-            (Program::Shell, _) => {
-                let form = self.form_for(name, form)?;
-                self.note_shell(words, part, command, form)
+        match part.program {
+            Program::Shell => {
+                let path = bytes_of(self.names.alloc, last_part(&name.units))?;
+                let other = manner.other(path.is_some_and(|path| is_dollar_quoting(&path)));
+                self.note_shell(words, part, command, other)
             }
-            (Program::Again, _) => self.note_again(words, name.is("trap"), form, scope),
-            (Program::User, _) => match user_text(words) {
-                Some(text) => self.note_other(text, part, command, plain(form)),
+            Program::Again => self.note_again(words, name.is("trap"), manner),
+            Program::User => match user_text(words) {
+                Some(text) => self.note_other(text, part, command, manner.other(false)),
                 None => Ok(()),
             },
-            (Program::Sourcing, Some(first)) if is_fed(command) => {
+            Program::Sourcing if is_fed(command) => {
+                let first = command.words.first().unwrap_or(name);
                 Ok(self.unread.push(first.start)?)
             }
             _ => Ok(()),
         }
     }
 
-    /// How a text is read by the shell of this name, which a text of this form calls.
-    fn form_for(&self, name: &ShellWord, form: Form) -> Result<Form> {
-        match bytes_of(self.names.alloc, last_part(&name.units))? {
-            Some(name) if is_dollar_quoting(&name) => Ok(form),
-            _ => Ok(plain(form)),
-        }
-    }
-
-    /// Notes the text that a shell is called with.
+    /// Notes the text that a shell is called with, which it reads in this manner.
     fn note_shell(
         &mut self,
         words: &[ShellWord],
-        part: Part,
+        part: &Part,
         command: &ShellCommand,
-        form: Form,
+        other: Manner,
     ) -> Result<()> {
         let is_keyword = words.iter().any(|word| is_keyword_option(&word.units));
         self.names.settings.has_keywords |= is_keyword;
         match (shell_text(words), &command.here, &command.here_string) {
-            (Input::Word(units), _, _) => self.note_other(units, part, command, form),
-            (Input::Standard, Some(units), _) => self.note_text(units, form, Scope::Other),
-            (Input::Standard, _, Some(word)) => self.note_text(&word.units, form, Scope::Other),
+            (Input::Word(units), _, _) => self.note_other(units, part, command, other),
+            (Input::Standard, Some(units), _) => self.note_text(units, other),
+            (Input::Standard, _, Some(word)) => self.note_text(&word.units, other),
             (Input::File(path), _, _) if is_device(path) && is_fed(command) => self.miss(path),
             _ => Ok(()),
         }
     }
 
-    /// Notes a text in the words of a command that is for another shell. What runs that shell may put names or lines into it, before the
-    /// shell reads it.
+    /// Notes a text in the words of a command that another shell reads in this manner. What runs that shell may put names or lines into it,
+    /// before the shell reads it.
     fn note_other(
         &mut self,
         text: &[Unit],
-        part: Part,
+        part: &Part,
         command: &ShellCommand,
-        form: Form,
+        other: Manner,
     ) -> Result<()> {
         let alloc = self.names.alloc;
         let Some(replaced) = part.replaced.texts(alloc, &command.words)? else {
             return self.miss(text);
         };
-        let mut units = Vec::new(alloc);
-        units.extend_from_slice(text)?;
+        let mut units = Vec::from_slice(alloc, text)?;
         for one in &replaced {
             units = with_holes(alloc, &units, one)?;
         }
-        self.note_text(&units, form, Scope::Other)
+        self.note_text(&units, other)
     }
 
     /// Notes that the text isn't understood.
@@ -193,64 +200,47 @@ impl Reading<'_> {
         Ok(())
     }
 
-    /// Notes the text of `eval`, or of `trap`, which has other operands behind it.
-    fn note_again(
-        &mut self,
-        words: &[ShellWord],
-        is_trap: bool,
-        form: Form,
-        scope: Scope,
-    ) -> Result<()> {
-        let scope = match scope.text() {
-            Some(text) => Scope::Again(text),
-            None => Scope::Other,
-        };
-        let words = match words {
-            [first, others @ ..] if first.is("--") => others,
-            _ => words,
-        };
-        match words {
-            [] => Ok(()),
-            [_] if is_trap => Ok(()),
-            [first, ..] if is_trap => self.note_text(&first.units, form, scope),
-            _ => {
+    /// Notes the text of `eval`, or of `trap`, which has other operands after it.
+    fn note_again(&mut self, words: &[ShellWord], is_trap: bool, manner: Manner) -> Result<()> {
+        let form = manner.form;
+        let text = manner.scope.text();
+        let scope = text.map_or(Scope::Other, |text| Scope::Again(text));
+        let again = Manner { form, scope };
+        let has_end = words.first().is_some_and(|first| first.is("--"));
+        let words = words.get(usize::from(has_end)..).unwrap_or(&[]);
+        match words.first() {
+            Some(first) if is_trap && words.len() > 1 => self.note_text(&first.units, again),
+            Some(_) if !is_trap => {
                 let text = joined(self.names.alloc, words)?;
-                self.note_text(&text, form, scope)
+                self.note_text(&text, again)
             }
+            _ => Ok(()),
         }
     }
 
     /// Notes a text, which is read next.
-    fn note_text(&mut self, text: &[Unit], form: Form, scope: Scope) -> Result<()> {
+    fn note_text(&mut self, text: &[Unit], manner: Manner) -> Result<()> {
         if text.len() > self.left {
             return self.miss(text);
         }
         self.left = self.left.saturating_sub(text.len());
-        let mut units = Vec::new(self.names.alloc);
-        units.extend_from_slice(text)?;
-        Ok(self.inner.push(Inner { units, scope, form })?)
-    }
-}
-
-/// The same form for a shell that may not read `$'..'`.
-fn plain(form: Form) -> Form {
-    Form {
-        has_dollar_quotes: false,
-        ..form
+        let units = Vec::from_slice(self.names.alloc, text)?;
+        Ok(self.inner.push(Inner { units, manner })?)
     }
 }
 
 /// Whether a command with these words may call sed: one of them has that name in it, or is a name that isn't known.
 fn may_call(words: &[ShellWord]) -> bool {
-    words.iter().any(|word| match *word.units.as_slice() {
-        [Unit::Hole(_)] | [Unit::Hole(_), Unit::Hole(_), ..] => true,
-        _ => has_sed(&word.units),
+    words.iter().any(|word| {
+        let next = rest(&word.units, 1);
+        let is_open = begins_open(&word.units) && (next.is_empty() || begins_open(next));
+        is_open || has_sed(&word.units)
     })
 }
 
 /// Whether `sed` is among the units.
 fn has_sed(units: &[Unit]) -> bool {
-    (0..units.len()).any(|index| begins_with(units.get(index..).unwrap_or(&[]), "sed"))
+    (0..units.len()).any(|index| begins_with(rest(units, index), "sed"))
 }
 
 /// Whether a shell may read commands from a here-document or a here-string of this command.
@@ -294,8 +284,8 @@ fn shell_text(words: &[ShellWord]) -> Input<'_> {
         if arguments > 0 {
             arguments = arguments.saturating_sub(1);
         } else if matches!(byte_at(&word.units, 0), Some(b'-' | b'+')) {
-            is_command = is_command || has_letter(&word.units, b'c');
-            is_standard = is_standard || has_letter(&word.units, b's');
+            is_command = is_command || has_letter(&word.units, "c");
+            is_standard = is_standard || has_letter(&word.units, "s");
             arguments = arguments_of(word);
         } else if is_command {
             return Input::Word(&word.units);
@@ -308,43 +298,34 @@ fn shell_text(words: &[ShellWord]) -> Input<'_> {
     Input::Standard
 }
 
-/// Whether the word is a hyphen and letters, of which one is this one.
-fn has_letter(units: &[Unit], letter: u8) -> bool {
-    is_letters(units) && units.iter().any(|unit| unit.byte() == Some(letter))
-}
-
 /// How many of the next words are arguments of the option: one for each `o` and `O`.
 fn arguments_of(word: &ShellWord) -> usize {
     if byte_at(&word.units, 1) == Some(b'-') {
         return usize::from(word.is("--rcfile") || word.is("--init-file"));
     }
-    let letters = word.units.iter();
-    letters
-        .filter(|unit| matches!(unit.byte(), Some(b'o' | b'O')))
-        .count()
+    let letters = word
+        .units
+        .iter()
+        .filter(|unit| matches!(unit.byte(), Some(b'o' | b'O')));
+    letters.count()
 }
 
 /// The text that `su` with these words after its name hands to a shell.
 fn user_text(words: &[ShellWord]) -> Option<&[Unit]> {
     for (index, word) in words.iter().enumerate() {
         let next = words.get(index.saturating_add(1));
+        let next = next.map(|next| next.units.as_slice());
         if word.is("--command") {
-            return next.map(|word| word.units.as_slice());
+            return next;
         }
         if begins_with(&word.units, COMMAND) {
             return word.units.get(COMMAND.len()..);
         }
-        if has_letter(&word.units, b'c') {
-            let letter = word
-                .units
-                .iter()
-                .position(|unit| unit.byte() == Some(b'c'))?;
-            let text = word.units.get(letter.saturating_add(1)..).unwrap_or(&[]);
-            return if text.is_empty() {
-                next.map(|word| word.units.as_slice())
-            } else {
-                Some(text)
-            };
+        match after(&word.units, b'c') {
+            Some(text) if is_letters(&word.units) => {
+                return if text.is_empty() { next } else { Some(text) };
+            }
+            _ => {}
         }
     }
     None

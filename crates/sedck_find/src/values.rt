@@ -32,19 +32,17 @@ impl Value<'_> {
 
     /// Where it comes from. The lines of the file begin at these offsets; `is_made` says that make has the variable.
     pub fn source(self, lines: &[usize], is_made: bool) -> KnownValue {
-        match self {
-            Value::Given(_) => KnownValue::Given,
-            Value::Written(units) => match units.first() {
-                Some(Unit::Byte(_, offset)) => {
-                    let line = lines.partition_point(|start| *start <= *offset);
-                    if is_made {
-                        KnownValue::Made(line)
-                    } else {
-                        KnownValue::Line(line)
-                    }
-                }
-                _ => KnownValue::Empty,
-            },
+        let Value::Written(units) = self else {
+            return KnownValue::Given;
+        };
+        let Some(Unit::Byte(_, offset)) = units.first() else {
+            return KnownValue::Empty;
+        };
+        let line = lines.partition_point(|start| *start <= *offset);
+        if is_made {
+            KnownValue::Made(line)
+        } else {
+            KnownValue::Line(line)
         }
     }
 
@@ -59,18 +57,20 @@ impl Value<'_> {
         }
     }
 
+    /// Whether its byte of this number is one of these.
+    fn is_in(self, index: usize, bytes: &[u8]) -> bool {
+        let item = self.get(index);
+        item.is_some_and(|(byte, _)| bytes.contains(&byte))
+    }
+
     /// Whether it has one of these bytes.
     pub fn has_any(self, bytes: &[u8]) -> bool {
-        (0..self.len()).any(|index| self
-            .get(index)
-            .is_some_and(|(byte, _)| bytes.contains(&byte)))
+        (0..self.len()).any(|index| self.is_in(index, bytes))
     }
 
     /// Whether it has a byte that is none of these.
     pub fn has_other(self, bytes: &[u8]) -> bool {
-        !(0..self.len()).all(|index| self
-            .get(index)
-            .is_some_and(|(byte, _)| bytes.contains(&byte)))
+        (0..self.len()).any(|index| !self.is_in(index, bytes))
     }
 
     /// Whether a shell leaves the value as it is where it comes into a word in this way.

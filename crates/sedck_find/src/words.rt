@@ -1,10 +1,10 @@
 //! The words of a call, each byte with its place in the file.
 
-use crate::found::Followed;
-use crate::names::{Names, Spot};
+use crate::found::{Followed, OpenHole};
+use crate::names::{Names, Point};
 use crate::programs::is_sed_variable;
+use crate::units::lone_hole;
 use crate::values::{BLANKS, SPECIAL, Value};
-use sedck_hosts::Kind;
 use sedck_origin::{Hole, Origin, Result, Traced, Unit, Way, hole_name};
 use sedck_shell::{Pattern, ShellWord};
 use std::alloc::Global;
@@ -14,21 +14,19 @@ use std::alloc::Global;
 pub(crate) struct CallWord {
     pub traced: Traced,
     pub pattern: Pattern,
-    /// The offsets in the file of its first byte and behind its last one.
-    pub start: usize,
-    pub end: usize,
+    /// Where the file has it.
+    pub place: Hole,
     /// Whether it begins with a path that is no option: the name of a file that `find` gives, or of a process.
     pub is_path: bool,
 }
 
 impl CallWord {
-    /// A word that the file has in place of the hole.
-    pub fn of(traced: Traced, hole: Hole) -> CallWord {
+    /// A word that the file has there.
+    pub fn of(traced: Traced, place: Hole) -> CallWord {
         CallWord {
             traced,
             pattern: Pattern::None,
-            start: hole.start,
-            end: hole.end,
+            place,
             is_path: false,
         }
     }
@@ -46,12 +44,6 @@ impl CallWord {
         }
     }
 
-    /// Where the file has the word.
-    pub fn place(&self) -> Hole {
-        let (start, end, way) = (self.start, self.end, Way::Quoted);
-        Hole { start, end, way }
-    }
-
     /// The first hole of which the shell may make several words, or that is there before the shell reads the text.
     pub fn open_hole(&self) -> Option<Hole> {
         self.traced.origins.iter().find_map(|origin| match *origin {
@@ -62,19 +54,15 @@ impl CallWord {
 
     /// Puts a hole in place of each such text. Whether the file has all of them in the word.
     pub fn open(&mut self, text: &[u8]) -> bool {
-        let length = self.traced.bytes.len();
-        if text.is_empty() || length < text.len() {
-            return true;
-        }
         let mut resume = 0usize;
         let mut are_there = true;
-        for index in 0..length {
+        for index in 0..self.traced.bytes.len() {
             let end = index.saturating_add(text.len());
-            if index < resume || self.traced.bytes.get(index..end) != Some(text) {
-                continue;
+            let is_there = self.traced.bytes.get(index..end) == Some(text);
+            if is_there && index >= resume && !text.is_empty() {
+                resume = end;
+                are_there = self.open_between(index, end) && are_there;
             }
-            resume = end;
-            are_there = self.open_between(index, end) && are_there;
         }
         are_there
     }
@@ -87,11 +75,7 @@ impl CallWord {
         let (Some(Origin::At(start)), Some(Origin::At(stop))) = (first, last) else {
             return false;
         };
-        let hole = Hole {
-            start,
-            end: stop.saturating_add(1),
-            way: Way::Quoted,
-        };
+        let hole = quoted(start, stop.saturating_add(1));
         for index in from..end {
             if let Some(origin) = origins.get_mut(index) {
                 *origin = Origin::Hole(hole);
@@ -107,6 +91,12 @@ impl CallWord {
     pub fn is_hole_from(&self, from: usize) -> bool {
         self.is_hole(from) && (from..self.traced.origins.len()).all(|index| self.is_hole(index))
     }
+}
+
+/// What the file has between these offsets, of which a shell makes a part of one word.
+pub(crate) fn quoted(start: usize, end: usize) -> Hole {
+    let way = Way::Quoted;
+    Hole { start, end, way }
 }
 
 /// No bytes.
@@ -128,25 +118,29 @@ pub(crate) fn add(traced: &mut Traced, byte: u8, origin: Origin) -> Result<()> {
 #[derive(Drop)]
 pub(crate) struct Filler<'a> {
     pub names: &'a Names<'a>,
+    /// Where the command is whose words are filled.
+    pub point: Point,
     /// How many bytes of values may be put in yet, so that the time stays linear.
     pub left: usize,
     /// How many bytes before values may be read yet, which is done for their lines and columns.
     pub reach: usize,
     /// The variables that were replaced since this was taken.
     pub followed: Vec<Followed>,
+    /// What must hold of the name of the sed, and of what runs it.
+    pub named: Vec<OpenHole>,
 }
 
 impl Filler<'_> {
     /// A word with the values that are known.
-    pub fn word(&mut self, word: &ShellWord, spot: Spot) -> Result<CallWord> {
+    pub fn word(&mut self, word: &ShellWord) -> Result<CallWord> {
         // What isn't known of a long word doesn't matter.
         let units = word.units.get(..LONGEST).unwrap_or(&word.units);
         let spare = word.start.saturating_add(2);
+        let end = word.units.last().map_or(spare, |last| last.end());
         Ok(CallWord {
-            traced: self.filled(units, spot)?,
+            traced: self.filled(units)?,
             pattern: word.pattern,
-            start: word.start,
-            end: word.units.last().map_or(spare, |last| last.end()),
+            place: quoted(word.start, end),
             is_path: self.is_process(&word.units),
         })
     }
@@ -163,14 +157,14 @@ impl Filler<'_> {
     }
 
     /// Units with the values that are known. A word of one unit alone vanishes if that is nothing and isn't quoted.
-    pub fn filled(&mut self, units: &[Unit], spot: Spot) -> Result<Traced> {
+    pub fn filled(&mut self, units: &[Unit]) -> Result<Traced> {
         let mut traced = empty(self.names.alloc);
         let is_alone = units.len() == 1;
         for unit in units {
             match *unit {
                 Unit::Byte(byte, offset) => add(&mut traced, byte, Origin::At(offset))?,
                 Unit::Escape(byte, offset) => add(&mut traced, byte, Origin::Escape(offset))?,
-                Unit::Hole(hole) => match self.names.value_of(hole, spot) {
+                Unit::Hole(hole) => match self.names.value_of(hole, self.point) {
                     Some(value) if self.fits(value, hole.way, is_alone) => {
                         self.follow(hole, value)?;
                         add_value(&mut traced, value)?;
@@ -191,21 +185,17 @@ impl Filler<'_> {
         is_near && self.spend(value.len()) && !vanishes && value.is_kept(way)
     }
 
-    /// Whether the value of the hole is known and is no command: nothing, or what only tells make how to run the one behind it.
-    pub fn is_nothing(&mut self, units: &[Unit], spot: Spot) -> Result<bool> {
-        let [Unit::Hole(hole)] = *units else {
+    /// Whether the value of the hole is known and is no command: nothing, or what only tells make how to run the one after it.
+    pub fn is_nothing(&mut self, units: &[Unit]) -> Result<bool> {
+        let Some(hole) = lone_hole(units) else {
             return Ok(false);
         };
         let names = self.names;
-        let signs: &[u8] = if names.kind == Kind::Make {
-            b"@-+ \t"
-        } else {
-            b" \t"
-        };
-        let Some(value) = names.value_of(hole, spot) else {
+        let signs = if names.is_make() { "@-+ \t" } else { " \t" };
+        let Some(value) = names.value_of(hole, self.point) else {
             return Ok(false);
         };
-        let is_nothing = value.len() <= SIGNS && !value.has_other(signs);
+        let is_nothing = value.len() <= SIGNS && !value.has_other(signs.as_bytes());
         if is_nothing {
             self.follow(hole, value)?;
         }
@@ -214,7 +204,7 @@ impl Filler<'_> {
 
     /// Notes that the hole is replaced by the value.
     fn follow(&mut self, hole: Hole, value: Value<'_>) -> Result<()> {
-        let value = value.source(&self.names.lines, self.names.kind == Kind::Make);
+        let value = value.source(&self.names.lines, self.names.is_make());
         let Hole { start, end, .. } = hole;
         Ok(self.followed.push(Followed { start, end, value })?)
     }
@@ -226,17 +216,17 @@ impl Filler<'_> {
         fits
     }
 
-    /// The words of the value behind its first one: options, if the value is the name of a sed with options. None where that isn't known.
-    pub fn options(&mut self, hole: Hole, spot: Spot) -> Result<Option<Vec<CallWord>>> {
-        let mut options = Vec::new(self.names.alloc);
-        if let Some(value) = self.names.value_of(hole, spot) {
+    /// The words of the value after its first one: options, if the value is the name of a sed with options. None where that isn't known.
+    pub fn options(&mut self, hole: Hole) -> Result<Option<Vec<CallWord>>> {
+        let alloc = self.names.alloc;
+        if let Some(value) = self.names.value_of(hole, self.point) {
             if !hole.way.is_split() {
-                return Ok(Some(options));
+                return Ok(Some(Vec::new(alloc)));
             }
             self.follow(hole, value)?;
             let fits = self.spend(value.len().saturating_mul(WORD));
             if fits && value.is_kept(Way::MadeQuoted) && !value.has_any(SPECIAL) {
-                return Ok(Some(split_words(self.names.alloc, value, hole)?));
+                return Ok(Some(split_words(alloc, value, hole)?));
             }
         } else {
             let may_be_sed = |name: &[u8]| self.names.may_be_sed(name) && !is_sed_variable(name);
@@ -244,9 +234,10 @@ impl Filler<'_> {
                 return Ok(None);
             }
         }
-        let mut traced = empty(self.names.alloc);
+        let mut traced = empty(alloc);
         let way = Way::Several;
         add(&mut traced, b'x', Origin::Hole(Hole { way, ..hole }))?;
+        let mut options = Vec::new(alloc);
         options.push(CallWord::of(traced, hole))?;
         Ok(Some(options))
     }
@@ -254,6 +245,9 @@ impl Filler<'_> {
 
 /// The most bytes of a value that is no command.
 const SIGNS: usize = 16;
+
+/// The paths of standard input.
+pub(crate) const STANDARD: &str = "- /dev/stdin";
 
 /// The most bytes that the words of a call have.
 pub(crate) const LONGEST: usize = 1_048_576;
@@ -268,26 +262,23 @@ fn add_value(traced: &mut Traced, value: Value<'_>) -> Result<()> {
     Ok(())
 }
 
-/// The words of the value behind its first one.
+/// The words of the value after its first one.
 fn split_words(alloc: Global, value: Value<'_>, hole: Hole) -> Result<Vec<CallWord>> {
     let mut words = Vec::new(alloc);
     let mut traced = empty(alloc);
     let mut is_name = true;
     for index in 0..value.len().saturating_add(1) {
-        if let Some((byte, origin)) = value.get(index) {
-            if !BLANKS.contains(&byte) {
-                add(&mut traced, byte, origin)?;
-                continue;
+        match value.get(index) {
+            Some((byte, origin)) if !BLANKS.contains(&byte) => add(&mut traced, byte, origin)?,
+            _ if traced.bytes.is_empty() => {}
+            _ => {
+                let traced = std::mem::replace(&mut traced, empty(alloc));
+                if !is_name {
+                    words.push(CallWord::of(traced, hole))?;
+                }
+                is_name = false;
             }
         }
-        if traced.bytes.is_empty() {
-            continue;
-        }
-        let traced = std::mem::replace(&mut traced, empty(alloc));
-        if !is_name {
-            words.push(CallWord::of(traced, hole))?;
-        }
-        is_name = false;
     }
     Ok(words)
 }

@@ -4,9 +4,9 @@ use Rattle.std.specs.Io.KnownBytes.{Keeps, Appends}
 use Rattle.sedck_script.specs.Program.{Program}
 use Rattle.sedck_script.specs.Spelling.{Spells}
 use Rattle.sedck_plain.specs.WrittenLists.{HaveSameLists}
-use Rattle.sedck_explanation.specs.declared.explanation.Explanation.{Explanation}
-use Rattle.sedck_explanation.specs.declared.status.Status.{Status}
-use Rattle.sedck_explanation.specs.declared.status.Status.TheVariants.{Accepted}
+use Rattle.sedck_answer.specs.declared.explanation.Explanation.{Explanation}
+use Rattle.sedck_answer.specs.declared.status.Status.{Status}
+use Rattle.sedck_answer.specs.declared.status.Status.TheVariants.{Accepted}
 use Rattle.sedck_formats.specs.Plain.{Output, IsPlainReport, IsPlainOutput, Writes}
 
 -- the report, where it is the text of the script

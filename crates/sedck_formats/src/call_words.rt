@@ -1,8 +1,10 @@
 //! A call of sed in a file, in words.
 
+use crate::answers::CallAnswer;
 use crate::words::{GREEN, RED, YELLOW, ink_where, push_inked};
 use crate::written::Written;
-use sedck_explanation::{Answer, Explanation, NamedFile, Position, Status, shown_name};
+use sedck_answer::Explanation;
+use sedck_report::{NamedFile, Position, shown_name};
 use std::alloc::{AllocError, Global};
 
 /// A call of sed in a file.
@@ -14,47 +16,6 @@ pub struct CallAt<'a> {
     pub position: Position,
     /// The words after the name, as they can be shown.
     pub words: Vec<String>,
-}
-
-/// The answer on a call in a file.
-#[derive(Clone, Copy)]
-pub enum CallAnswer {
-    Accepted,
-    /// Accepted for values that keep to what is said of them.
-    AcceptedIf,
-    Denied,
-    Loop,
-    Refused,
-    NotJudged,
-    Unknown,
-}
-
-impl CallAnswer {
-    /// The answer of the explanation, by its status.
-    pub fn of(explanation: &Explanation) -> CallAnswer {
-        match (&explanation.answer, explanation.status) {
-            (Answer::Accepted { .. }, Status::Accepted) => CallAnswer::Accepted,
-            (Answer::Accepted { .. }, Status::Unknown) => CallAnswer::AcceptedIf,
-            (Answer::Accepted { .. }, _) => CallAnswer::Denied,
-            (Answer::Endless(_) | Answer::Rejected { .. }, _) => CallAnswer::Loop,
-            (Answer::ScriptRefused(_) | Answer::CertificateRefused(_), _) => CallAnswer::Refused,
-            (Answer::NotJudged, Status::Unknown) => CallAnswer::Unknown,
-            (Answer::NotJudged, _) => CallAnswer::NotJudged,
-        }
-    }
-
-    /// The word for it.
-    pub fn word(self) -> &'static str {
-        match self {
-            CallAnswer::Accepted => "accepted",
-            CallAnswer::AcceptedIf => "accepted-if",
-            CallAnswer::Denied => "denied",
-            CallAnswer::Loop => "loop",
-            CallAnswer::Refused => "script-refused",
-            CallAnswer::NotJudged => "not-judged",
-            CallAnswer::Unknown => "unknown",
-        }
-    }
 }
 
 /// A line with the answer and the files: `FILE:LINE:COLUMN: accepted, no file`.

@@ -1,7 +1,7 @@
 //! Columns in characters.
 
 use crate::letters::first_letter;
-use sedck_explanation::Position;
+use sedck_report::Position;
 use std::alloc::{AllocError, Global};
 
 /// Where the bytes of a text are that are a character's, but not its first one. A byte that is part of no character counts as one.

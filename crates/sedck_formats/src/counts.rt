@@ -1,9 +1,9 @@
 //! How many calls were found, and how many scripts were explained, by their answers.
 
-use crate::call_words::CallAnswer;
+use crate::answers::CallAnswer;
 use crate::conditions::{ConditionKind, KIND_COUNT, KINDS, KindCount};
 use crate::written::Written;
-use sedck_explanation::Status;
+use sedck_answer::Status;
 use std::alloc::{AllocError, Global};
 
 /// How many calls were found, by their answers.
@@ -66,8 +66,10 @@ impl Counts {
             CallAnswer::Accepted => self.accepted = self.accepted.saturating_add(1),
             CallAnswer::AcceptedIf => self.accepted_if = self.accepted_if.saturating_add(1),
             CallAnswer::Denied => self.denied = self.denied.saturating_add(1),
-            CallAnswer::Loop => self.loops = self.loops.saturating_add(1),
-            CallAnswer::Refused => self.refused = self.refused.saturating_add(1),
+            CallAnswer::Rejected | CallAnswer::Loop => self.loops = self.loops.saturating_add(1),
+            CallAnswer::ScriptRefused | CallAnswer::CertificateRefused => {
+                self.refused = self.refused.saturating_add(1)
+            }
             CallAnswer::NotJudged => self.not_judged = self.not_judged.saturating_add(1),
             CallAnswer::Unknown => self.unknown = self.unknown.saturating_add(1),
         }
@@ -116,18 +118,16 @@ impl Counts {
         } else {
             " places not understood"
         };
-        let parts = [
-            (self.accepted, " accepted"),
-            (self.accepted_if, " accepted if what isn't known is as said"),
-            (self.denied, " denied"),
-            (self.loops, " with a loop"),
-            (self.refused, " refused"),
-            (self.not_judged, " not judged"),
-            (self.unknown, " unknown"),
-            (self.unread, places),
-            (self.unreadable, " not readable"),
-        ];
-        push_counts(&mut out, &parts);
+        let mut before = ": ";
+        push_count(&mut out, &mut before, self.accepted, " accepted");
+        push_count(&mut out, &mut before, self.accepted_if, ACCEPTED_IF);
+        push_count(&mut out, &mut before, self.denied, " denied");
+        push_count(&mut out, &mut before, self.loops, " with a loop");
+        push_count(&mut out, &mut before, self.refused, " refused");
+        push_count(&mut out, &mut before, self.not_judged, " not judged");
+        push_count(&mut out, &mut before, self.unknown, " unknown");
+        push_count(&mut out, &mut before, self.unread, places);
+        push_count(&mut out, &mut before, self.unreadable, " not readable");
         if self.scripts > 0 {
             out.text("; ").counted(self.scripts, " script", " scripts");
         }
@@ -142,15 +142,10 @@ impl Counts {
         let files = accepted.saturating_add(self.others);
         if files > 0 {
             out.counted(files, " file with calls", " files with calls");
-            let parts = [
-                (self.all_accepted, " all accepted"),
-                (
-                    self.all_accepted_if,
-                    " all accepted if what isn't known is as said",
-                ),
-                (self.others, " with others"),
-            ];
-            push_counts(out, &parts);
+            let mut before = ": ";
+            push_count(out, &mut before, self.all_accepted, " all accepted");
+            push_count(out, &mut before, self.all_accepted_if, ALL_ACCEPTED_IF);
+            push_count(out, &mut before, self.others, " with others");
             out.text("\n");
         }
     }
@@ -216,25 +211,24 @@ impl ScriptCounts {
         } else {
             " with a loop"
         };
-        let parts = [
-            (self.accepted, " accepted"),
-            (self.rejected, rejected),
-            (self.refused, " refused"),
-            (self.unreadable, " not readable"),
-        ];
-        push_counts(&mut out, &parts);
+        let mut before = ": ";
+        push_count(&mut out, &mut before, self.accepted, " accepted");
+        push_count(&mut out, &mut before, self.rejected, rejected);
+        push_count(&mut out, &mut before, self.refused, " refused");
+        push_count(&mut out, &mut before, self.unreadable, " not readable");
         out.text("\n");
         out.finished()
     }
 }
 
-/// Adds each of the counts that isn't 0, with its words.
-fn push_counts(out: &mut Written, parts: &[(usize, &'static str)]) {
-    let mut between = ": ";
-    for (count, words) in parts {
-        if *count > 0 {
-            out.text(between).grouped(*count as u64).text(words);
-            between = ", ";
-        }
+const ACCEPTED_IF: &str = " accepted if what isn't known is as said";
+
+const ALL_ACCEPTED_IF: &str = " all accepted if what isn't known is as said";
+
+/// Adds the count with its words, unless it is 0, and what precedes a count.
+fn push_count(out: &mut Written, before: &mut &'static str, count: usize, words: &str) {
+    if count > 0 {
+        out.text(*before).grouped(count as u64).text(words);
+        *before = ", ";
     }
 }

@@ -6,7 +6,8 @@ use crate::listed::{is_listed, listed_steps};
 use crate::names::Names;
 use crate::words::{prefix, push_headline, push_left_out};
 use crate::written::Written;
-use sedck_explanation::{Explanation, Finding, Level, Step};
+use sedck_answer::Explanation;
+use sedck_report::{Finding, Level, Step};
 use std::alloc::{AllocError, Global};
 
 /// The most characters of a line that are shown in a note.

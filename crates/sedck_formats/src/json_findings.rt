@@ -1,12 +1,13 @@
 //! Findings and positions in JSON.
 
-use crate::codes::page_of;
 use crate::json_text::Json;
 use crate::listed::is_listed;
 use crate::names::{Names, Place};
+use crate::pages::{page_of, page_words};
 use crate::words::level_word;
-use sedck_explanation::{Explanation, Finding, Fix, Level, NewText, Position, Step};
+use sedck_answer::Explanation;
 use sedck_parts::delimited;
+use sedck_report::{Finding, Fix, Level, NewText, Position, Step};
 use std::alloc::{AllocError, Global};
 use std::str;
 
@@ -63,7 +64,8 @@ fn push_finding(out: &mut Json, names: Names, finding: &Finding, script: &[u8]) 
     for step in &finding.steps {
         push_step(out, names, step);
     }
-    out.close("]").text("page", page_of(finding));
+    let page = page_words(out.alloc(), page_of(finding));
+    out.close("]").words("page", page);
     push_place(out, "end", names, finding.end);
     push_fix(out, names, finding.fix, script);
     out.close("}");

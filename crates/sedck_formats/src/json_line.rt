@@ -5,15 +5,17 @@ ghost use Rattle.std.specs.Prelude.{IfOk};
 ghost use Rattle.std.specs.Str.{IsAscii};
 ghost use Rattle.sedck_report.specs.Ascii.{IsPrintableLine};
 
-use crate::call_words::{CallAnswer, CallAt};
+use crate::answers::answer_word;
+use crate::call_words::CallAt;
 use crate::conditions::KINDS;
 use crate::counts::Counts;
 use crate::json_findings::{push_findings, push_place, push_positions, push_unreadable};
 use crate::json_text::Json;
 use crate::names::Names;
-use crate::words::{VERSION, answer_word};
+use crate::words::VERSION;
+use sedck_answer::{Answer, Explanation, Status};
 use sedck_cert::{Bound, Limits};
-use sedck_explanation::{Answer, Explanation, Level, NamedFile, Status, shown_name};
+use sedck_report::{Level, NamedFile, shown_name};
 use std::alloc::{AllocError, Global};
 
 /// The object on a line, in ASCII, with the findings of at least this level.
@@ -32,11 +34,14 @@ pub fn json_report(
     ensures line { IfOk result (λ line. IsPrintableLine line.items) }
 {
     let mut out = Json::new(alloc);
-    out.open()
-        .text("file", names.whole())
-        .status(explanation.status)
-        .text("answer", answer_word(explanation));
-    push_details(&mut out, names, explanation, least);
+    out.open().text("file", names.whole());
+    push_answer(
+        &mut out,
+        names,
+        explanation,
+        answer_word(explanation),
+        least,
+    );
     out.finished()
 }
 
@@ -81,10 +86,14 @@ pub fn json_call(
     let mut out = Json::new(alloc);
     out.open().text("file", call.file);
     push_place(&mut out, "call", names, Some(call.position));
-    push_words(&mut out, &call.words);
-    out.status(explanation.status)
-        .text("answer", CallAnswer::of(explanation).word());
-    push_details(&mut out, names, explanation, least);
+    push_texts(&mut out, "words", &call.words);
+    push_answer(
+        &mut out,
+        names,
+        explanation,
+        answer_word(explanation),
+        least,
+    );
     out.finished()
 }
 
@@ -102,15 +111,8 @@ pub fn json_place(
     let names = Names::of_file(file);
     let mut out = Json::new(alloc);
     out.open().text("file", file);
-    out.status(explanation.status)
-        .text("answer", "not-understood");
-    push_details(&mut out, names, explanation, least);
+    push_answer(&mut out, names, explanation, "not-understood", least);
     out.finished()
-}
-
-/// Adds the words of the call.
-fn push_words(out: &mut Json, words: &[String]) {
-    push_texts(out, "words", words);
 }
 
 /// Adds a list of texts.
@@ -186,7 +188,7 @@ fn push_counts(out: &mut Json, counts: &Counts) {
         .number("files_other", counts.others as u64);
 }
 
-/// Adds what belongs to an answer, and ends the object.
+/// Adds the status, the answer and what belongs to it, and ends the object.
 ///
 /// - `bound`: the limit on the steps of any run, by bytes and lines; null where there is none, or where the script isn't accepted.
 /// - `bound_by_lines`: the same by lines alone, which is never more than `bound`.
@@ -195,7 +197,14 @@ fn push_counts(out: &mut Json, counts: &Counts) {
 /// - `findings`: those of the level that is asked for: errors first, then warnings and notes.
 /// - `commands`: where the verb of each command is; a step's `command` counts in this list, from 0. Empty where the script is refused.
 /// - `version`: the program's.
-fn push_details(out: &mut Json, names: Names, explanation: &Explanation, least: Level) {
+fn push_answer(
+    out: &mut Json,
+    names: Names,
+    explanation: &Explanation,
+    answer: &str,
+    least: Level,
+) {
+    out.status(explanation.status).text("answer", answer);
     push_bounds(out, &explanation.answer);
     push_files(out, "reads", names, &explanation.reads);
     push_files(out, "writes", names, &explanation.writes);

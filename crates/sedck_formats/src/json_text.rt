@@ -5,7 +5,7 @@ ghost use Rattle.std.specs.Str.{IsAscii};
 ghost use Rattle.sedck_report.specs.Ascii.{IsPrintableLine};
 
 use json::Writer;
-use sedck_explanation::Status;
+use sedck_answer::Status;
 use sedck_report::ascii_line;
 use std::alloc::{AllocError, Global};
 use std::str;

@@ -1,6 +1,6 @@
 //! Characters of UTF-8 in a script, which may have bytes that are part of none.
 
-use sedck_explanation::{is_printable, shown_line};
+use sedck_report::{is_printable, shown_line};
 use std::alloc::{AllocError, Global};
 use std::str;
 

@@ -6,8 +6,8 @@
 //! browsers, and graphs, are in `sedck_page`.
 #![tactic(auto)]
 
+mod answers;
 mod call_words;
-mod codes;
 mod columns;
 mod conditions;
 mod counts;
@@ -19,6 +19,7 @@ mod letters;
 mod lines;
 mod listed;
 mod names;
+mod pages;
 mod plain;
 mod sarif;
 mod summary;
@@ -26,8 +27,8 @@ mod text;
 mod words;
 mod written;
 
-pub use call_words::{CallAnswer, CallAt, text_answer};
-pub use codes::page_of;
+pub use answers::{CallAnswer, answer_word};
+pub use call_words::{CallAt, text_answer};
 pub use conditions::{ConditionKind, KindCount};
 pub use counts::{Counts, ScriptCounts, assumed_line};
 pub use gcc::gcc_report;
@@ -36,11 +37,10 @@ pub use letters::{Letters, line_in, mark_len};
 pub use lines::{LinePart, Shown, command_line, commands_of, excerpt, length_of, shown_of};
 pub use listed::{Stretch, is_listed, listed_steps};
 pub use names::{Names, PartName, Place};
+pub use pages::{page_of, page_words};
 pub use plain::plain_report;
 pub use sarif::{sarif_report, sarif_unreadable};
 pub use summary::{push_memory, push_steps};
 pub use text::{text_findings, text_report};
-pub use words::{
-    VERSION, answer_word, level_word, place_words, push_left_out, shown_letter, shown_path,
-};
+pub use words::{VERSION, level_word, place_words, push_left_out, shown_letter, shown_path};
 pub use written::Written;

@@ -2,8 +2,8 @@
 
 use crate::letters::{Letters, line_in, width_of};
 use crate::names::Names;
-use sedck_explanation::{Explanation, Finding, Position};
-use sedck_report::line_len;
+use sedck_answer::Explanation;
+use sedck_report::{Finding, Position, line_len};
 use sedck_script::{Location, Script, ScriptFault, locate};
 use std::alloc::{AllocError, Global};
 

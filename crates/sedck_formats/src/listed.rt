@@ -1,7 +1,7 @@
 //! What is listed of findings, and of their steps.
 
-use sedck_explanation::{Finding, Level, Step};
 use sedck_flow::{Kind, Node};
+use sedck_report::{Finding, Level, Step};
 use sedck_script::{Script, Verb};
 use std::alloc::{AllocError, Global};
 

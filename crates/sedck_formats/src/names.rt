@@ -3,7 +3,7 @@
 ghost use Rattle.std.specs.Prelude.{◌≡◌, [], length};
 ghost use Rattle.sedck_formats.specs.Names.{IsPlace};
 
-use sedck_explanation::Position;
+use sedck_report::Position;
 
 /// A part of a script, as one `-e` or `-f` of a call gives it.
 #[derive(Drop)]

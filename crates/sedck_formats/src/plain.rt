@@ -7,8 +7,9 @@ ghost use Rattle.sedck_formats.specs.Plain.{IsPlainReport, IsPlainStatus};
 
 use crate::names::Names;
 use crate::text::text_findings;
-use sedck_explanation::{Code, Explanation, Finding, Level, Position, Status, not_judged};
+use sedck_answer::{Explanation, Status, not_judged};
 use sedck_plain::{Comments, Fault, plain_of};
+use sedck_report::{Code, Finding, Level, Position};
 use sedck_script::Script;
 use std::alloc::{AllocError, Global};
 
@@ -79,17 +80,12 @@ fn unspelled(
     explanation: &Explanation,
     why: Reason,
 ) -> Result<Vec<u8>, AllocError> {
+    let message = String::from_str(alloc, why.message)?;
+    let mut finding = Finding::new(alloc, Level::Error, Code::NoPlainSpelling, message);
+    finding.position = why.position;
+    finding.hint = Some(why.hint);
     let mut findings = Vec::new(alloc);
-    findings.push(Finding {
-        level: Level::Error,
-        code: Code::NoPlainSpelling,
-        position: why.position,
-        end: None,
-        message: String::from_str(alloc, why.message)?,
-        hint: Some(why.hint),
-        fix: None,
-        steps: Vec::new(alloc),
-    })?;
+    findings.push(finding)?;
     let refused = not_judged(alloc, explanation.text, findings);
     text_findings(alloc, names, &refused, Level::Error, false)
 }

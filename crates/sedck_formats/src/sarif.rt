@@ -4,7 +4,6 @@ ghost use Rattle.std.specs.Prelude.{IfOk};
 ghost use Rattle.std.specs.Str.{IsAscii};
 ghost use Rattle.sedck_report.specs.Ascii.{IsPrintableLine};
 
-use crate::codes::{meaning_of, page_of_code};
 use crate::columns::Columns;
 use crate::json_findings::push_new_text;
 use crate::json_text::Json;
@@ -12,8 +11,8 @@ use crate::listed::is_listed;
 use crate::names::{Names, Place};
 use crate::words::{VERSION, level_word};
 use percent_encoding::{AsciiSet, NON_ALPHANUMERIC, ascii_set, utf8_percent_encode};
-use sedck_explanation::{Code, Explanation, Finding, Fix, Level, Position, Step};
-use sedck_report::end_behind;
+use sedck_answer::Explanation;
+use sedck_report::{Code, Finding, Fix, Level, Page, Position, Step, end_behind};
 use std::alloc::{AllocError, Global};
 
 /// Where the schema of the format is.
@@ -86,15 +85,15 @@ fn push_run(out: &mut Json, codes: &[Code]) {
 /// no `helpUri`.
 fn push_rule(out: &mut Json, code: Code) {
     let alloc = out.alloc();
-    let meaning = meaning_of(code);
-    let page = page_of_code(code);
+    let meaning = code.meaning();
+    let Page { file, heading } = code.page();
     out.open()
         .text("id", code.name())
         .message("shortDescription", meaning);
-    let full = format!(in alloc; "{meaning}. The page docs/{page} explains it.");
+    let full = format!(in alloc; "{meaning}. The page docs/{file}#{heading} explains it.");
     out.object("fullDescription").words("text", full).close("}");
-    let text = format!(in alloc; "See docs/{page}");
-    let markdown = format!(in alloc; "See `docs/{page}`");
+    let text = format!(in alloc; "See docs/{file}#{heading}");
+    let markdown = format!(in alloc; "See `docs/{file}#{heading}`");
     out.object("help")
         .words("text", text)
         .words("markdown", markdown)

@@ -1,10 +1,12 @@
 //! The answer, and what the script may do: its limits on steps and on memory, and its files.
 
+use crate::answers::answer_word;
 use crate::names::Names;
-use crate::words::{GREEN, RED, answer_word, ink_where, place_words, push_inked};
+use crate::words::{GREEN, RED, ink_where, place_words, push_inked};
 use crate::written::Written;
+use sedck_answer::{Answer, Explanation};
 use sedck_cert::Bound;
-use sedck_explanation::{Answer, Explanation, NamedFile, Position, shown_name};
+use sedck_report::{NamedFile, Position, shown_name};
 
 /// The most positions of one file that are listed.
 const POSITIONS: usize = 8;

@@ -1,17 +1,18 @@
 //! The report for people at a terminal: each finding with its line, and what an accepted script may do.
 
-use crate::codes::page_of;
 use crate::letters::Letters;
 use crate::lines::{Shown, command_line, commands_of, excerpt, length_of, shown_of};
 use crate::listed::{is_listed, listed_steps};
 use crate::names::Names;
+use crate::pages::{page_of, page_words};
 use crate::summary::push_summary;
 use crate::words::{
     CYAN, PLAIN, RED, YELLOW, ink_where, place_words, prefix, push_headline, push_inked,
     push_left_out,
 };
 use crate::written::Written;
-use sedck_explanation::{Explanation, Finding, Level, Position, Step};
+use sedck_answer::Explanation;
+use sedck_report::{Finding, Level, Page, Position, Step};
 use std::alloc::{AllocError, Global};
 
 /// The most characters of a line that are shown above a caret.
@@ -58,13 +59,14 @@ fn push_findings(
 ) -> Result<(), AllocError> {
     let commands = commands_of(out.alloc(), explanation)?;
     let shown = shown_of(names, explanation, &commands, Letters::Ascii);
-    let mut pages: Vec<&str> = Vec::new(out.alloc());
+    let mut pages: Vec<Page> = Vec::new(out.alloc());
     for finding in &explanation.findings {
         if is_listed(finding, least) {
             let gutter = push_finding(out, &shown, finding, colour)?;
             let page = page_of(finding);
             if !matches!(finding.level, Level::Note) && !pages.contains(&page) {
                 pages.push(page)?;
+                let page = page_words(out.alloc(), page)?;
                 let see = format!(in out.alloc(); "docs/{page}")?;
                 push_remark(out, gutter, "see", see.as_str(), colour);
             }

@@ -2,7 +2,7 @@
 
 use crate::names::{Names, Place};
 use crate::written::Written;
-use sedck_explanation::{Answer, Explanation, Finding, Level, Position};
+use sedck_report::{Finding, Level, Position};
 use std::alloc::{AllocError, Global};
 
 /// The version of the program and of its formats.
@@ -14,21 +14,6 @@ pub fn level_word(level: Level) -> &'static str {
         Level::Error => "error",
         Level::Warning => "warning",
         Level::Note => "note",
-    }
-}
-
-/// The word for the answer, or that an accepted script has what is denied.
-pub fn answer_word(explanation: &Explanation) -> &'static str {
-    if explanation.is_denied() {
-        return "denied";
-    }
-    match &explanation.answer {
-        Answer::Accepted { .. } => "accepted",
-        Answer::Rejected { .. } => "rejected",
-        Answer::Endless(_) => "loop",
-        Answer::ScriptRefused(_) => "script-refused",
-        Answer::CertificateRefused(_) => "certificate-refused",
-        Answer::NotJudged => "not-judged",
     }
 }
 

@@ -1,8 +1,9 @@
 //! Arrows: the edges of a flow graph, put together where they have the same ends and the same kind.
 
 use crate::flow::{Flow, flow_of};
-use sedck_explanation::{Explanation, Position};
+use sedck_answer::Explanation;
 use sedck_flow::{Edge, Kind};
+use sedck_report::Position;
 use std::alloc::{AllocError, Global};
 
 /// All edges of one kind from one command to another, or from one line to another. A number one above the last one stands for the

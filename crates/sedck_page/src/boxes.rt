@@ -1,11 +1,11 @@
 //! A finding in a page.
 
 use crate::markup::{push_place, push_prose};
-use sedck_explanation::{Finding, Step};
 use sedck_formats::{
     Shown, Written, command_line, excerpt, length_of, level_word, listed_steps, page_of,
-    push_left_out,
+    page_words, push_left_out,
 };
+use sedck_report::{Finding, Step};
 use std::alloc::AllocError;
 
 /// The most characters of a line that are shown in a finding.
@@ -37,8 +37,9 @@ pub(crate) fn push_box(
         push_prose(out, hint);
         out.text("</p>");
     }
+    let page = page_words(out.alloc(), page_of(finding));
     out.text("<p><strong>see</strong>: <code>docs/")
-        .html(page_of(finding))
+        .html_words(page)
         .text("</code></p></div>\n");
     Ok(())
 }

@@ -3,12 +3,13 @@
 use crate::arrows::{Arrow, arrows_of};
 use crate::flow::flow_of;
 use crate::runs::{Runs, runs_of};
-use sedck_explanation::{Explanation, Finding, Position};
+use sedck_answer::Explanation;
 use sedck_flow::{Kind, Node};
 use sedck_formats::{
     Letters, Names, Shown, Written, answer_word, command_line, commands_of, excerpt, length_of,
     place_words, shown_of,
 };
+use sedck_report::{Finding, Position};
 use std::alloc::{AllocError, Global};
 
 /// The most characters of a line that are shown in a box.
@@ -24,7 +25,7 @@ const HEAD: &str = "\", labelloc=t, fontname=\"monospace\"];
 ";
 
 /// What the words at arrows mean.
-static KINDS: [(Kind, &'static str); 4] = [
+static KINDS: &'static [(Kind, &'static str)] = &[
     (Kind::Consume, "consume: a line is read\\l"),
     (Kind::Shorten, "shorten: the pattern space gets shorter\\l"),
     (Kind::Keep, "keep: the pattern space doesn't get longer\\l"),
@@ -90,7 +91,7 @@ fn push_head(out: &mut Written, names: Names, explanation: &Explanation) {
 /// Adds a box that says what the words at arrows and the colour of a loop mean, as far as they are there.
 fn push_legend(out: &mut Written, arrows: &[Arrow], runs: &Runs) {
     out.text("  legend [shape=note, fontsize=10, label=\"");
-    for (kind, words) in &KINDS {
+    for (kind, words) in KINDS {
         let is_there = arrows
             .iter()
             .any(|arrow| arrow.kind == *kind && !runs.is_inside(*arrow));

@@ -1,6 +1,6 @@
 //! The part of a script's flow graph that its runs may reach.
 
-use sedck_explanation::{Answer, Explanation};
+use sedck_answer::{Answer, Explanation};
 use sedck_flow::{Edge, Node, edges_of};
 use sedck_search::reachability;
 use std::alloc::{AllocError, Global};
@@ -45,14 +45,13 @@ fn loop_edges(alloc: Global, answer: &Answer) -> Result<Vec<Edge>, AllocError> {
     let Answer::Endless(walk) = answer else {
         return Ok(edges);
     };
-    for (pair, kind) in walk.nodes.windows(2).zip(walk.kinds.iter()) {
-        if let [from, to] = pair {
-            edges.push(Edge {
-                from: *from,
-                to: *to,
-                kind: *kind,
-            })?;
-        }
+    let ends = walk.nodes.iter().zip(walk.nodes.iter().skip(1));
+    for ((from, to), kind) in ends.zip(&walk.kinds) {
+        edges.push(Edge {
+            from: *from,
+            to: *to,
+            kind: *kind,
+        })?;
     }
     edges.sort()?;
     Ok(edges)

@@ -4,13 +4,14 @@ use crate::arrows::{Arrow, line_jumps};
 use crate::boxes::{is_at_top, push_box, push_mention};
 use crate::margin::{Margin, Spot, margin_of};
 use crate::strokes::{drawing_width, push_strokes};
-use sedck_explanation::{Explanation, Finding, Level};
+use sedck_answer::Explanation;
 use sedck_flow::Kind;
 use sedck_formats::{Letters, Shown, Written, line_in, mark_len};
+use sedck_report::{Finding, Level};
 use std::alloc::AllocError;
 
 /// What the kinds of jumps mean.
-static KINDS: [(Kind, &'static str); 4] = [
+static KINDS: &'static [(Kind, &'static str)] = &[
     (Kind::Consume, "consume: a line is read"),
     (Kind::Shorten, "shorten: the pattern space gets shorter"),
     (
@@ -54,7 +55,7 @@ fn push_legend(out: &mut Written, margin: &Margin) {
     out.text("<h2 id=\"script\">Script</h2>\n");
     if !margin.drawing.lanes.is_empty() {
         out.text("<ul class=\"legend\">\n");
-        for (kind, words) in &KINDS {
+        for (kind, words) in KINDS {
             if margin.drawing.has(*kind) {
                 push_entry(out, *kind, "", words);
             }

@@ -2,8 +2,9 @@
 
 use crate::arrows::{Arrow, line_of};
 use crate::lanes::{Drawing, drawing_of};
-use sedck_explanation::{Answer, Explanation, Level};
+use sedck_answer::{Answer, Explanation};
 use sedck_formats::{is_listed, length_of};
+use sedck_report::Level;
 use std::alloc::{AllocError, Global};
 
 /// How many lines apart the ends of a jump back are at least, where it has a label.

@@ -1,7 +1,7 @@
 //! Elements of a page, and links to lines.
 
-use sedck_explanation::Position;
 use sedck_formats::{Names, Written, place_words};
+use sedck_report::Position;
 
 /// Adds a sentence, in which what is between backticks is code.
 pub(crate) fn push_prose(out: &mut Written, words: &str) {

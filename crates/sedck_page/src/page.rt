@@ -5,8 +5,9 @@ use crate::listing::push_listing;
 use crate::page_style::STYLE;
 use crate::tables::{push_files, push_jumps, push_ranks};
 use crate::top::push_top;
-use sedck_explanation::{Explanation, Level};
+use sedck_answer::Explanation;
 use sedck_formats::{Letters, Names, VERSION, Written, answer_word, commands_of, shown_of};
+use sedck_report::Level;
 use std::alloc::{AllocError, Global};
 
 /// What precedes the title: no script and nothing from elsewhere is loaded.

@@ -2,8 +2,9 @@
 
 use crate::arrows::Arrow;
 use crate::markup::push_place;
-use sedck_explanation::{Answer, Explanation, NamedFile, shown_name};
+use sedck_answer::{Answer, Explanation};
 use sedck_formats::{Names, Shown, Written};
+use sedck_report::{NamedFile, shown_name};
 
 /// What precedes the rows of files.
 const FILES_HEAD: &str = "<div class=\"wide\"><table>

@@ -2,10 +2,11 @@
 
 use crate::boxes::{is_at_top, push_box};
 use crate::markup::push_prose;
-use sedck_explanation::{Answer, Explanation, Finding, Level};
+use sedck_answer::{Answer, Explanation};
 use sedck_formats::{
     Names, Shown, Written, is_listed, level_word, place_words, push_memory, push_steps,
 };
+use sedck_report::{Finding, Level};
 use std::alloc::AllocError;
 
 /// What precedes the findings.

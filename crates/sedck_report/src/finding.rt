@@ -1,11 +1,12 @@
 //! Findings.
 
-ghost use Rattle.std.specs.Prelude.{◌≡◌};
+ghost use Rattle.std.specs.Prelude.{◌≡◌, [], None};
 ghost use Rattle.sedck_report.specs.Levels.{is_warning, is_error};
 
 use crate::code::Code;
 use crate::places::Position;
 use sedck_flow::{Kind, Node};
+use std::alloc::Global;
 
 /// How much a finding weighs.
 #[derive(Clone, Copy, PartialEq, Eq)]
@@ -38,6 +39,26 @@ pub struct Finding {
 }
 
 impl Finding {
+    /// A finding with its words alone: without a place, a hint, a fix and steps.
+    pub fn new(alloc: Global, level: Level, code: Code, message: String) -> Finding
+        ensures level { result.level ≡ level }
+        ensures code { result.code ≡ code }
+        ensures position { result.position ≡ None }
+        ensures end { result.end ≡ None }
+        ensures steps { result.steps.items ≡ [] }
+    {
+        Finding {
+            level,
+            code,
+            position: None,
+            end: None,
+            message,
+            hint: None,
+            fix: None,
+            steps: Vec::new(alloc),
+        }
+    }
+
     /// Whether it is an error.
     pub fn is_error(&self) -> bool
         ensures { result ≡ is_error self.now.level }

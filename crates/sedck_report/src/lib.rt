@@ -13,7 +13,7 @@ mod places;
 mod shown;
 
 pub use ascii::{ascii_line, push_ascii};
-pub use code::Code;
+pub use code::{Code, Page};
 pub use finding::{Finding, Fix, Level, NamedFile, NewText, Step};
 pub use html::{push_html, push_text};
 pub use places::{Position, end_behind, line_len, position_at, position_from, positions, skipped};

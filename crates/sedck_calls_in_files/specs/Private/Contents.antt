@@ -1,8 +1,8 @@
 -- What was read of a file, and the status of it.
 use Rattle.std.specs.Prelude.{◌≡◌, ◌⊎◌, ℕ, Bool, false, IsTrue, List, Option, IfSome}
 use Rattle.sedck_errors.specs.declared.denied.Denied.{Denied}
-use Rattle.sedck_explanation.specs.declared.status.Status.{Status}
-use Rattle.sedck_explanation.specs.declared.status.Status.TheVariants.{Accepted, Failed}
+use Rattle.sedck_answer.specs.declared.status.Status.{Status}
+use Rattle.sedck_answer.specs.declared.status.Status.TheVariants.{Accepted, Failed}
 use Rattle.sedck_calls_in_files.specs.Scanned.{Holds, TextStatus}
 use Rattle.sedck_calls_in_files.specs.declared.reading.Contents.{Contents}
 use Rattle.sedck_calls_in_files.specs.declared.reading.Contents.TheVariants.{Text, Other, TooLong, Unreadable}

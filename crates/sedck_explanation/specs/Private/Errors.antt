@@ -8,8 +8,8 @@ use Rattle.sedck_report.specs.declared.finding.Level.TheVariants.{Error, Note}
 use Rattle.sedck_report.specs.declared.places.Position.{Position}
 use Rattle.sedck_errors.specs.Errors.{IsReportable}
 use Rattle.sedck_explanation.specs.Errors.{IsErrorPosition, BeginsWithAnswer}
-use Rattle.sedck_explanation.specs.declared.answer.Answer.{Answer}
-use Rattle.sedck_explanation.specs.declared.answer.Answer.TheVariants.{ScriptRefused, Accepted, NotJudged}
+use Rattle.sedck_answer.specs.declared.answer.Answer.{Answer}
+use Rattle.sedck_answer.specs.declared.answer.Answer.TheVariants.{ScriptRefused, Accepted, NotJudged}
 
 -- what is known of an answer for this script that is read or refused
 abbrev pub IsOfScript : List ℕ → Program → Answer → Type 0

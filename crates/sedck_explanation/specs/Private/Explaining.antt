@@ -17,12 +17,12 @@ use Rattle.sedck_errors.specs.declared.denied.Denied.{Denied}
 use Rattle.sedck_explanation.specs.Denial.{expressions_of, is_denied, status_under, warns_of_denied}
 use Rattle.sedck_explanation.specs.Errors.{HasErrors, BeginsWithAnswer}
 use Rattle.sedck_explanation.specs.Explanations.{kept_has}
-use Rattle.sedck_explanation.specs.Status.{Status, is_accepted}
-use Rattle.sedck_explanation.specs.declared.answer.Answer.{Answer}
-use Rattle.sedck_explanation.specs.declared.answer.Answer.TheVariants.{Accepted}
+use Rattle.sedck_answer.specs.Status.{Status, is_accepted}
+use Rattle.sedck_answer.specs.declared.answer.Answer.{Answer}
+use Rattle.sedck_answer.specs.declared.answer.Answer.TheVariants.{Accepted}
 use Rattle.sedck_explanation.specs.declared.answer.Expressions.{Expressions}
 use Rattle.sedck_explanation.specs.declared.explaining.FoundExpressions.{FoundExpressions}
-use Rattle.sedck_explanation.specs.declared.explanation.Explanation.{Explanation}
+use Rattle.sedck_answer.specs.declared.explanation.Explanation.{Explanation}
 
 -- the explanation of this answer, but for what it keeps of the script
 pub record Explains (text : List ℕ) (denied : Denied) (answer : Answer) (e : Explanation) : Type 0 where

@@ -1,5 +1,5 @@
 use Rattle.std.proofs.Common.{sym, subst, take, ◌+◌}
-use Rattle.sedck_explanation.specs.Status.{worse}
+use Rattle.sedck_answer.specs.Status.{worse}
 use Rattle.sedck_calls_in_files.specs.Judged.{IsSaidOfFound}
 use Rattle.sedck_calls_in_files.specs.Scanned.{IsWorst}
 use Rattle.sedck_calls_in_files.proofs.Worst.{next_worst}

@@ -1,5 +1,5 @@
 use Rattle.std.proofs.Common.{◌≡◌, IfOk, subst}
-use Rattle.sedck_explanation.specs.declared.status.Status.TheVariants.{Accepted}
+use Rattle.sedck_answer.specs.declared.status.Status.TheVariants.{Accepted}
 use Rattle.sedck_calls_in_files.specs.Judged.{Agrees, IsSaidOf, IsSaidOfFound, IsAcceptedFound, denied_of, status_with, has_set}
 use Rattle.sedck_calls_in_files.proofs.Lists.{if_ok_both}
 use Rattle.sedck_calls_in_files.proofs.Yes.{yes_of_found}

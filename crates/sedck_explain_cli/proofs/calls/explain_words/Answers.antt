@@ -2,7 +2,7 @@ use Rattle.std.proofs.Common.{◌≡◌, ◌∙◌, ℕ, Ok, sym, ap, refl, subs
 use Rattle.sedck_call.specs.Scripts.{joined_texts}
 use Rattle.sedck_explanation.specs.Explanations.{IsExplanation}
 use Rattle.sedck_explanation.specs.Called.{IsAcceptedCall, IsCalled, AreParts, has_foreign}
-use Rattle.sedck_explanation.specs.declared.status.Status.TheVariants.{Accepted}
+use Rattle.sedck_answer.specs.declared.status.Status.TheVariants.{Accepted}
 use Rattle.sedck_formats.specs.Plain.{Output}
 use Rattle.sedck_explain_cli.specs.CallStatus.{HasCallStatus}
 use Rattle.sedck_explain_cli.specs.Requests.{is_plain}

@@ -1,7 +1,7 @@
 use Rattle.std.proofs.Common.{◌≡◌, ◌≢◌, ◌∙◌, ◌+◌, map, take, sym, ap, subst}
 use Rattle.std.specs.Io.KnownBytes.{Keeps}
-use Rattle.sedck_explanation.specs.Status.{worse}
-use Rattle.sedck_explanation.specs.declared.status.Status.TheVariants.{Accepted, Misused, Failed, Unknown}
+use Rattle.sedck_answer.specs.Status.{worse}
+use Rattle.sedck_answer.specs.declared.status.Status.TheVariants.{Accepted, Misused, Failed, Unknown}
 use Rattle.sedck_calls_in_files.specs.Scanned.{IsWorstOf}
 use Rattle.sedck_explain_cli.specs.Statuses.{StatusAt}
 use Rattle.sedck_explain_cli.proofs.Greatest.{worst_item, worse_has, failed_stays}

@@ -1,6 +1,6 @@
 use Rattle.std.proofs.Common.{◌≢◌, map, take}
 use Rattle.std.specs.Io.KnownBytes.{Keeps}
-use Rattle.sedck_explanation.specs.declared.status.Status.TheVariants.{Accepted, Misused, Failed, Unknown}
+use Rattle.sedck_answer.specs.declared.status.Status.TheVariants.{Accepted, Misused, Failed, Unknown}
 use Rattle.sedck_calls_in_files.specs.Scanned.{IsWorstOf}
 use Rattle.sedck_explain_cli.specs.Statuses.{StatusAt}
 use Rattle.sedck_explain_cli.proofs.command_line.explain_all.Given as goal

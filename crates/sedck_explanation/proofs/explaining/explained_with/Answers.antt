@@ -5,7 +5,8 @@ use Rattle.sedck_script.specs.declared.parsing.Located.{Located}
 use Rattle.sedck_commands.proofs.ResultLemmas.{if_some_at}
 use Rattle.sedck_script.specs.Spelling.{Spells}
 use Rattle.sedck_cert.specs.Headline.{Only}
-use Rattle.sedck_explanation.specs.Explanations.{IsExplanation, KeepsNothing}
+use Rattle.sedck_answer.specs.Answers.{KeepsNothing}
+use Rattle.sedck_explanation.specs.Explanations.{IsExplanation}
 use Rattle.sedck_explanation.specs.Private.Explaining.{Explains, KeepsLocated}
 use Rattle.sedck_explanation.proofs.Explanations.{on_both, of_script, explained_script, explained_refusal}
 use Rattle.sedck_explanation.proofs.explaining.explained_with.Goals as goal

@@ -1,5 +1,5 @@
 use Rattle.std.proofs.Common.{map, take}
-use Rattle.sedck_explanation.specs.declared.status.Status.TheVariants.{Accepted}
+use Rattle.sedck_answer.specs.declared.status.Status.TheVariants.{Accepted}
 use Rattle.sedck_calls_in_files.specs.Scanned.{PathStatus, IsWorstOf}
 use Rattle.sedck_calls_in_files.proofs.walk.Walk.visit_all.Given as goal
 

@@ -1,7 +1,7 @@
 -- Exit statuses, this project's own.
 use Rattle.std.specs.Prelude.{◌≢◌, ℕ, nat_le, Bool, true, false, if◌then◌else◌}
-pub use Rattle.sedck_explanation.specs.declared.status.Status.{Status}
-pub use Rattle.sedck_explanation.specs.declared.status.Status.TheVariants.{Accepted, Rejected, Refused, Misused, Failed, Unknown}
+pub use Rattle.sedck_answer.specs.declared.status.Status.{Status}
+pub use Rattle.sedck_answer.specs.declared.status.Status.TheVariants.{Accepted, Rejected, Refused, Misused, Failed, Unknown}
 
 -- the number that the program ends with
 abbrev pub code_of : Status → ℕ

@@ -1,7 +1,7 @@
 //! Exit statuses.
 
 ghost use Rattle.std.specs.Prelude.{◌≡◌};
-ghost use Rattle.sedck_explanation.specs.Status.{code_of, is_accepted, worse, rank};
+ghost use Rattle.sedck_answer.specs.Status.{code_of, is_accepted, worse, rank};
 
 /// How the program ends.
 #[derive(Clone, Copy)]

@@ -5,9 +5,9 @@ use Rattle.sedck_errors.specs.declared.denied.Denied.{Denied}
 use Rattle.sedck_errors.proofs.Denials.{nothing_denied}
 use Rattle.sedck_explanation.specs.Denial.{nothing, is_denied}
 use Rattle.sedck_explanation.specs.declared.answer.Expressions.{Expressions}
-use Rattle.sedck_explanation.specs.declared.answer.Answer.{Answer}
-use Rattle.sedck_explanation.specs.declared.answer.Answer.TheVariants.{ScriptRefused, CertificateRefused, Accepted, Rejected, Endless, NotJudged}
-use Rattle.sedck_explanation.proofs.answer.Answer.status_under.Goals as goal
+use Rattle.sedck_answer.specs.declared.answer.Answer.{Answer}
+use Rattle.sedck_answer.specs.declared.answer.Answer.TheVariants.{ScriptRefused, CertificateRefused, Accepted, Rejected, Endless, NotJudged}
+use Rattle.sedck_explanation.proofs.answer.status_under.Goals as goal
 
 -- where nothing is denied, no script has what is
 none_denied : (findings : List Finding) (has : Expressions) (answer : Answer) → is_denied nothing findings has answer ≡ false

@@ -1,9 +1,14 @@
 //! All that is reported of a script, with the answer.
 
+ghost use Rattle.std.specs.Prelude.{◌≡◌};
+ghost use Rattle.sedck_answer.specs.Answers.{KeepsNothing};
+ghost use Rattle.sedck_answer.specs.declared.answer.Answer.TheVariants.{NotJudged};
+
 use crate::answer::Answer;
 use crate::status::Status;
 use sedck_report::{Finding, NamedFile, Position};
 use sedck_script::Script;
+use std::alloc::Global;
 
 /// All that is reported of a script.
 #[derive(Drop)]
@@ -31,5 +36,26 @@ impl Explanation<'_> {
     /// Whether the script is accepted, and has what is denied.
     pub fn is_denied(&self) -> bool {
         self.status != self.answer.status()
+    }
+}
+
+/// The explanation of a call whose script isn't judged: these findings say why.
+pub fn not_judged<'a>(alloc: Global, text: &'a [u8], findings: Vec<Finding>) -> Explanation<'a>
+    ensures text { result.text.now ≡ text.now }
+    ensures answer { result.answer ≡ NotJudged }
+    ensures status { result.status ≡ Status.Refused }
+    ensures keeps { KeepsNothing result }
+    ensures findings { result.findings ≡ findings }
+{
+    Explanation {
+        text,
+        source: &[],
+        answer: Answer::NotJudged,
+        status: Status::Refused,
+        script: None,
+        positions: Vec::new(alloc),
+        findings,
+        reads: Vec::new(alloc),
+        writes: Vec::new(alloc),
     }
 }

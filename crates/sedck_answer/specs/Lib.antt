@@ -1,0 +1,3 @@
+-- What the public contracts cite, in reading order.
+pub mod Status
+pub mod Answers
