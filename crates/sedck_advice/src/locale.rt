@@ -128,11 +128,9 @@ fn push_locale(
         "run the script with `LC_ALL=C`; or write whole characters, in a group to repeat them, as in `\\(..\\)*`, and replace them by an `s` in \
             place of a `y`",
     );
-    if let Some(place) = place {
-        finding.position = Some(place.position);
-        finding.end = place.end;
-        finding.fix = place.fix;
-    }
+    finding.position = place.map(|place| place.position);
+    finding.end = place.and_then(|place| place.end);
+    finding.fix = place.and_then(|place| place.fix);
     findings.push(finding)?;
     Ok(())
 }
