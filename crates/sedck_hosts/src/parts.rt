@@ -44,6 +44,25 @@ impl<'a> Part<'a> {
         self.file.get(self.start..self.end).unwrap_or(&[])
     }
 
+    /// Its bytes before this part of it.
+    pub fn before(self, rest: Part) -> &'a [u8] {
+        self.to(rest.start).bytes()
+    }
+
+    /// How many bytes it has.
+    pub fn len(self) -> usize {
+        self.end.saturating_sub(self.start)
+    }
+
+    /// Its first byte.
+    pub fn first(self) -> Option<u8> {
+        if self.start < self.end {
+            self.file.get(self.start).copied()
+        } else {
+            None
+        }
+    }
+
     /// Whether the file has the byte where the part begins, which may be its end.
     pub fn begins_with(self, byte: u8) -> bool {
         has_byte(self.file, self.start, byte)
@@ -71,11 +90,29 @@ impl<'a> Part<'a> {
         self.behind(count)
     }
 
+    /// The same from the first of these bytes on.
+    pub fn from_any(self, wanted: &[u8]) -> Part<'a> {
+        let count = self.bytes().iter().position(|byte| wanted.contains(byte));
+        self.behind(count)
+    }
+
+    /// The same without blanks at its end.
+    pub fn before_blanks(self) -> Part<'a> {
+        let last = self.bytes().iter().rposition(|byte| !b" \t".contains(byte));
+        self.to(last.map_or(self.start, |last| self.skip(last).skip(1).start))
+    }
+
     /// The word that begins the part and ends at a blank, and the part behind it and its blanks.
     pub fn split_word(self) -> (&'a [u8], Part<'a>) {
-        let count = self.bytes().iter().position(|byte| b" \t".contains(byte));
-        let rest = self.behind(count);
-        (self.to(rest.start).bytes(), rest.after_blanks())
+        let rest = self.from_any(b" \t");
+        (self.before(rest), rest.after_blanks())
+    }
+
+    /// The name between the `@` that begins the part and the next one.
+    pub fn placeholder(self) -> Option<&'a [u8]> {
+        let name = self.skip(1);
+        let behind = name.after_name();
+        (self.begins_with(b'@') && behind.begins_with(b'@')).then_some(name.before(behind))
     }
 
     /// Whether only blanks and a comment are in the part.
@@ -109,8 +146,8 @@ impl<'a> Part<'a> {
 
     /// Whether a call of sed seems to begin the part: its name, perhaps some of the closers, and blanks with more behind them.
     pub fn is_call(self, closers: &[u8]) -> bool {
-        let length = sed_length(self.bytes());
-        if length == 0 || self.follows_name() {
+        let length = self.sed_length();
+        if length == 0 {
             return false;
         }
         let behind = self.skip(length).after_any(closers);
@@ -120,10 +157,69 @@ impl<'a> Part<'a> {
         next.start > rest.start && next.start < self.end
     }
 
+    /// Where the first name of a sed is in the part.
+    pub fn name_of_sed(self) -> Option<usize> {
+        (self.start..self.end).find(|index| self.from(*index).sed_length() > 0)
+    }
+
+    /// How long the name of sed is that begins the part; 0 if none does.
+    fn sed_length(self) -> usize {
+        let bytes = self.bytes();
+        let begins = matches!(bytes.first(), Some(b's' | b'g' | b'$' | b'@' | b'%'));
+        if !begins || self.follows_name() {
+            return 0;
+        }
+        SEDS.iter()
+            .find(|name| bytes.starts_with(name.as_bytes()))
+            .map_or(0, |name| name.len())
+    }
+
     /// Whether the byte before the part belongs to the same name, as in `used` and `a.sed`.
     fn follows_name(self) -> bool {
         let before = self.file.get(self.start.saturating_sub(1)).copied();
         self.start > 0 && before.is_some_and(|byte| is_name_byte(byte) || byte == b'.')
+    }
+}
+
+/// Brackets of one sort, of which the first is open.
+#[derive(Clone, Copy)]
+pub(crate) struct Brackets {
+    pub opener: u8,
+    closer: u8,
+    /// How many more are open within it.
+    count: usize,
+}
+
+impl Brackets {
+    /// Those that this byte opens.
+    pub fn new(opener: u8) -> Brackets {
+        let closer = match opener {
+            b'(' => b')',
+            b'{' => b'}',
+            _ => b']',
+        };
+        let count = 0;
+        Brackets {
+            opener,
+            closer,
+            count,
+        }
+    }
+
+    /// Whether others are open within the first.
+    pub fn is_nested(self) -> bool {
+        self.count > 0
+    }
+
+    /// What is open behind this byte; nothing where it closes the first.
+    pub fn after(self, byte: u8) -> Option<Brackets> {
+        let mut count = self.count;
+        if byte == self.opener {
+            count = count.saturating_add(1);
+        } else if byte == self.closer {
+            count = count.checked_sub(1)?;
+        }
+        Some(Brackets { count, ..self })
     }
 }
 
@@ -157,14 +253,3 @@ static SEDS: &'static [&'static str] = &[
 
 /// What may close a word behind the name of sed.
 pub(crate) const QUOTES: &[u8] = b"\"'";
-
-/// How long the name of sed is that begins the bytes; 0 if none does.
-fn sed_length(bytes: &[u8]) -> usize {
-    match bytes.first() {
-        Some(b's' | b'g' | b'$' | b'@' | b'%') => {}
-        _ => return 0,
-    }
-    SEDS.iter()
-        .find(|name| bytes.starts_with(name.as_bytes()))
-        .map_or(0, |name| name.len())
-}

@@ -7,21 +7,15 @@ use std::alloc::Global;
 /// The text of a quoted scalar, whose first quote begins the part; none if it doesn't end there.
 pub(crate) fn quoted_units(alloc: Global, whole: Part, quote: u8) -> Result<Option<Vec<Unit>>> {
     let mut units = Vec::new(alloc);
-    let inner = whole.skip(1);
-    let mut resume = inner.start;
-    for index in inner.start..inner.end {
-        if index < resume {
-            continue;
+    let mut rest = whole.skip(1);
+    for _ in 0..whole.len() {
+        if rest.len() == 0 {
+            break;
         }
-        let rest = inner.from(index);
         let Some(unit) = quoted_unit(rest, quote) else {
-            return Ok(if rest.skip(1).is_ended() {
-                Some(units)
-            } else {
-                None
-            });
+            return Ok(rest.skip(1).is_ended().then_some(units));
         };
-        resume = unit.end();
+        rest = rest.from(unit.end());
         units.push(unit)?;
     }
     Ok(None)
@@ -31,7 +25,7 @@ pub(crate) fn quoted_units(alloc: Global, whole: Part, quote: u8) -> Result<Opti
 fn quoted_unit(part: Part, quote: u8) -> Option<Unit> {
     let next = part.skip(1);
     if part.begins_with(quote) {
-        let is_pair = quote == b'\'' && next.start < next.end && next.begins_with(quote);
+        let is_pair = quote == b'\'' && next.first() == Some(quote);
         return is_pair.then_some(Unit::Byte(quote, next.start));
     }
     if quote == b'"' && part.begins_with(b'\\') {
@@ -51,71 +45,56 @@ fn escaped_unit(part: Part) -> Unit {
     }
 }
 
-/// The unit that begins the part of a line: a byte, or an expression as a hole.
+/// The unit that begins the part of a line: a byte; or as a hole an expression, `${{ .. }}` of GitHub's or `$[[ .. ]]` of GitLab's, which
+/// is replaced before a shell runs. One that isn't closed goes to the part's end.
 fn line_unit(part: Part) -> Unit {
-    let end = template_end(part);
-    match part.file.get(part.start) {
-        Some(byte) if end <= part.start => Unit::Byte(*byte, part.start),
-        _ => Unit::made(part.start, end),
-    }
-}
-
-/// Where an expression ends that begins the part: `${{ .. }}` of GitHub's, or `$[[ .. ]]` of GitLab's, which are replaced before a
-/// shell runs; 0 if none begins there. One that isn't closed goes to the part's end.
-fn template_end(part: Part) -> usize {
-    let bytes = part.bytes();
-    let closer = if bytes.starts_with(b"${{") {
-        b'}'
-    } else if bytes.starts_with(b"$[[") {
-        b']'
+    let closer: &[u8] = if part.bytes().starts_with(b"${{") {
+        b"}}"
+    } else if part.bytes().starts_with(b"$[[") {
+        b"]]"
     } else {
-        return 0;
+        return Unit::Byte(part.first().unwrap_or(b' '), part.start);
     };
-    let mut before = b' ';
-    for (index, byte) in bytes.iter().enumerate() {
-        if *byte == closer && before == closer {
-            return part.start.saturating_add(index).saturating_add(1);
+    let mut rest = part;
+    for _ in 0..part.len() {
+        if rest.bytes().starts_with(closer) {
+            return Unit::made(part.start, rest.skip(2).start);
         }
-        before = *byte;
+        rest = rest.skip(1);
     }
-    part.end
+    Unit::made(part.start, part.end)
 }
 
 /// Adds a line, in which expressions are holes.
 pub(crate) fn push_line(units: &mut Vec<Unit>, line: Part) -> Result<()> {
-    let mut resume = line.start;
-    for index in line.start..line.end {
-        if index >= resume {
-            let unit = line_unit(line.from(index));
-            resume = unit.end();
-            units.push(unit)?;
+    let mut rest = line;
+    for _ in 0..line.len() {
+        if rest.len() == 0 {
+            break;
         }
+        let unit = line_unit(rest);
+        rest = rest.from(unit.end());
+        units.push(unit)?;
     }
     Ok(())
 }
 
 /// The plain scalar that begins the part: it ends before a comment and blanks. None if it is no scalar but a key with its value.
 pub(crate) fn plain_scalar(whole: Part) -> Option<Part<'_>> {
-    let mut end = whole.start;
     let mut before = b' ';
+    let mut end = whole.end;
     for (index, byte) in whole.bytes().iter().enumerate() {
         let is_blank = b" \t".contains(byte);
         if before == b':' && is_blank {
             return None;
         }
         if *byte == b'#' && b" \t".contains(&before) {
+            end = whole.skip(index).start;
             break;
-        }
-        if !is_blank {
-            end = whole.start.saturating_add(index).saturating_add(1);
         }
         before = *byte;
     }
-    if before == b':' {
-        None
-    } else {
-        Some(whole.to(end))
-    }
+    (before != b':').then_some(whole.to(end).before_blanks())
 }
 
 /// The indentation that the header of a block scalar gives, behind `|` or `>`: 0 if it gives none. None if it is no header.
