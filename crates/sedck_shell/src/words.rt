@@ -49,10 +49,10 @@ impl Reader<'_> {
         Ok(self.top.word.units.push(Unit::Hole(hole))?)
     }
 
-    /// Adds a hole in place of the units from this one on to that of the number, behind which reading goes on.
-    pub fn add_hole_to(&mut self, first: Unit, last: usize, way: Way) -> Result<()> {
-        self.resume = last.saturating_add(1);
-        self.add_hole(first.start(), self.end_at(last), way)
+    /// Adds a hole in place of the unit that is read and so many more.
+    pub fn add_hole_over(&mut self, count: usize, way: Way) -> Result<()> {
+        self.pass(count);
+        self.add_hole(self.here.start(), self.end_after(count), way)
     }
 
     /// How what an expansion makes becomes a part of the word.
@@ -146,8 +146,7 @@ impl Reader<'_> {
     fn note_parted(&mut self) -> Result<()> {
         let awaited = std::mem::replace(&mut self.top.awaited, Awaited::Word);
         if !matches!(awaited, Awaited::Word) && self.form.dialect != Dialect::Macros {
-            let before = self.start_at(self.resume.saturating_sub(1));
-            self.output.unread.push(before)?;
+            self.output.unread.push(self.passed)?;
         }
         let Some(count) = self.top.draft.parted else {
             return Ok(());
@@ -293,7 +292,7 @@ impl Reader<'_> {
     }
 
     /// Ends a line, behind which here-documents may follow.
-    pub fn end_line(&mut self, index: usize) -> Result<()> {
+    pub fn end_line(&mut self) -> Result<()> {
         self.end_word()?;
         if !self.goes_on() {
             self.end_command()?;
@@ -302,7 +301,7 @@ impl Reader<'_> {
         if self.pending.is_empty() {
             return Ok(());
         }
-        self.read_bodies(index.saturating_add(1))
+        self.read_bodies()
     }
 
     /// Where the command is that is being read.
