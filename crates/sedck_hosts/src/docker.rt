@@ -2,7 +2,7 @@
 
 use crate::host::Host;
 use crate::kind::{Kind, interpreter_kind, program_kind, split_last};
-use crate::parts::{Part, lines_of};
+use crate::parts::{Part, is_blank, lines_of};
 use sedck_origin::{Result, Unit, begins_with, is_among};
 use std::alloc::Global;
 
@@ -48,7 +48,7 @@ pub(crate) fn host_of_docker(alloc: Global, file: &[u8]) -> Result<Host> {
     let whole = Part::whole(file);
     let lines = lines_of(alloc, file, false)?;
     for line in &lines {
-        if is_escape(line.bytes()) {
+        if is_escape(*line) {
             docker.host.note_unread(whole.from(line.end))?;
             return Ok(docker.host);
         }
@@ -93,26 +93,26 @@ impl<'a> Docker<'a> {
             };
             let (name, words) = line.from(*offset).split_word();
             rest = after_options(after_first(rest));
-            let is = |other: &[u8]| name.eq_ignore_ascii_case(other);
-            if is(b"RUN") || is(b"CMD") || is(b"ENTRYPOINT") {
+            let is = |other: &str| name.eq_ignore_ascii_case(other.as_bytes());
+            if is("RUN") || is("CMD") || is("ENTRYPOINT") {
                 let part = line.from(rest.first().map_or(line.end, |unit| unit.start()));
-                if self.read_list(rest, part, !is(b"ENTRYPOINT"))? {
+                if self.read_list(rest, part, !is("ENTRYPOINT"))? {
                     return Ok(());
                 }
-                return if is(b"RUN") {
+                return if is("RUN") {
                     self.read_run(rest, line)
                 } else {
                     self.add(rest)
                 };
             }
-            if is(b"SHELL") {
+            if is("SHELL") {
                 self.is_foreign = is_foreign(words);
             }
-            if is(b"COPY") || is(b"ADD") {
+            if is("COPY") || is("ADD") {
                 self.here = here_of(rest, line);
                 self.is_skipped = true;
             }
-            if !is(b"ONBUILD") && !is(b"HEALTHCHECK") {
+            if !is("ONBUILD") && !is("HEALTHCHECK") {
                 break;
             }
         }
@@ -136,7 +136,7 @@ impl<'a> Docker<'a> {
     /// Reads a line of a here-document.
     fn read_in_here(&mut self, here: Here<'a>, line: Part<'a>) -> Result<()> {
         let stripped = if here.is_stripped {
-            line.after_any(b"\t")
+            line.after_any("\t")
         } else {
             line
         };
@@ -162,8 +162,8 @@ impl<'a> Docker<'a> {
     fn end_text(&mut self) -> Result<()> {
         let units = std::mem::replace(&mut self.units, Vec::new(self.alloc));
         if let Some(Unit::Byte(b'#', offset)) = units.first() {
-            let bytes = self.file.get(*offset..).unwrap_or(&[]);
-            if bytes.starts_with(b"#!") && interpreter_kind(bytes) != Some(Kind::Shell) {
+            let text = Part::whole(self.file).from(*offset);
+            if text.starts_with("#!") && interpreter_kind(text.bytes()) != Some(Kind::Shell) {
                 return Ok(());
             }
         }
@@ -238,8 +238,8 @@ fn after_options(units: &[Unit]) -> &[Unit] {
 
 /// Whether the words of `SHELL` name another shell than one of POSIX's.
 fn is_foreign(words: Part) -> bool {
-    let first = words.from_any(b"\"").skip(1);
-    let behind = first.from_any(b"\"");
+    let first = words.from_any("\"").skip(1);
+    let behind = first.from_any("\"");
     let (_, name) = split_last(first.before(behind), b'/');
     behind.len() == 0 || program_kind(name) != Some(Kind::Shell)
 }
@@ -264,7 +264,7 @@ fn here_of<'a>(units: &[Unit], line: Part<'a>) -> Option<Here<'a>> {
 
 /// The here-document whose redirection begins the part: `<<`, perhaps `-`, and a name, perhaps quoted.
 fn here_at(whole: Part, is_first: bool) -> Option<Here<'_>> {
-    if !whole.bytes().starts_with(b"<<") {
+    if !whole.starts_with("<<") {
         return None;
     }
     let hyphen = whole.skip(2);
@@ -287,26 +287,24 @@ fn after_quote(part: Part) -> Part<'_> {
 }
 
 /// Whether the line is a directive that has a backquote continue lines.
-fn is_escape(line: &[u8]) -> bool {
-    let mut rest: &[u8] = b"#escape=`";
-    for byte in line {
-        if matches!(*byte, b' ' | b'\t') {
-            continue;
-        }
-        match rest {
-            [first, others @ ..] if byte.to_ascii_lowercase() == *first => rest = others,
-            _ => return false,
+fn is_escape(line: Part) -> bool {
+    let mut left = "#escape=`".as_bytes().iter();
+    for byte in line.bytes() {
+        if !is_blank(*byte) && left.next() != Some(&byte.to_ascii_lowercase()) {
+            return false;
         }
     }
-    rest.is_empty()
+    left.next().is_none()
 }
 
 /// The line without the backslash at its end that continues it, and whether there is one: blanks may follow it.
 fn uncontinued(line: Part) -> (Part<'_>, bool) {
     let text = line.before_blanks();
-    match text.bytes().strip_suffix(b"\\") {
-        Some(before) if !before.ends_with(b"\\") => (text.to(text.end.saturating_sub(1)), true),
-        _ => (line, false),
+    let before = text.before_last(b'\\');
+    if before.len() < text.len() && before.before_last(b'\\').len() == before.len() {
+        (before, true)
+    } else {
+        (line, false)
     }
 }
 

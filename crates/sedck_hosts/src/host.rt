@@ -97,10 +97,10 @@ fn host_of_autoconf(alloc: Global, file: &[u8]) -> Result<Host> {
     let mut before = b'\n';
     for _ in 0..file.len() {
         let is_comment = !is_name_byte(before)
-            && rest.bytes().starts_with(b"dnl")
+            && rest.starts_with("dnl")
             && rest.skip(3).first().is_some_and(|next| !is_name_byte(next));
         if is_comment {
-            rest = rest.from_any(b"\n");
+            rest = rest.from_any("\n");
         }
         let Some(byte) = rest.first() else {
             break;

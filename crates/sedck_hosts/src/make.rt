@@ -2,15 +2,15 @@
 
 use crate::host::{Assignment, Host};
 use crate::make_text::{MadeText, Reading, after_conditionals, read_make_text, reference_end};
-use crate::parts::{Part, lines_of};
+use crate::parts::{Part, is, is_in, lines_of};
 use sedck_origin::{Result, Unit, is_among, named};
 use std::alloc::Global;
 
 /// The variable whose value begins the lines of recipes in place of a tab.
-const PREFIX: &[u8] = b".RECIPEPREFIX";
+const PREFIX: &str = ".RECIPEPREFIX";
 
 /// The name in whose place Autoconf puts an assignment to `MAKE`.
-const SET_MAKE: &[u8] = b"SET_MAKE";
+const SET_MAKE: &str = "SET_MAKE";
 
 /// Words that may stand before an assignment.
 static MODIFIERS: &'static [&'static str] = &["export", "override", "private"];
@@ -129,7 +129,7 @@ impl Make {
         if self.defines > 0 {
             return self.read_in_define(line, statement);
         }
-        let has_tab = line.bytes().starts_with(b"\t");
+        let has_tab = line.starts_with("\t");
         if has_tab && self.is_in_rule {
             return self.add(line, Reading::Recipe);
         }
@@ -161,9 +161,9 @@ impl Make {
     /// Reads a line between `define` and `endef`.
     fn read_in_define(&mut self, line: Part, statement: Part) -> Result<()> {
         let (word, _) = statement.split_word();
-        if is_among(word, &["endef"]) {
+        if is(word, "endef") {
             self.defines = self.defines.saturating_sub(1);
-        } else if is_among(word, &["define"]) {
+        } else if is(word, "define") {
             self.defines = self.defines.saturating_add(1);
         } else {
             return self.add(line, Reading::Recipe);
@@ -178,13 +178,13 @@ impl Make {
             return self.read_definition(line, definition);
         }
         let (word, rest) = line.split_word();
-        if is_among(word, &["define"]) {
+        if is(word, "define") {
             self.is_in_rule = false;
             self.defines = 1;
-            let name = rest.before(until(rest, b" \t=:?+!#"));
+            let name = rest.before(until(rest, " \t=:?+!#"));
             return self.assign_unknown(name, line);
         }
-        if is_among(word, &["undefine"]) {
+        if is(word, "undefine") {
             let (name, _) = rest.split_word();
             self.assign_unknown(name, line)?;
         }
@@ -196,18 +196,18 @@ impl Make {
 
     /// Reads a line with targets, behind which an assignment or a recipe may stand.
     fn read_rule(&mut self, line: Part) -> Result<()> {
-        let colon = until(line, b":#;");
+        let colon = until(line, ":#;");
         if !colon.begins_with(b':') {
             // Any lines may stand in its place.
-            self.host.is_open |= line.placeholder().is_some_and(|name| name != SET_MAKE);
+            self.host.is_open |= line.placeholder().is_some_and(|name| !is(name, SET_MAKE));
             return self.add(line, Reading::Value);
         }
         self.is_in_rule = true;
-        let rest = colon.after_any(b":");
+        let rest = colon.after_any(":");
         if let Some(definition) = definition_at(after_modifiers(rest)) {
             return self.add_unknown(line, definition);
         }
-        let behind = until(rest, b";#");
+        let behind = until(rest, ";#");
         self.add(line.to(behind.start), Reading::Value)?;
         if behind.begins_with(b';') {
             return self.add(behind.skip(1), Reading::Recipe);
@@ -252,7 +252,7 @@ impl Make {
     fn read_definition(&mut self, line: Part, definition: Definition<'_>) -> Result<()> {
         let (name, operator) = (definition.name.bytes(), definition.operator);
         let value = definition.value;
-        if name == PREFIX && !value.is_ended() {
+        if is(name, PREFIX) && !value.is_ended() {
             self.note_prefix(line)?;
         }
         if matches!(operator, Operator::Append) || !is_known(name) {
@@ -332,15 +332,15 @@ fn after_modifiers(line: Part) -> Part<'_> {
 /// What the line does to those behind it, if it is a directive.
 fn effect_of(line: Part) -> Option<Effect> {
     if !line.begins_with(b'.') {
-        return named(EFFECTS, line.before(until(line, b" \t#")));
+        return named(EFFECTS, line.before(until(line, " \t#")));
     }
     let name = line.skip(1).after_blanks();
-    named(DOTTED, name.before(name.after_any(b"-").after_name()))
+    named(DOTTED, name.before(name.after_any("-").after_name()))
 }
 
 /// The assignment that the part is, if it is one: a name, blanks, and an operator.
 fn definition_at(whole: Part) -> Option<Definition<'_>> {
-    let rest = until(whole, b" \t=:;#");
+    let rest = until(whole, " \t=:;#");
     let mut name = whole.to(rest.start);
     if rest.begins_with(b'=') && matches!(name.bytes().last(), Some(b'?' | b'+' | b'!')) {
         name = name.to(name.end.saturating_sub(1));
@@ -350,7 +350,7 @@ fn definition_at(whole: Part) -> Option<Definition<'_>> {
     }
     let rest = whole.from(name.end).after_blanks();
     for (written, operator) in OPERATORS {
-        if rest.bytes().starts_with(written.as_bytes()) {
+        if rest.starts_with(written) {
             return Some(Definition {
                 name,
                 operator: *operator,
@@ -362,13 +362,13 @@ fn definition_at(whole: Part) -> Option<Definition<'_>> {
 }
 
 /// The part from the first of these bytes on that stands outside of references and behind no backslash.
-fn until<'a>(part: Part<'a>, wanted: &[u8]) -> Part<'a> {
+fn until<'a>(part: Part<'a>, wanted: &str) -> Part<'a> {
     let mut rest = part;
     for _ in 0..part.len() {
         rest = match rest.first() {
             Some(b'$') => rest.from(reference_end(rest)),
             Some(b'\\') => rest.skip(2),
-            Some(byte) if !wanted.contains(&byte) => rest.skip(1),
+            Some(byte) if !is_in(byte, wanted) => rest.skip(1),
             _ => break,
         };
     }

@@ -1,7 +1,7 @@
 //! What make does to a part of a makefile before the shell sees it: references are replaced, `$$` is a dollar sign, and lines are joined.
 
-use crate::parts::{Brackets, Part, QUOTES};
-use sedck_origin::{Result, Unit, has_byte, is_among, named};
+use crate::parts::{Brackets, Part, QUOTES, is, is_in};
+use sedck_origin::{Result, Unit, has_byte, named};
 use std::alloc::Global;
 
 /// What a part of a makefile is.
@@ -83,7 +83,7 @@ const DEPTH: usize = 100;
 const SHELLS: usize = 4;
 
 /// What may close a word and the reference that it ends.
-const CLOSERS: &[u8] = b"\"')}";
+const CLOSERS: &str = "\"')}";
 
 /// The state of reading a part of a makefile.
 #[derive(Drop)]
@@ -244,9 +244,9 @@ impl<'a> MakeText<'a> {
         }
         self.is_noted = self.is_noted && !self.opens.is_empty();
         let name = called_name(rest);
-        self.output.has_eval |= is_among(name, &["eval"]);
+        self.output.has_eval |= is(name, "eval");
         // Beyond so many of them the argument of `$(shell ..)` isn't read by itself.
-        let is_shell = self.shells < SHELLS && is_among(name, &["shell"]);
+        let is_shell = self.shells < SHELLS && is(name, "shell");
         let argument = is_shell.then_some(rest.skip(5).after_blanks().start);
         let (quiet, is_choice) = if is_shell {
             (ALL, false)
@@ -313,7 +313,7 @@ impl<'a> MakeText<'a> {
 
     /// Reads backslashes in a value: before `#` each two are one, and one more makes that a `#`, which begins a comment otherwise.
     fn read_backslashes(&mut self, here: Part<'a>) -> Result<()> {
-        let behind = here.after_any(b"\\");
+        let behind = here.after_any("\\");
         let count = here.before(behind).len();
         if behind.first() != Some(b'#') {
             // The last one may be before a newline.
@@ -392,7 +392,7 @@ impl<'a> MakeText<'a> {
 
 /// A blank of these: the first space, or else the last tab.
 fn first_blank(blanks: Part) -> Option<Unit> {
-    let space = blanks.from_any(b" ");
+    let space = blanks.from_any(" ");
     let found = if space.len() > 0 {
         space
     } else {
@@ -403,10 +403,12 @@ fn first_blank(blanks: Part) -> Option<Unit> {
 
 /// The name of the function whose call begins the part: it is followed by a blank or the end of a line that is continued.
 fn called_name(part: Part) -> &[u8] {
-    let name = part.after_any(b"abcdefghijklmnopqrstuvwxyz-");
-    match name.bytes() {
-        [b' ' | b'\t' | b'\n', ..] | [b'\\', b'\n', ..] => part.before(name),
-        _ => &[],
+    let name = part.after_any("abcdefghijklmnopqrstuvwxyz-");
+    let is_call = name.first().is_some_and(|byte| is_in(byte, " \t\n"));
+    if is_call || name.starts_with("\\\n") {
+        part.before(name)
+    } else {
+        &[]
     }
 }
 
@@ -417,7 +419,7 @@ pub(crate) fn after_conditionals(whole: Part) -> Part<'_> {
         let name = rest.skip(1);
         let behind = name.after_name();
         let bytes = name.before(behind);
-        let is_name = bytes.ends_with(b"_TRUE") || bytes.ends_with(b"_FALSE");
+        let is_name = bytes.ends_with("_TRUE".as_bytes()) || bytes.ends_with("_FALSE".as_bytes());
         if !rest.begins_with(b'@') || !is_name {
             break;
         }

@@ -63,6 +63,17 @@ impl<'a> Part<'a> {
         }
     }
 
+    /// Whether its bytes begin with this text.
+    pub fn starts_with(self, text: &str) -> bool {
+        starts_with(self.bytes(), text)
+    }
+
+    /// The same without this byte at its end, if it has that there.
+    pub fn before_last(self, byte: u8) -> Part<'a> {
+        let has_it = self.bytes().last() == Some(&byte);
+        self.to(self.end.saturating_sub(usize::from(has_it)))
+    }
+
     /// Whether the file has the byte where the part begins, which may be its end.
     pub fn begins_with(self, byte: u8) -> bool {
         has_byte(self.file, self.start, byte)
@@ -74,14 +85,14 @@ impl<'a> Part<'a> {
     }
 
     /// The same from the first byte on that is none of these.
-    pub fn after_any(self, skipped: &[u8]) -> Part<'a> {
-        let count = self.bytes().iter().position(|byte| !skipped.contains(byte));
+    pub fn after_any(self, skipped: &str) -> Part<'a> {
+        let count = self.bytes().iter().position(|byte| !is_in(*byte, skipped));
         self.behind(count)
     }
 
     /// The same from the first byte on that is no blank.
     pub fn after_blanks(self) -> Part<'a> {
-        self.after_any(b" \t")
+        self.after_any(" \t")
     }
 
     /// The same from the first byte on that is no letter, digit or underscore.
@@ -91,20 +102,20 @@ impl<'a> Part<'a> {
     }
 
     /// The same from the first of these bytes on.
-    pub fn from_any(self, wanted: &[u8]) -> Part<'a> {
-        let count = self.bytes().iter().position(|byte| wanted.contains(byte));
+    pub fn from_any(self, wanted: &str) -> Part<'a> {
+        let count = self.bytes().iter().position(|byte| is_in(*byte, wanted));
         self.behind(count)
     }
 
     /// The same without blanks at its end.
     pub fn before_blanks(self) -> Part<'a> {
-        let last = self.bytes().iter().rposition(|byte| !b" \t".contains(byte));
+        let last = self.bytes().iter().rposition(|byte| !is_blank(*byte));
         self.to(last.map_or(self.start, |last| self.skip(last).skip(1).start))
     }
 
     /// The word that begins the part and ends at a blank, and the part behind it and its blanks.
     pub fn split_word(self) -> (&'a [u8], Part<'a>) {
-        let rest = self.from_any(b" \t");
+        let rest = self.from_any(" \t");
         (self.before(rest), rest.after_blanks())
     }
 
@@ -145,15 +156,15 @@ impl<'a> Part<'a> {
     }
 
     /// Whether a call of sed seems to begin the part: its name, perhaps some of the closers, and blanks with more behind them.
-    pub fn is_call(self, closers: &[u8]) -> bool {
+    pub fn is_call(self, closers: &str) -> bool {
         let length = self.sed_length();
         if length == 0 {
             return false;
         }
         let behind = self.skip(length).after_any(closers);
-        let is_continued = behind.bytes().starts_with(b"\\\n");
+        let is_continued = behind.starts_with("\\\n");
         let rest = behind.skip(usize::from(is_continued));
-        let next = rest.after_any(b" \t\r\n");
+        let next = rest.after_any(" \t\r\n");
         next.start > rest.start && next.start < self.end
     }
 
@@ -170,7 +181,7 @@ impl<'a> Part<'a> {
             return 0;
         }
         SEDS.iter()
-            .find(|name| bytes.starts_with(name.as_bytes()))
+            .find(|name| starts_with(bytes, name))
             .map_or(0, |name| name.len())
     }
 
@@ -179,6 +190,26 @@ impl<'a> Part<'a> {
         let before = self.file.get(self.start.saturating_sub(1)).copied();
         self.start > 0 && before.is_some_and(|byte| is_name_byte(byte) || byte == b'.')
     }
+}
+
+/// Whether the bytes are this text.
+pub(crate) fn is(bytes: &[u8], text: &str) -> bool {
+    bytes == text.as_bytes()
+}
+
+/// Whether the bytes begin with this text.
+pub(crate) fn starts_with(bytes: &[u8], text: &str) -> bool {
+    bytes.starts_with(text.as_bytes())
+}
+
+/// Whether the text has the byte.
+pub(crate) fn is_in(byte: u8, text: &str) -> bool {
+    text.as_bytes().contains(&byte)
+}
+
+/// Whether it is a space or a tab.
+pub(crate) fn is_blank(byte: u8) -> bool {
+    byte == b' ' || byte == b'\t'
 }
 
 /// Brackets of one sort, of which the first is open.
@@ -252,4 +283,4 @@ static SEDS: &'static [&'static str] = &[
 ];
 
 /// What may close a word behind the name of sed.
-pub(crate) const QUOTES: &[u8] = b"\"'";
+pub(crate) const QUOTES: &str = "\"'";

@@ -1,6 +1,6 @@
 //! Scalars of YAML: those on one line, and block scalars.
 
-use crate::parts::Part;
+use crate::parts::{Part, is_blank, is_in};
 use sedck_origin::{Result, Unit};
 use std::alloc::Global;
 
@@ -38,7 +38,7 @@ fn quoted_unit(part: Part, quote: u8) -> Option<Unit> {
 fn escaped_unit(part: Part) -> Unit {
     let next = part.start.saturating_add(1);
     match part.file.get(next) {
-        Some(byte) if b"\\\"/".contains(byte) => Unit::Byte(*byte, next),
+        Some(byte) if is_in(*byte, "\\\"/") => Unit::Byte(*byte, next),
         Some(b'n') => Unit::Escape(b'\n', part.start),
         Some(b't') => Unit::Escape(b'\t', part.start),
         _ => Unit::made(part.start, next.saturating_add(1)),
@@ -48,16 +48,16 @@ fn escaped_unit(part: Part) -> Unit {
 /// The unit that begins the part of a line: a byte; or as a hole an expression, `${{ .. }}` of GitHub's or `$[[ .. ]]` of GitLab's, which
 /// is replaced before a shell runs. One that isn't closed goes to the part's end.
 fn line_unit(part: Part) -> Unit {
-    let closer: &[u8] = if part.bytes().starts_with(b"${{") {
-        b"}}"
-    } else if part.bytes().starts_with(b"$[[") {
-        b"]]"
+    let closer = if part.starts_with("${{") {
+        "}}"
+    } else if part.starts_with("$[[") {
+        "]]"
     } else {
         return Unit::Byte(part.first().unwrap_or(b' '), part.start);
     };
     let mut rest = part;
     for _ in 0..part.len() {
-        if rest.bytes().starts_with(closer) {
+        if rest.starts_with(closer) {
             return Unit::made(part.start, rest.skip(2).start);
         }
         rest = rest.skip(1);
@@ -84,11 +84,10 @@ pub(crate) fn plain_scalar(whole: Part) -> Option<Part<'_>> {
     let mut before = b' ';
     let mut end = whole.end;
     for (index, byte) in whole.bytes().iter().enumerate() {
-        let is_blank = b" \t".contains(byte);
-        if before == b':' && is_blank {
+        if before == b':' && is_blank(*byte) {
             return None;
         }
-        if *byte == b'#' && b" \t".contains(&before) {
+        if *byte == b'#' && is_blank(before) {
             end = whole.skip(index).start;
             break;
         }
@@ -99,7 +98,7 @@ pub(crate) fn plain_scalar(whole: Part) -> Option<Part<'_>> {
 
 /// The indentation that the header of a block scalar gives, behind `|` or `>`: 0 if it gives none. None if it is no header.
 pub(crate) fn header(whole: Part) -> Option<usize> {
-    let rest = whole.after_any(b"+-123456789");
+    let rest = whole.after_any("+-123456789");
     let mut indentation = 0usize;
     for byte in whole.to(rest.start).bytes() {
         if byte.is_ascii_digit() {
@@ -134,7 +133,7 @@ impl Block {
 
     /// Adds a line without its indentation; answers whether it is one of the block. The first line that isn't blank gives the indentation.
     pub fn add_line(&mut self, line: Part) -> Result<bool> {
-        let text = line.after_any(b" ");
+        let text = line.after_any(" ");
         let found = text.start.saturating_sub(line.start);
         if text.start < line.end {
             let least = self.indentation.unwrap_or(self.parent.saturating_add(1));

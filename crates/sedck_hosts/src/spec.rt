@@ -2,8 +2,8 @@
 
 use crate::host::Host;
 use crate::make_text::reference_end;
-use crate::parts::{Brackets, Part, QUOTES, lines_of};
-use sedck_origin::{Result, Unit, is_among, named};
+use crate::parts::{Brackets, Part, QUOTES, is, lines_of};
+use sedck_origin::{Result, Unit, named};
 use std::alloc::Global;
 
 /// A macro that isn't closed.
@@ -120,7 +120,7 @@ impl Spec {
     /// Reads a line of a section.
     fn read_text(&mut self, line: Part, is_left_out: bool) -> Result<()> {
         self.is_left_out = is_left_out;
-        self.is_continued = is_left_out && line.bytes().ends_with(b"\\");
+        self.is_continued = is_left_out && line.bytes().last() == Some(&b'\\');
         let mut rest = line;
         for _ in 0..line.len() {
             let Some(byte) = rest.first() else {
@@ -252,7 +252,7 @@ fn spec_unit(part: Part, byte: u8) -> Unit {
     if next.first() == Some(b'%') {
         return Unit::Byte(b'%', next.start);
     }
-    let name = next.after_any(b"?!");
+    let name = next.after_any("?!");
     let behind = name.after_name();
     // A name begins with no digit and has three letters at least.
     if name.first().is_some_and(|first| first.is_ascii_digit()) || name.before(behind).len() < 3 {
@@ -266,9 +266,9 @@ fn has_shell(options: Part) -> bool {
     let mut rest = options;
     for _ in 0..8 {
         let (word, next) = rest.split_word();
-        if is_among(word, &["-p"]) {
+        if is(word, "-p") {
             let (program, _) = next.split_word();
-            return program.ends_with(b"sh") && !program.ends_with(b"csh");
+            return program.ends_with("sh".as_bytes()) && !program.ends_with("csh".as_bytes());
         }
         rest = next;
     }

@@ -1,7 +1,7 @@
 //! Files of continuous integration: the shell text of the keys that have it.
 
 use crate::host::Host;
-use crate::parts::{Part, lines_of};
+use crate::parts::{Part, is, is_blank, is_in, lines_of, starts_with};
 use crate::scalars::{Block, header, plain_scalar, push_line, quoted_units};
 use sedck_origin::{Result, is_among, is_name_byte};
 use std::alloc::Global;
@@ -146,7 +146,7 @@ impl<'a> Yaml<'a> {
             line.column,
         );
         self.end_step(line);
-        if is_among(key, &["shell"]) && is_foreign(value.text.bytes()) {
+        if is(key, "shell") && is_foreign(value.text.bytes()) {
             self.foreign = Some(line.column);
         }
         if KEYS.iter().any(|keys| is_among(key, keys)) && self.foreign != Some(line.column) {
@@ -172,14 +172,15 @@ impl<'a> Yaml<'a> {
     /// Passes a line that begins with no key which is read, and notes a call of sed in it where it may have one: in a mapping in brackets, as
     /// `- {run: sed p}`, behind a tag or an anchor, or with all lines that belong to it in a key or a value that is marked by `?` or `:`.
     fn pass_line(&mut self, line: Line<'a>) -> Result<()> {
-        match line.text.bytes() {
-            [b'?' | b':'] | [b'?' | b':', b' ' | b'\t', ..] => {
-                self.pass_value(value_in(line, line.text, line.column))
-            }
-            [first, ..] if b"[]}!&*".contains(first) => self.host.note_unread(line.text),
-            bytes if bytes.contains(&b'{') => self.host.note_unread(line.text),
-            _ => Ok(()),
+        let text = line.text;
+        if has_sign(text, "?:") {
+            return self.pass_value(value_in(line, text, line.column));
         }
+        let is_other = text.first().is_some_and(|byte| is_in(byte, "[]}!&*"));
+        if is_other || text.from_any("{").len() > 0 {
+            return self.host.note_unread(text);
+        }
+        Ok(())
     }
 
     /// Forgets the `shell:` of a step that the line ends.
@@ -201,16 +202,14 @@ impl<'a> Yaml<'a> {
         if value.text.begins_with(b'*') {
             self.note_alias(value.text)?;
         }
-        match value.text.file.get(value.text.start) {
+        match value.text.first() {
             Some(b'|') => self.read_block(value, usize::MAX),
             Some(b'>') => self.read_block(value, 1),
-            Some(quote) if b"'\"".contains(quote) => {
-                match quoted_units(self.alloc, value.text, *quote)? {
-                    Some(units) => self.host.add(units),
-                    None => self.pass_value(value),
-                }
-            }
-            Some(sign) if b"[{*!%@`".contains(sign) => self.pass_value(value),
+            Some(quote @ (b'\'' | b'"')) => match quoted_units(self.alloc, value.text, quote)? {
+                Some(units) => self.host.add(units),
+                None => self.pass_value(value),
+            },
+            Some(sign) if is_in(sign, "[{*!%@`") => self.pass_value(value),
             _ => self.read_plain(value),
         }
     }
@@ -330,12 +329,12 @@ fn anchor_of(text: Part) -> &[u8] {
 
 /// The indentation of the line.
 fn indentation_of(line: Part) -> usize {
-    line.after_any(b" ").start.saturating_sub(line.start)
+    line.after_any(" ").start.saturating_sub(line.start)
 }
 
 /// Whether the line isn't in the value of a key with this indentation, in which the items of a sequence may be.
 fn is_behind(line: Part, column: usize) -> bool {
-    let has_dash = line.after_any(b" ").begins_with(b'-');
+    let has_dash = line.after_any(" ").begins_with(b'-');
     let indentation = indentation_of(line);
     !line.is_ended() && (indentation < column || (indentation == column && !has_dash))
 }
@@ -347,13 +346,12 @@ fn is_node(line: Part, parent: usize) -> bool {
 
 /// The line without the dashes of sequences that begin it.
 fn after_dashes(number: usize, whole: Part) -> Line<'_> {
-    let mut text = whole.after_any(b" ");
+    let mut text = whole.after_any(" ");
     let indentation = text.start.saturating_sub(whole.start);
     let mut dash = None;
     for _ in 0..8 {
-        match text.bytes() {
-            [b'-'] | [b'-', b' ' | b'\t', ..] => {}
-            _ => break,
+        if !has_sign(text, "-") {
+            break;
         }
         dash = Some(text.start.saturating_sub(whole.start));
         text = text.skip(1).after_blanks();
@@ -382,15 +380,15 @@ fn key_behind(part: Part<'_>) -> Part<'_> {
 
 /// Where the key ends that begins the part, before its colon, or before blanks; none if no key does.
 fn key_end(part: Part) -> Option<usize> {
-    let bytes = part.bytes();
-    let length = bytes
-        .iter()
-        .position(|byte| !is_name_byte(*byte) && !b"-.\"'".contains(byte))?;
-    let end = part.start.saturating_add(length);
-    match part.from(end).after_blanks().bytes() {
-        [b':'] | [b':', b' ' | b'\t', ..] if length > 0 => Some(end),
-        _ => None,
-    }
+    let is_other = |byte: &u8| !is_name_byte(*byte) && !is_in(*byte, "-.\"'");
+    let behind = part.skip(part.bytes().iter().position(is_other)?);
+    let is_key = behind.start > part.start && has_sign(behind.after_blanks(), ":");
+    is_key.then_some(behind.start)
+}
+
+/// Whether one of these signs begins the part, and a blank or nothing follows it.
+fn has_sign(part: Part, signs: &str) -> bool {
+    part.first().is_some_and(|byte| is_in(byte, signs)) && part.skip(1).first().is_none_or(is_blank)
 }
 
 /// The key without quotes around it.
@@ -403,7 +401,5 @@ fn unquoted(key: &[u8]) -> &[u8] {
 
 /// Whether a `shell:` with this value is no shell of POSIX's.
 fn is_foreign(value: &[u8]) -> bool {
-    FOREIGN
-        .iter()
-        .any(|name| value.starts_with(name.as_bytes()))
+    FOREIGN.iter().any(|name| starts_with(value, name))
 }
