@@ -119,6 +119,20 @@ impl<'a> Part<'a> {
         (self.before(rest), rest.after_blanks())
     }
 
+    /// Its first line without its newline and carriage return, and what is behind that; nothing where it is empty. Where lines are joined, those
+    /// that continue the line belong to it.
+    pub fn split_line(self, is_joined: bool) -> Option<(Part<'a>, Part<'a>)> {
+        let mut is_quoted = false;
+        for (index, byte) in self.bytes().iter().enumerate() {
+            if *byte == b'\n' && !is_quoted {
+                let end = self.skip(index);
+                return Some((self.to(end.start).before_last(b'\r'), end.skip(1)));
+            }
+            is_quoted = is_joined && *byte == b'\\' && !is_quoted;
+        }
+        (self.len() > 0).then_some((self, self.from(self.end)))
+    }
+
     /// The name between the `@` that begins the part and the next one.
     pub fn placeholder(self) -> Option<&'a [u8]> {
         let name = self.skip(1);
@@ -259,19 +273,12 @@ impl Brackets {
 pub(crate) fn lines_of(alloc: Global, file: &[u8], is_joined: bool) -> Result<Vec<Part<'_>>> {
     let mut lines = Vec::new(alloc);
     let mut rest = Part::whole(file);
-    let mut before = b'\n';
-    let mut is_quoted = false;
-    for (index, byte) in file.iter().enumerate() {
-        if *byte == b'\n' && !is_quoted {
-            let end = index.saturating_sub(usize::from(before == b'\r'));
-            lines.push(rest.to(end))?;
-            rest = rest.from(index.saturating_add(1));
-        }
-        is_quoted = is_joined && *byte == b'\\' && !is_quoted;
-        before = *byte;
-    }
-    if rest.start < rest.end {
-        lines.push(rest)?;
+    for _ in 0..file.len() {
+        let Some((line, next)) = rest.split_line(is_joined) else {
+            break;
+        };
+        lines.push(line)?;
+        rest = next;
     }
     Ok(lines)
 }

@@ -99,12 +99,13 @@ pub(crate) fn plain_scalar(whole: Part) -> Option<Part<'_>> {
 /// The indentation that the header of a block scalar gives, behind `|` or `>`: 0 if it gives none. None if it is no header.
 pub(crate) fn header(whole: Part) -> Option<usize> {
     let rest = whole.after_any("+-123456789");
-    let mut indentation = 0usize;
-    for byte in whole.to(rest.start).bytes() {
-        if byte.is_ascii_digit() {
-            indentation = usize::from(byte.wrapping_sub(b'0'));
-        }
-    }
+    let digits = whole
+        .before(rest)
+        .iter()
+        .filter(|byte| byte.is_ascii_digit());
+    let indentation = digits
+        .last()
+        .map_or(0, |digit| usize::from(digit.wrapping_sub(b'0')));
     rest.is_ended().then_some(indentation)
 }
 
