@@ -28,11 +28,6 @@ impl<'a> Cursor<'a> {
         }
     }
 
-    /// Whether none is left.
-    pub fn is_empty(self) -> bool {
-        self.len() == 0
-    }
-
     /// The unit after so many.
     pub fn get(self, count: usize) -> Option<Unit> {
         match self {
@@ -46,10 +41,7 @@ impl<'a> Cursor<'a> {
 
     /// The byte of the unit after so many; none where it is a hole, or no more are left.
     pub fn byte(self, count: usize) -> Option<u8> {
-        match self {
-            Cursor::File(bytes, _) => bytes.get(count).copied(),
-            Cursor::Units(units) => units.get(count)?.byte(),
-        }
+        self.get(count)?.byte()
     }
 
     /// The byte of the next unit.
@@ -118,7 +110,7 @@ impl<'a> Cursor<'a> {
             }
             rest = rest.skip(1);
         }
-        rest.is_empty()
+        rest.len() == 0
     }
 
     /// How many of the next units are letters, digits and underscores, before others.

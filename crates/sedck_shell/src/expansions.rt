@@ -71,9 +71,8 @@ impl Reader<'_> {
         self.open(1, Enclosure::Parameter, true)?;
         let first = self.rest.peek();
         // Some shells read commands there, and no others anything.
-        if let Some(b' ' | b'\t' | b'\n' | b'|') = first {
-            self.output.unread.push(self.here.start())?;
-        }
+        let has_commands = matches!(first, Some(b' ' | b'\t' | b'\n' | b'|'));
+        self.output.tell_if(has_commands, self.here.start())?;
         let has_sign = matches!(first, Some(b'!' | b'#' | b'@' | b'*' | b'?' | b'-' | b'$'));
         let name = self.rest.skip(usize::from(has_sign));
         let length = name.name_length();

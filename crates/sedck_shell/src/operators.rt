@@ -1,7 +1,7 @@
 //! Operators: ends of commands, parentheses and redirections (XCU 2.7, 2.9).
 
 use crate::frame::{Awaited, Delimiter, Enclosure};
-use crate::reader::{Dialect, Reader};
+use crate::reader::Reader;
 use crate::words::begins_with;
 use sedck_origin::{Result, Unit, name_length};
 
@@ -110,17 +110,14 @@ impl Reader<'_> {
         let is_known = words
             .iter()
             .any(|word| word.units.iter().any(|unit| unit.byte().is_some()));
-        if is_known && !begins_with(words, "[[") && self.form.dialect != Dialect::Macros {
-            self.output.unread.push(self.here.start())?;
-        }
-        Ok(())
+        let is_pattern = is_known && !begins_with(words, "[[") && !self.has_macros();
+        self.output.tell_if(is_pattern, self.here.start())
     }
 
     /// Whether `((` begins an expression where a command may begin, and behind `for`.
     fn begins_expression(&self) -> bool {
         let words = &self.top.draft.command.words;
-        self.form.dialect != Dialect::Macros
-            && (words.is_empty() || (words.len() == 1 && begins_with(words, "for")))
+        !self.has_macros() && (words.is_empty() || (words.len() == 1 && begins_with(words, "for")))
     }
 
     /// Whether the word before `(` makes it the beginning of words of an array, or of a part of a pattern of some shells.
@@ -162,9 +159,8 @@ impl Reader<'_> {
             self.top.is_pattern = false;
             return Ok(());
         }
-        if self.frames.is_empty() && self.form.dialect != Dialect::Macros {
-            self.output.unread.push(unit.start())?;
-        }
+        let is_open = !self.frames.is_empty() || self.has_macros();
+        self.output.tell_if(!is_open, unit.start())?;
         self.close(unit.end())
     }
 

@@ -58,9 +58,8 @@ fn read_text(
         if is_closed {
             reader.end_command()?;
         }
-        if !is_closed || !reader.frames.is_empty() {
-            reader.output.unread.push(reader.opened.start())?;
-        }
+        let is_open = !is_closed || !reader.frames.is_empty();
+        reader.output.tell_if(is_open, reader.opened.start())?;
         let (opened, mark) = (reader.opened, reader.mark);
         output = reader.output;
         if is_closed {
@@ -213,9 +212,8 @@ impl Reader<'_> {
                 return self.output.miss(one.start);
             };
             let body = self.rest.before(end);
-            if !one.is_quoted && ends_before(self.rest, body.len(), one) {
-                self.output.unread.push(one.start)?;
-            }
+            let ends = !one.is_quoted && ends_before(self.rest, body.len(), one);
+            self.output.tell_if(ends, one.start)?;
             let units = lines_of(self.alloc, body, one.is_stripped)?;
             let quote = if one.is_quoted {
                 Quote::Verbatim

@@ -1,7 +1,7 @@
 //! Quoting (XCU 2.2), and the quotes of M4, which are around the arguments of macros in the sources of Autoconf.
 
 use crate::frame::{Enclosure, Quote};
-use crate::reader::{Dialect, Reader};
+use crate::reader::Reader;
 use sedck_origin::{Cursor, Result, Unit, Way, escape_byte};
 
 impl Reader<'_> {
@@ -28,9 +28,8 @@ impl Reader<'_> {
     pub fn read_either(&mut self, unit: Unit) -> Result<()> {
         match unit.byte() {
             Some(b'\\') => {
-                if self.rest.peek() == Some(b'\'') {
-                    self.output.unread.push(unit.start())?;
-                }
+                self.output
+                    .tell_if(self.rest.peek() == Some(b'\''), unit.start())?;
                 self.pass(1);
             }
             Some(b'\'') => {
@@ -57,7 +56,7 @@ impl Reader<'_> {
         };
         match quoted.byte() {
             Some(b'\n') => return Ok(()),
-            Some(b'[') if self.form.dialect == Dialect::Macros => {
+            Some(b'[') if self.has_macros() => {
                 self.brackets = self.brackets.saturating_add(1);
             }
             Some(b']') => self.brackets = self.brackets.saturating_sub(1),

@@ -70,8 +70,13 @@ impl Output {
 
     /// Notes that what begins at this offset in the file isn't kept, as there is too much.
     pub fn note_full(&mut self, offset: usize) -> Result<()> {
-        if !self.is_full {
-            self.is_full = true;
+        let was_full = std::mem::replace(&mut self.is_full, true);
+        self.tell_if(!was_full, offset)
+    }
+
+    /// Tells that what begins at this offset in the file isn't understood, if it isn't.
+    pub fn tell_if(&mut self, is_unread: bool, offset: usize) -> Result<()> {
+        if is_unread {
             self.unread.push(offset)?;
         }
         Ok(())
@@ -154,6 +159,11 @@ impl<'a> Reader<'a> {
         Ok(())
     }
 
+    /// Whether macros of M4 are in the text.
+    pub fn has_macros(&self) -> bool {
+        self.form.dialect == Dialect::Macros
+    }
+
     /// The offset in the file behind the unit after so many more; 0 where the text ends before.
     pub fn end_after(&self, count: usize) -> usize {
         self.here.get(count).map_or(0, Unit::end)
@@ -169,8 +179,8 @@ impl<'a> Reader<'a> {
     /// Reads a unit.
     fn read(&mut self, unit: Unit) -> Result<()> {
         match unit.byte() {
-            Some(b'[') if self.form.dialect == Dialect::Macros => self.open_bracket(unit),
-            Some(b']') if self.form.dialect == Dialect::Macros => self.close_bracket(unit),
+            Some(b'[') if self.has_macros() => self.open_bracket(unit),
+            Some(b']') if self.has_macros() => self.close_bracket(unit),
             _ => self.read_by_quote(unit),
         }
     }
@@ -263,7 +273,7 @@ impl<'a> Reader<'a> {
     /// Whether a word that begins here is a comment to the line's end: `#`, or `dnl` of M4.
     fn begins_comment(&self, byte: u8) -> bool {
         byte == b'#'
-            || (self.form.dialect == Dialect::Macros
+            || (self.has_macros()
                 && self.rest.byte(0) == Some(b'n')
                 && self.rest.byte(1) == Some(b'l')
                 && self.rest.name_length() == 2)
@@ -363,9 +373,8 @@ impl<'a> Reader<'a> {
 
     /// Leaves all that encloses, whose units are lost.
     pub fn leave_frames(&mut self) -> Result<()> {
-        if !self.frames.is_empty() {
-            self.output.unread.push(self.top.opened)?;
-        }
+        self.output
+            .tell_if(!self.frames.is_empty(), self.top.opened)?;
         for _ in 0..self.frames.len() {
             if let Some(outer) = self.frames.pop() {
                 self.top = outer;
@@ -389,10 +398,8 @@ impl<'a> Reader<'a> {
             Some(b'$') => behind != b' ' && behind != b'\t',
             _ => matches!(behind, b';' | b'&' | b'|' | b'<' | b'>' | b'('),
         };
-        if is_part && rest.byte(0) == Some(b'\\') && rest.byte(1) == Some(b'\n') {
-            self.output.unread.push(unit.start())?;
-        }
-        Ok(())
+        let is_joined = rest.byte(0) == Some(b'\\') && rest.byte(1) == Some(b'\n');
+        self.output.tell_if(is_joined && is_part, unit.start())
     }
 }
 

@@ -2,7 +2,7 @@
 
 use crate::command::{ShellWord, Site, Target};
 use crate::frame::{Awaited, Braces, Draft, Enclosure, Quote};
-use crate::reader::{Dialect, MOST, Reader};
+use crate::reader::{MOST, Reader};
 use sedck_origin::{Hole, Result, Unit, Way, byte_at, is_one_of, is_text};
 
 /// Reserved words before a command, which are no words of it.
@@ -108,9 +108,8 @@ impl Reader<'_> {
 
     /// Notes what may be other words in the word of a redirection: what is there before a shell reads it, and what some shells have behind `>!`.
     fn note_redirection(&mut self, word: &ShellWord) -> Result<()> {
-        if !word.is_quoted && byte_at(&word.units, 0) == Some(b'!') {
-            self.output.unread.push(word.start)?;
-        }
+        let has_sign = !word.is_quoted && byte_at(&word.units, 0) == Some(b'!');
+        self.output.tell_if(has_sign, word.start)?;
         for unit in &word.units {
             match *unit {
                 Unit::Hole(hole) if hole.way.is_made() => self.top.draft.command.made.push(hole)?,
@@ -145,19 +144,15 @@ impl Reader<'_> {
     /// begin another command: what bash reads as one may be two to it.
     fn note_parted(&mut self) -> Result<()> {
         let awaited = std::mem::replace(&mut self.top.awaited, Awaited::Word);
-        if !matches!(awaited, Awaited::Word) && self.form.dialect != Dialect::Macros {
-            self.output.unread.push(self.passed)?;
+        let is_alone = !matches!(awaited, Awaited::Word) && !self.has_macros();
+        self.output.tell_if(is_alone, self.passed)?;
+        match self.top.draft.parted {
+            Some(count) if !self.form.has_dollar_quotes => {
+                let sed = parted_sed(&self.top.draft.command.words, count);
+                self.output.tell_if(sed.is_some(), sed.unwrap_or(0))
+            }
+            _ => Ok(()),
         }
-        let Some(count) = self.top.draft.parted else {
-            return Ok(());
-        };
-        if self.form.has_dollar_quotes {
-            return Ok(());
-        }
-        if let Some(start) = parted_sed(&self.top.draft.command.words, count) {
-            self.output.unread.push(start)?;
-        }
-        Ok(())
     }
 
     /// Makes a hole of braces that some shells expand, and others don't.
@@ -211,7 +206,7 @@ impl Reader<'_> {
         if !is_first {
             return self.read_second_reserved(units);
         }
-        let has_tests = self.form.has_dollar_quotes && self.form.dialect != Dialect::Macros;
+        let has_tests = self.form.has_dollar_quotes && !self.has_macros();
         self.top.is_test |= has_tests && is_text(units, "[[");
         self.note_flow(units)?;
         Ok(is_one_of(units, RESERVED))
@@ -253,10 +248,7 @@ impl Reader<'_> {
         let start = first.start;
         if self.top.enclosure == Enclosure::Array {
             // What the words of an array are used for isn't followed.
-            if ends_with_sed(&first.units) {
-                self.output.unread.push(start)?;
-            }
-            return Ok(());
+            return self.output.tell_if(ends_with_sed(&first.units), start);
         }
         if self.top.is_pattern || !self.top.has_commands() {
             return Ok(());
