@@ -131,7 +131,8 @@ impl Reader<'_> {
         let Some(length) = self.parenthesis_end(inner) else {
             if self.output.looked >= LOOKAHEAD && !self.output.has_looked {
                 self.output.has_looked = true;
-                let _ = self.output.unread.push(self.end_after(count));
+                let before = self.end_after(count);
+                let _ = self.output.unread.push(before);
             }
             return false;
         };

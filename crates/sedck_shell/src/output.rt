@@ -58,9 +58,9 @@ fn read_text(
         if is_closed {
             reader.end_command()?;
         }
-        let is_open = !is_closed || !reader.frames.is_empty();
-        reader.output.tell_if(is_open, reader.opened.start())?;
         let (opened, mark) = (reader.opened, reader.mark);
+        let is_open = !is_closed || !reader.frames.is_empty();
+        reader.output.tell_if(is_open, opened.start())?;
         output = reader.output;
         if is_closed {
             break;

@@ -28,8 +28,8 @@ impl Reader<'_> {
     pub fn read_either(&mut self, unit: Unit) -> Result<()> {
         match unit.byte() {
             Some(b'\\') => {
-                self.output
-                    .tell_if(self.rest.peek() == Some(b'\''), unit.start())?;
+                let is_quote = self.rest.peek() == Some(b'\'');
+                self.output.tell_if(is_quote, unit.start())?;
                 self.pass(1);
             }
             Some(b'\'') => {

@@ -373,8 +373,8 @@ impl<'a> Reader<'a> {
 
     /// Leaves all that encloses, whose units are lost.
     pub fn leave_frames(&mut self) -> Result<()> {
-        self.output
-            .tell_if(!self.frames.is_empty(), self.top.opened)?;
+        let is_open = !self.frames.is_empty();
+        self.output.tell_if(is_open, self.top.opened)?;
         for _ in 0..self.frames.len() {
             if let Some(outer) = self.frames.pop() {
                 self.top = outer;
