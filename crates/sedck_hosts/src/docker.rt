@@ -95,14 +95,10 @@ impl<'a> Docker<'a> {
             rest = after_options(after_first(rest));
             let is = |other: &str| name.eq_ignore_ascii_case(other.as_bytes());
             if is("RUN") || is("CMD") || is("ENTRYPOINT") {
-                let part = line.from(rest.first().map_or(line.end, |unit| unit.start()));
-                if self.read_list(rest, part, !is("ENTRYPOINT"))? {
-                    return Ok(());
-                }
-                return if is("RUN") {
-                    self.read_run(rest, line)
-                } else {
-                    self.add(rest)
+                return match self.read_list(rest, line, !is("ENTRYPOINT"))? {
+                    true => Ok(()),
+                    false if is("RUN") => self.read_run(rest, line),
+                    false => self.add(rest),
                 };
             }
             if is("SHELL") {
@@ -182,7 +178,7 @@ impl<'a> Docker<'a> {
 
     /// Reads a command that is a list of JSON's, and answers whether it is one: no shell reads that, so each of its strings is a word between
     /// single quotes. One with a backslash, such a quote or another byte than ASCII's isn't read, nor is a list to which a run adds words.
-    fn read_list(&mut self, command: &[Unit], part: Part, is_whole: bool) -> Result<bool> {
+    fn read_list(&mut self, command: &[Unit], line: Part, is_whole: bool) -> Result<bool> {
         let mut units = Vec::new(self.alloc);
         let mut place = Place::Start;
         let mut is_read = is_whole;
@@ -205,7 +201,8 @@ impl<'a> Docker<'a> {
         if is_read {
             self.host.add(units)?;
         } else {
-            self.host.note_name(part)?;
+            let start = command.first().map_or(line.end, |unit| unit.start());
+            self.host.note_name(line.from(start))?;
         }
         Ok(true)
     }
@@ -275,7 +272,7 @@ fn here_at(whole: Part, is_first: bool) -> Option<Here<'_>> {
         return None;
     }
     Some(Here {
-        delimiter: name.to(behind.start).bytes(),
+        delimiter: name.before(behind),
         is_stripped,
         is_script: is_first && after_quote(behind).is_ended(),
     })
