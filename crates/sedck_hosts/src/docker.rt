@@ -48,7 +48,7 @@ pub(crate) fn host_of_docker(alloc: Global, file: &[u8]) -> Result<Host> {
     let whole = Part::whole(file);
     let lines = lines_of(alloc, file, false)?;
     for line in &lines {
-        if is_escape(*line) {
+        if is_escape(line.bytes()) {
             docker.host.note_unread(whole.from(line.end))?;
             return Ok(docker.host);
         }
@@ -284,14 +284,18 @@ fn after_quote(part: Part) -> Part<'_> {
 }
 
 /// Whether the line is a directive that has a backquote continue lines.
-fn is_escape(line: Part) -> bool {
-    let mut left = "#escape=`".as_bytes().iter();
-    for byte in line.bytes() {
-        if !is_blank(*byte) && left.next() != Some(&byte.to_ascii_lowercase()) {
-            return false;
+fn is_escape(line: &[u8]) -> bool {
+    let mut rest: &[u8] = b"#escape=`";
+    for byte in line {
+        if is_blank(*byte) {
+            continue;
+        }
+        match rest {
+            [first, others @ ..] if byte.to_ascii_lowercase() == *first => rest = others,
+            _ => return false,
         }
     }
-    left.next().is_none()
+    rest.is_empty()
 }
 
 /// The line without the backslash at its end that continues it, and whether there is one: blanks may follow it.
