@@ -392,6 +392,8 @@ RECALL = [
     Row("a plain text of two lines in YAML", ACTION % "sed -n\n          's/a/b/' f", file="ci.yml", due=FOUND, words=PLAIN),
     Row("a macro of RPM", "%build\n%{__sed} -n 's/a/b/' f\n", file="a.spec", due=FOUND, words=PLAIN),
     Row("a list of words for Docker", 'FROM a\nRUN ["sed", "-n", "s/a/b/", "f"]\n', file="Dockerfile", due=FOUND, words=PLAIN),
+    Row("a list of words for Docker, with a newline", 'FROM a\nRUN ["sed", "-n", "p\\nw evil", "f"]\n', file="Dockerfile"),
+    Row("a list to which a run of Docker adds words", 'FROM a\nENTRYPOINT ["sed", "p"]\nCMD ["-e", "w evil", "f"]\n', file="Dockerfile"),
     Row("a hundred thousand substitutions without an end", '"$(' * 100000 + "sed ':x;bx' f\n", harm=LOOPS),
 ]
 

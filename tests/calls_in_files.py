@@ -172,7 +172,11 @@ ROWS = [
     ("x.mk", [], "ifdef A\nall:\n\tif sed p; then \\\n\t  sed d; fi\nendif\n", 0, [("3:5", A, ["p"]), ("4:4", A, ["d"])]),
     ("Makefile.in", [], "all:\n\t@SED@ 's/@a@/b/'\n", 5, [("2:2", IF, None)]),
     # Dockerfiles, files of continuous integration, spec files, sources of Autoconf.
-    ("Dockerfile", [], "FROM a\nRUN a && \\\n    # b\n    sed -i 's/a/b/' f\nRUN [\"sed\", \"p\"]\n", 5, [("4:5", A, ["-i", "s/a/b/", "f"])]),
+    ("Dockerfile", [], "FROM a\nRUN a && \\\n    # b\n    sed -i 's/a/b/' f\nRUN [\"sed\", \"p\"]\n", 0, [("4:5", A, ["-i", "s/a/b/", "f"]), ("5:6", A, ["p"])]),
+    ("Dockerfile", [], 'FROM a\nRUN ["sed", "-n", "s/a b/$x*/", "f", \\\n "~"]\nCMD [ "sh" , "-c" , "sed p f" ]\nHEALTHCHECK CMD ["sed","d","$f"]\n', 0,
+     [("2:6", A, ["-n", "s/a b/$x*/", "f", "~"]), ("4:22", A, ["p", "f"]), ("5:18", A, ["d", "$f"])]),
+    # What isn't a list is a line for a shell; a list needs none of the shells of POSIX.
+    ("Dockerfile", [], 'FROM a\nRUN ["sed", "p", "f",]\nSHELL ["cmd"]\nRUN ["sed", "p", "f"]\nRUN sed p f\n', 0, [("4:6", A, ["p", "f"])]),
     ("ci.yml", [], "jobs:\n  a:\n    steps:\n      - run: sed p f\n      - name: x\n        run: |\n          sed 's/a/b/' f\n          sed d\n", 0, [("4:14", A, ["p", "f"]), ("7:11", A, ["s/a/b/", "f"]), ("8:11", A, ["d"])]),
     ("ci.yml", [], "a:\n  script:\n    - sed p f\n    - \"sed \\\"s/a/b/\\\"\"\n    - 'sed ''s/c/d/'''\n", 0, [("3:7", A, ["p", "f"]), ("4:8", A, ["s/a/b/"]), ("5:8", A, ["s/c/d/"])]),
     ("a.spec", [], "Name: a\n%prep\nsed -i 's/%%a/b/' f\n%build\nsed p\n%files\nsed\n", 0, [("3:1", A, ["-i", "s/%a/b/", "f"]), ("5:1", A, ["p"])]),
@@ -514,7 +518,7 @@ UNREAD = [
     ("a.sh", "cat <<EOF\nE\\\nOF\nsed p f\nEOF\ncat <<'EOF'\nE\\\nOF\nEOF\n", ["1:7"]),
     ("a.yml", "a: {run: sed p f}\n? run\n: sed p f\nmy key: {run: sed p f}\n", ["1:10", "3:3", "4:15"]),
     ("a.sh", "echo sed -n p; which sed; apt-get install sed\ngrep sed -n f\n", []), ("a.sh", "sed $'a\\'\n'\n", ["1:8"]),
-    ("Dockerfile", "FROM a\nRUN [\"sed\", \"p\", \"f\"]\n", ["2:7"]), ("ci.yml", "a:\n  - run: >\n      sed p f\n      g\n", ["3:7"]),
+    ("Dockerfile", 'FROM a\nRUN ["sed", "s/a\\\\./b/"]\nRUN ["sed", "s/\'/b/"]\nENTRYPOINT ["/bin/sed", "p"]\nRUN ["sed", "y/a/\u00e9/"]\n', ["2:7", "3:7", "4:19", "5:7"]), ("ci.yml", "a:\n  - run: >\n      sed p f\n      g\n", ["3:7"]),
     ("configure.ac", "AC_MSG_ERROR([sed not found])\nx=`sed -n p f`\n", []),
 ]
 

@@ -2,8 +2,8 @@
 
 use crate::host::Host;
 use crate::kind::{Kind, interpreter_kind, program_kind, split_last};
-use crate::parts::{Part, lines_of};
-use sedck_origin::{Result, Unit, has_byte, is_among};
+use crate::parts::{Part, is_blank, lines_of};
+use sedck_origin::{Result, Unit, begins_with, is_among};
 use std::alloc::Global;
 
 /// A here-document of an instruction.
@@ -93,21 +93,22 @@ impl<'a> Docker<'a> {
             };
             let (name, words) = line.from(*offset).split_word();
             rest = after_options(after_first(rest));
-            let is = |other: &[u8]| name.eq_ignore_ascii_case(other);
-            if is(b"RUN") {
-                return self.read_run(rest, line);
+            let is = |other: &str| name.eq_ignore_ascii_case(other.as_bytes());
+            if is("RUN") || is("CMD") || is("ENTRYPOINT") {
+                return match self.read_list(rest, line, !is("ENTRYPOINT"))? {
+                    true => Ok(()),
+                    false if is("RUN") => self.read_run(rest, line),
+                    false => self.add(rest),
+                };
             }
-            if is(b"CMD") || is(b"ENTRYPOINT") {
-                return self.add(rest);
+            if is("SHELL") {
+                self.is_foreign = is_foreign(words);
             }
-            if is(b"SHELL") {
-                self.is_foreign = is_foreign(words.bytes());
-            }
-            if is(b"COPY") || is(b"ADD") {
+            if is("COPY") || is("ADD") {
                 self.here = here_of(rest, line);
                 self.is_skipped = true;
             }
-            if !is(b"ONBUILD") && !is(b"HEALTHCHECK") {
+            if !is("ONBUILD") && !is("HEALTHCHECK") {
                 break;
             }
         }
@@ -131,7 +132,7 @@ impl<'a> Docker<'a> {
     /// Reads a line of a here-document.
     fn read_in_here(&mut self, here: Here<'a>, line: Part<'a>) -> Result<()> {
         let stripped = if here.is_stripped {
-            line.after_any(b"\t")
+            line.after_any("\t")
         } else {
             line
         };
@@ -157,22 +158,16 @@ impl<'a> Docker<'a> {
     fn end_text(&mut self) -> Result<()> {
         let units = std::mem::replace(&mut self.units, Vec::new(self.alloc));
         if let Some(Unit::Byte(b'#', offset)) = units.first() {
-            let bytes = self.file.get(*offset..).unwrap_or(&[]);
-            if bytes.starts_with(b"#!") && interpreter_kind(bytes) != Some(Kind::Shell) {
+            let text = Part::whole(self.file).from(*offset);
+            if text.starts_with("#!") && interpreter_kind(text.bytes()) != Some(Kind::Shell) {
                 return Ok(());
             }
         }
         self.add(&units)
     }
 
-    /// Adds a command. A list of JSON's isn't read, since no shell reads it.
+    /// Adds a command, unless another shell reads it.
     fn add(&mut self, command: &[Unit]) -> Result<()> {
-        if is_list(command) {
-            if let Some(offset) = sed_in_list(self.alloc, command)? {
-                self.host.unread.push(offset)?;
-            }
-            return Ok(());
-        }
         if self.is_foreign {
             return Ok(());
         }
@@ -180,27 +175,57 @@ impl<'a> Docker<'a> {
         units.extend_from_slice(command)?;
         self.host.add(units)
     }
+
+    /// Reads a command that is a list of JSON's, and answers whether it is one: no shell reads that, so each of its strings is a word between
+    /// single quotes. One with a backslash, such a quote or another byte than ASCII's isn't read, nor is a list to which a run adds words.
+    fn read_list(&mut self, command: &[Unit], line: Part, is_whole: bool) -> Result<bool> {
+        let mut units = Vec::new(self.alloc);
+        let mut place = Place::Start;
+        let mut is_read = is_whole;
+        for unit in command {
+            let byte = unit.byte().unwrap_or(0);
+            let Some(next) = next_place(place, byte) else {
+                return Ok(false);
+            };
+            is_read &= byte.is_ascii() && byte != b'\'' && byte != b'\\';
+            units.push(match (place, next) {
+                (Place::Inside, Place::Inside) => *unit,
+                (Place::Inside, _) | (_, Place::Inside) => Unit::Byte(b'\'', unit.start()),
+                _ => Unit::Byte(b' ', unit.start()),
+            })?;
+            place = next;
+        }
+        if !matches!(place, Place::End) {
+            return Ok(false);
+        }
+        if is_read {
+            self.host.add(units)?;
+        } else {
+            let start = command.first().map_or(line.end, |unit| unit.start());
+            self.host.note_name(line.from(start))?;
+        }
+        Ok(true)
+    }
 }
 
 /// The units without the word that begins them, and without the blanks behind it.
 fn after_first(units: &[Unit]) -> &[Unit] {
-    let mut is_word = true;
-    for (index, unit) in units.iter().enumerate() {
-        let is_blank = matches!(*unit, Unit::Byte(b' ' | b'\t', _));
-        if is_blank {
-            is_word = false;
-        } else if !is_word {
-            return units.get(index..).unwrap_or(&[]);
-        }
-    }
-    &[]
+    let blanks = until_blank(units, true);
+    until_blank(blanks, false)
+}
+
+/// The units from the first on that is a blank, or that is none.
+fn until_blank(units: &[Unit], is_blank: bool) -> &[Unit] {
+    let is_there = |unit: &Unit| matches!(*unit, Unit::Byte(b' ' | b'\t', _)) == is_blank;
+    let count = units.iter().position(is_there).unwrap_or(units.len());
+    units.get(count..).unwrap_or(&[])
 }
 
 /// The units without the options before a command.
 fn after_options(units: &[Unit]) -> &[Unit] {
     let mut rest = units;
     for _ in 0..32 {
-        if !matches!(rest, [Unit::Byte(b'-', _), Unit::Byte(b'-', _), ..]) {
+        if !begins_with(rest, "--") {
             break;
         }
         rest = after_first(rest);
@@ -209,20 +234,11 @@ fn after_options(units: &[Unit]) -> &[Unit] {
 }
 
 /// Whether the words of `SHELL` name another shell than one of POSIX's.
-fn is_foreign(words: &[u8]) -> bool {
-    let mut from = 0usize;
-    let mut quotes = 0usize;
-    for (index, byte) in words.iter().enumerate() {
-        if *byte == b'"' || *byte == b'/' {
-            quotes = quotes.saturating_add(usize::from(*byte == b'"'));
-            if quotes > 1 {
-                let name = words.get(from..index).unwrap_or(&[]);
-                return program_kind(name) != Some(Kind::Shell);
-            }
-            from = index.saturating_add(1);
-        }
-    }
-    true
+fn is_foreign(words: Part) -> bool {
+    let first = words.from_any("\"").skip(1);
+    let behind = first.from_any("\"");
+    let (_, name) = split_last(first.before(behind), b'/');
+    behind.len() == 0 || program_kind(name) != Some(Kind::Shell)
 }
 
 /// The first here-document of an instruction with this last line. It is shell text by itself if nothing else stands in the instruction.
@@ -245,7 +261,7 @@ fn here_of<'a>(units: &[Unit], line: Part<'a>) -> Option<Here<'a>> {
 
 /// The here-document whose redirection begins the part: `<<`, perhaps `-`, and a name, perhaps quoted.
 fn here_at(whole: Part, is_first: bool) -> Option<Here<'_>> {
-    if !whole.bytes().starts_with(b"<<") {
+    if !whole.starts_with("<<") {
         return None;
     }
     let hyphen = whole.skip(2);
@@ -256,7 +272,7 @@ fn here_at(whole: Part, is_first: bool) -> Option<Here<'_>> {
         return None;
     }
     Some(Here {
-        delimiter: name.to(behind.start).bytes(),
+        delimiter: name.before(behind),
         is_stripped,
         is_script: is_first && after_quote(behind).is_ended(),
     })
@@ -271,7 +287,7 @@ fn after_quote(part: Part) -> Part<'_> {
 fn is_escape(line: &[u8]) -> bool {
     let mut rest: &[u8] = b"#escape=`";
     for byte in line {
-        if matches!(*byte, b' ' | b'\t') {
+        if is_blank(*byte) {
             continue;
         }
         match rest {
@@ -284,11 +300,10 @@ fn is_escape(line: &[u8]) -> bool {
 
 /// The line without the backslash at its end that continues it, and whether there is one: blanks may follow it.
 fn uncontinued(line: Part) -> (Part<'_>, bool) {
-    let last = line.bytes().iter().rposition(|byte| !b" \t".contains(byte));
-    let end = line.start.saturating_add(last.unwrap_or(0));
-    let is_quoted = end > line.start && has_byte(line.file, end.saturating_sub(1), b'\\');
-    if end < line.end && has_byte(line.file, end, b'\\') && !is_quoted {
-        (line.to(end), true)
+    let text = line.before_blanks();
+    let before = text.before_last(b'\\');
+    if before.len() < text.len() && before.before_last(b'\\').len() == before.len() {
+        (before, true)
     } else {
         (line, false)
     }
@@ -297,6 +312,8 @@ fn uncontinued(line: Part) -> (Part<'_>, bool) {
 /// Where in a list the next byte is.
 #[derive(Clone, Copy)]
 enum Place {
+    /// Before the list.
+    Start,
     /// Before a string.
     Before,
     /// In a string.
@@ -309,80 +326,18 @@ enum Place {
     End,
 }
 
-/// Where the byte behind this one is; none if no list has it there.
+/// Where the byte behind this one is; none if no list has it there, as in `[ "$a" = b ]` of a shell.
 fn next_place(place: Place, byte: u8) -> Option<Place> {
     match (place, byte) {
-        (Place::Escape, _) => Some(Place::Inside),
+        (Place::Start, b'[') => Some(Place::Before),
+        (Place::Start, _) | (Place::Inside | Place::Escape, 0..=31) => None,
         (Place::Inside, b'"') => Some(Place::Behind),
         (Place::Inside, b'\\') => Some(Place::Escape),
-        (Place::Inside, _) => Some(Place::Inside),
+        (Place::Inside | Place::Escape, _) => Some(Place::Inside),
         (_, b' ' | b'\t') => Some(place),
         (Place::Before, b'"') => Some(Place::Inside),
-        (Place::Before | Place::Behind, b']') => Some(Place::End),
         (Place::Behind, b',') => Some(Place::Before),
+        (Place::Behind, b']') => Some(Place::End),
         _ => None,
     }
-}
-
-/// Whether the units are a list of strings, and no command of a shell as `[ "$a" = b ]`.
-fn is_list(units: &[Unit]) -> bool {
-    let [Unit::Byte(b'[', _), inner @ ..] = units else {
-        return false;
-    };
-    let mut place = Place::Before;
-    for unit in inner {
-        let Unit::Byte(byte, _) = *unit else {
-            return false;
-        };
-        let Some(next) = next_place(place, byte) else {
-            return false;
-        };
-        place = next;
-    }
-    matches!(place, Place::End)
-}
-
-/// The offset of the first sed in a list: a string that is its name or path, or a call in a string behind the name of a shell.
-fn sed_in_list(alloc: Global, units: &[Unit]) -> Result<Option<usize>> {
-    let mut list = Vec::new(alloc);
-    for unit in units {
-        if let Unit::Byte(byte, _) = *unit {
-            list.push(byte)?;
-        }
-    }
-    let strings = strings_of(alloc, &list)?;
-    let mut has_shell = false;
-    for string in &strings {
-        let (_, name) = split_last(string.bytes(), b'/');
-        if is_among(name, &["sed", "gsed"]) {
-            let index = string.end.saturating_sub(name.len());
-            return Ok(units.get(index).map(|unit| unit.start()));
-        }
-        if has_shell {
-            if let Some(index) = string.mention_of_sed() {
-                return Ok(units.get(index).map(|unit| unit.start()));
-            }
-        }
-        has_shell = has_shell || program_kind(name) == Some(Kind::Shell);
-    }
-    Ok(None)
-}
-
-/// The strings of a list, without their quotes.
-fn strings_of(alloc: Global, list: &[u8]) -> Result<Vec<Part<'_>>> {
-    let mut strings = Vec::new(alloc);
-    let mut string = Part::whole(list);
-    let mut is_inside = false;
-    let mut is_escaped = false;
-    for (index, byte) in list.iter().enumerate() {
-        let is_quote = *byte == b'"' && !is_escaped;
-        is_escaped = *byte == b'\\' && !is_escaped;
-        if is_quote && is_inside {
-            strings.push(string.to(index))?;
-        } else if is_quote {
-            string = string.from(index.saturating_add(1));
-        }
-        is_inside ^= is_quote;
-    }
-    Ok(strings)
 }

@@ -60,6 +60,14 @@ impl Host {
         }
         Ok(())
     }
+
+    /// Notes the first name of a sed in a part, whatever is behind it.
+    pub(crate) fn note_name(&mut self, part: Part) -> Result<()> {
+        if let Some(offset) = part.name_of_sed() {
+            self.unread.push(offset)?;
+        }
+        Ok(())
+    }
 }
 
 /// The shell text in a file of this kind; nothing of a shell script, which is one as a whole.
@@ -85,27 +93,27 @@ static QUADRIGRAPHS: &'static [&'static str] = &[
 /// The shell text of a source of Autoconf.
 fn host_of_autoconf(alloc: Global, file: &[u8]) -> Result<Host> {
     let mut units = Vec::new(alloc);
-    let mut resume = 0usize;
-    let mut is_comment = false;
+    let mut rest = Part::whole(file);
     let mut before = b'\n';
-    for (index, byte) in file.iter().enumerate() {
-        let rest = file.get(index..).unwrap_or(&[]);
-        if *byte == b'\n' {
-            is_comment = false;
-        } else if !is_name_byte(before) {
-            is_comment |= matches!(rest, [b'd', b'n', b'l', next, ..] if !is_name_byte(*next));
+    for _ in 0..file.len() {
+        let is_comment = !is_name_byte(before)
+            && rest.starts_with("dnl")
+            && rest.skip(3).first().is_some_and(|next| !is_name_byte(next));
+        if is_comment {
+            rest = rest.from_any("\n");
         }
-        before = *byte;
-        if is_comment || index < resume {
-            continue;
-        }
-        let end = index.saturating_add(4);
-        if is_among(file.get(index..end).unwrap_or(&[]), QUADRIGRAPHS) {
-            resume = end;
-            units.push(Unit::made(index, end))?;
+        let Some(byte) = rest.first() else {
+            break;
+        };
+        let behind = rest.skip(4);
+        let (unit, next) = if is_among(rest.before(behind), QUADRIGRAPHS) {
+            (Unit::made(rest.start, behind.start), behind)
         } else {
-            units.push(Unit::Byte(*byte, index))?;
-        }
+            (Unit::Byte(byte, rest.start), rest.skip(1))
+        };
+        units.push(unit)?;
+        before = byte;
+        rest = next;
     }
     let mut host = Host::new(alloc);
     host.add(units)?;

@@ -1,6 +1,6 @@
 //! The kinds of files that have shell text.
 
-use crate::parts::Part;
+use crate::parts::{Part, is, starts_with};
 use sedck_origin::{is_among, named};
 
 /// A kind of files that have shell text.
@@ -111,7 +111,7 @@ pub fn kind_of(path: &str, bytes: &[u8]) -> Option<Kind> {
     let (folders, name) = split_last(path.as_bytes(), b'/');
     let (_, folder) = split_last(folders, b'/');
     match (named_kind(folder, name), interpreter_kind(bytes)) {
-        (Some(Kind::Shell), found) if bytes.starts_with(b"#!") => found,
+        (Some(Kind::Shell), found) if starts_with(bytes, "#!") => found,
         (Some(Kind::Make), Some(found)) => Some(found),
         (Some(kind), _) => Some(kind),
         (None, found) => found,
@@ -121,12 +121,12 @@ pub fn kind_of(path: &str, bytes: &[u8]) -> Option<Kind> {
 /// Whether the shell that runs a file with this path and these bytes reads `$'..'`: by its first line, or by its name where it has none
 /// with an interpreter. A plain `sh` needn't read it.
 pub fn reads_dollar_quotes(path: &str, bytes: &[u8]) -> bool {
-    if bytes.starts_with(b"#!") {
+    if starts_with(bytes, "#!") {
         return interpreter(bytes).is_some_and(is_dollar_quoting);
     }
     let path = path.as_bytes();
-    let path = path.strip_suffix(b".in").unwrap_or(path);
-    path.ends_with(b".bash") || path.ends_with(b".ksh")
+    let path = path.strip_suffix(".in".as_bytes()).unwrap_or(path);
+    path.ends_with(".bash".as_bytes()) || path.ends_with(".ksh".as_bytes())
 }
 
 /// Whether the shell of this name reads `$'..'`.
@@ -150,7 +150,7 @@ pub(crate) fn split_last(bytes: &[u8], byte: u8) -> (&[u8], &[u8]) {
 
 /// The kind that a file with this name has in this folder alone.
 fn kind_in_folder(folder: &[u8], name: &[u8]) -> Option<Kind> {
-    if is_among(folder, &["po"]) && name.starts_with(b"Rules-") {
+    if is(folder, "po") && starts_with(name, "Rules-") {
         return Some(Kind::Make);
     }
     for (other, file, kind) in IN_FOLDERS {
@@ -166,7 +166,7 @@ fn named_kind(folder: &[u8], name: &[u8]) -> Option<Kind> {
     if let Some(kind) = named(WHOLE, name) {
         return Some(kind);
     }
-    let name = name.strip_suffix(b".in").unwrap_or(name);
+    let name = name.strip_suffix(".in".as_bytes()).unwrap_or(name);
     if let Some(kind) = kind_in_folder(folder, name) {
         return Some(kind);
     }
@@ -186,7 +186,7 @@ fn dotted_kind(stem: &[u8], last: &[u8]) -> Option<Kind> {
     match named(STEMS, first) {
         Some(Kind::Make) if is_among(last, OTHERS) => None,
         Some(kind) if before.is_empty() => Some(kind),
-        _ if may_be_other && is_among(last, &["m4"]) => None,
+        _ if may_be_other && is(last, "m4") => None,
         _ => named(SUFFIXES, last),
     }
 }
@@ -198,16 +198,16 @@ pub(crate) fn interpreter_kind(bytes: &[u8]) -> Option<Kind> {
 
 /// The name of the interpreter in the first line, without the path to it.
 fn interpreter(bytes: &[u8]) -> Option<&[u8]> {
-    let line = bytes.strip_prefix(b"#!")?;
-    let end = line
-        .iter()
-        .position(|byte| b"\n\r".contains(byte))
-        .unwrap_or(line.len());
-    let mut rest = Part::whole(line).to(end).after_blanks();
+    let whole = Part::whole(bytes);
+    if !whole.starts_with("#!") {
+        return None;
+    }
+    let line = whole.skip(2);
+    let mut rest = line.to(line.from_any("\n\r").start).after_blanks();
     for _ in 0..8 {
         let (word, next) = rest.split_word();
         let (_, name) = split_last(word, b'/');
-        let is_passed = is_among(name, RUNNERS) || name.starts_with(b"-") || name.contains(&b'=');
+        let is_passed = is_among(name, RUNNERS) || starts_with(name, "-") || name.contains(&b'=');
         if !is_passed {
             return Some(name);
         }

@@ -2,15 +2,15 @@
 
 use crate::host::{Assignment, Host};
 use crate::make_text::{MadeText, Reading, after_conditionals, read_make_text, reference_end};
-use crate::parts::{Part, lines_of};
+use crate::parts::{Part, is, is_in, lines_of};
 use sedck_origin::{Result, Unit, is_among, named};
 use std::alloc::Global;
 
 /// The variable whose value begins the lines of recipes in place of a tab.
-const PREFIX: &[u8] = b".RECIPEPREFIX";
+const PREFIX: &str = ".RECIPEPREFIX";
 
 /// The name in whose place Autoconf puts an assignment to `MAKE`.
-const SET_MAKE: &[u8] = b"SET_MAKE";
+const SET_MAKE: &str = "SET_MAKE";
 
 /// Words that may stand before an assignment.
 static MODIFIERS: &'static [&'static str] = &["export", "override", "private"];
@@ -129,7 +129,7 @@ impl Make {
         if self.defines > 0 {
             return self.read_in_define(line, statement);
         }
-        let has_tab = line.bytes().starts_with(b"\t");
+        let has_tab = line.starts_with("\t");
         if has_tab && self.is_in_rule {
             return self.add(line, Reading::Recipe);
         }
@@ -161,9 +161,9 @@ impl Make {
     /// Reads a line between `define` and `endef`.
     fn read_in_define(&mut self, line: Part, statement: Part) -> Result<()> {
         let (word, _) = statement.split_word();
-        if is_among(word, &["endef"]) {
+        if is(word, "endef") {
             self.defines = self.defines.saturating_sub(1);
-        } else if is_among(word, &["define"]) {
+        } else if is(word, "define") {
             self.defines = self.defines.saturating_add(1);
         } else {
             return self.add(line, Reading::Recipe);
@@ -178,13 +178,13 @@ impl Make {
             return self.read_definition(line, definition);
         }
         let (word, rest) = line.split_word();
-        if is_among(word, &["define"]) {
+        if is(word, "define") {
             self.is_in_rule = false;
             self.defines = 1;
-            let end = first_of(rest, b" \t=:?+!#");
-            return self.assign_unknown(rest.to(end).bytes(), line);
+            let name = rest.before(until(rest, " \t=:?+!#"));
+            return self.assign_unknown(name, line);
         }
-        if is_among(word, &["undefine"]) {
+        if is(word, "undefine") {
             let (name, _) = rest.split_word();
             self.assign_unknown(name, line)?;
         }
@@ -196,17 +196,18 @@ impl Make {
 
     /// Reads a line with targets, behind which an assignment or a recipe may stand.
     fn read_rule(&mut self, line: Part) -> Result<()> {
-        let colon = line.from(first_of(line, b":#;"));
+        let colon = until(line, ":#;");
         if !colon.begins_with(b':') {
-            self.host.is_open |= begins_placeholder(line);
+            // Any lines may stand in its place.
+            self.host.is_open |= line.placeholder().is_some_and(|name| !is(name, SET_MAKE));
             return self.add(line, Reading::Value);
         }
         self.is_in_rule = true;
-        let rest = colon.after_any(b":");
+        let rest = colon.after_any(":");
         if let Some(definition) = definition_at(after_modifiers(rest)) {
             return self.add_unknown(line, definition);
         }
-        let behind = line.from(first_of(rest, b";#"));
+        let behind = until(rest, ";#");
         self.add(line.to(behind.start), Reading::Value)?;
         if behind.begins_with(b';') {
             return self.add(behind.skip(1), Reading::Recipe);
@@ -251,7 +252,7 @@ impl Make {
     fn read_definition(&mut self, line: Part, definition: Definition<'_>) -> Result<()> {
         let (name, operator) = (definition.name.bytes(), definition.operator);
         let value = definition.value;
-        if name == PREFIX && !value.is_ended() {
+        if is(name, PREFIX) && !value.is_ended() {
             self.note_prefix(line)?;
         }
         if matches!(operator, Operator::Append) || !is_known(name) {
@@ -331,38 +332,27 @@ fn after_modifiers(line: Part) -> Part<'_> {
 /// What the line does to those behind it, if it is a directive.
 fn effect_of(line: Part) -> Option<Effect> {
     if !line.begins_with(b'.') {
-        let end = first_of(line, b" \t#");
-        return named(EFFECTS, line.to(end).bytes());
+        return named(EFFECTS, line.before(until(line, " \t#")));
     }
     let name = line.skip(1).after_blanks();
-    let end = name.after_any(b"-").after_name().start;
-    named(DOTTED, name.to(end).bytes())
-}
-
-/// Whether the line begins with a name with `@` around it in whose place any lines may stand.
-fn begins_placeholder(line: Part) -> bool {
-    let name = line.skip(1);
-    let behind = name.after_name();
-    let is_set_make = name.to(behind.start).bytes() == SET_MAKE;
-    line.begins_with(b'@') && behind.begins_with(b'@') && !is_set_make
+    named(DOTTED, name.before(name.after_any("-").after_name()))
 }
 
 /// The assignment that the part is, if it is one: a name, blanks, and an operator.
 fn definition_at(whole: Part) -> Option<Definition<'_>> {
-    let mut end = first_of(whole, b" \t=:;#");
-    let before = end.saturating_sub(1);
-    let sign = whole.file.get(before);
-    if whole.from(end).begins_with(b'=') && matches!(sign, Some(b'?' | b'+' | b'!')) {
-        end = before;
+    let rest = until(whole, " \t=:;#");
+    let mut name = whole.to(rest.start);
+    if rest.begins_with(b'=') && matches!(name.bytes().last(), Some(b'?' | b'+' | b'!')) {
+        name = name.to(name.end.saturating_sub(1));
     }
-    if end <= whole.start {
+    if name.len() == 0 {
         return None;
     }
-    let rest = whole.from(end).after_blanks();
+    let rest = whole.from(name.end).after_blanks();
     for (written, operator) in OPERATORS {
-        if rest.bytes().starts_with(written.as_bytes()) {
+        if rest.starts_with(written) {
             return Some(Definition {
-                name: whole.to(end),
+                name,
                 operator: *operator,
                 value: rest.skip(written.len()).after_blanks(),
             });
@@ -371,34 +361,30 @@ fn definition_at(whole: Part) -> Option<Definition<'_>> {
     None
 }
 
-/// Where the first of these bytes is that stands outside of references and behind no backslash; the end of the part if there is none.
-fn first_of(part: Part, wanted: &[u8]) -> usize {
-    let mut resume = part.start;
-    for index in part.start..part.end {
-        if index < resume {
-            continue;
-        }
-        match part.file.get(index) {
-            Some(b'$') => resume = reference_end(part.from(index)),
-            Some(b'\\') => resume = index.saturating_add(2),
-            Some(byte) if wanted.contains(byte) => return index,
-            _ => {}
-        }
+/// The part from the first of these bytes on that stands outside of references and behind no backslash.
+fn until<'a>(part: Part<'a>, wanted: &str) -> Part<'a> {
+    let mut rest = part;
+    for _ in 0..part.len() {
+        rest = match rest.first() {
+            Some(b'$') => rest.from(reference_end(rest)),
+            Some(b'\\') => rest.skip(2),
+            Some(byte) if !is_in(byte, wanted) => rest.skip(1),
+            _ => break,
+        };
     }
-    part.end
+    part.from(rest.start.min(part.end))
 }
 
 /// The command of a recipe's line: what is behind blanks, `@`, `-` and `+`, but not behind the `@` of a name with two of them around it.
 fn recipe_command(line: Part) -> Part<'_> {
-    for index in line.start..line.end {
-        let rest = line.from(index);
-        let name = rest.skip(1);
-        let behind = name.after_name();
-        match line.file.get(index) {
+    let mut rest = line;
+    for _ in 0..line.len() {
+        match rest.first() {
             Some(b' ' | b'\t' | b'-' | b'+') => {}
-            Some(b'@') if behind.start <= name.start || !behind.begins_with(b'@') => {}
-            _ => return rest,
+            Some(b'@') if rest.placeholder().is_none_or(|name| name.is_empty()) => {}
+            _ => break,
         }
+        rest = rest.skip(1);
     }
-    line.from(line.end)
+    rest
 }

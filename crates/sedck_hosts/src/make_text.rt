@@ -1,7 +1,7 @@
 //! What make does to a part of a makefile before the shell sees it: references are replaced, `$$` is a dollar sign, and lines are joined.
 
-use crate::parts::{Part, QUOTES};
-use sedck_origin::{Result, Unit, has_byte, is_among, named};
+use crate::parts::{Brackets, Part, QUOTES, is, is_in};
+use sedck_origin::{Result, Unit, has_byte, named};
 use std::alloc::Global;
 
 /// What a part of a makefile is.
@@ -42,10 +42,7 @@ pub(crate) struct MadeText<'a> {
 struct Open {
     /// The offset of its dollar sign.
     start: usize,
-    opener: u8,
-    closer: u8,
-    /// How many more pairs are open within it.
-    count: usize,
+    brackets: Brackets,
     /// Where the argument of `$(shell ..)` begins that is read as a text by itself.
     argument: Option<usize>,
     /// What its arguments are, from the one on that is read.
@@ -86,7 +83,7 @@ const DEPTH: usize = 100;
 const SHELLS: usize = 4;
 
 /// What may close a word and the reference that it ends.
-const CLOSERS: &[u8] = b"\"')}";
+const CLOSERS: &str = "\"')}";
 
 /// The state of reading a part of a makefile.
 #[derive(Drop)]
@@ -103,8 +100,8 @@ struct MakeText<'a> {
     quoting: Quoting,
     /// How many those are.
     looked: usize,
-    /// The offset with which reading goes on.
-    resume: usize,
+    /// What hasn't been read yet.
+    rest: Part<'a>,
 }
 
 /// Reads a part of a makefile.
@@ -130,19 +127,21 @@ pub(crate) fn read_make_text<'a>(
         },
         quoting: Quoting::default(),
         looked: 0,
-        resume: whole.start,
+        rest: whole,
     };
-    for index in whole.start..whole.end {
-        match whole.file.get(index) {
-            Some(byte) if index >= text.resume => text.read(index, *byte)?,
-            _ => {}
-        }
+    for _ in 0..whole.len() {
+        let here = text.rest;
+        let Some(byte) = here.first() else {
+            break;
+        };
+        text.rest = here.skip(1);
+        text.read(here, byte)?;
     }
     text.end_part()?;
     Ok(text.output)
 }
 
-impl MakeText<'_> {
+impl<'a> MakeText<'a> {
     /// Ends the part, where a reference may be open.
     fn end_part(&mut self) -> Result<()> {
         let Some(open) = self.opens.first() else {
@@ -151,22 +150,22 @@ impl MakeText<'_> {
         let start = open.start;
         self.output.units.push(Unit::made(start, self.whole.end))?;
         if !self.is_noted {
-            return self.note(start);
+            return self.note(self.whole.from(start));
         }
         Ok(())
     }
 
-    /// Notes the first call of sed from this offset on, which isn't read.
-    fn note(&mut self, start: usize) -> Result<()> {
-        if let Some(offset) = self.whole.from(start).mention_of_sed() {
+    /// Notes the first call of sed in what isn't read.
+    fn note(&mut self, part: Part<'a>) -> Result<()> {
+        if let Some(offset) = part.mention_of_sed() {
             self.is_noted = true;
             self.output.unread.push(offset)?;
         }
         Ok(())
     }
 
-    /// Notes a call of sed that begins at this offset, where the text isn't read: one in each reference.
-    fn look(&mut self, index: usize) -> Result<()> {
+    /// Notes a call of sed that begins here, where the text isn't read: one in each reference.
+    fn look(&mut self, here: Part<'a>) -> Result<()> {
         let is_unread = !self.opens.is_empty() || matches!(self.reading, Reading::Unread);
         if self.is_noted || !is_unread {
             return Ok(());
@@ -176,30 +175,32 @@ impl MakeText<'_> {
             _ => QUOTES,
         };
         // An argument may be open that is no text which a shell may read, or is read by itself.
-        if self.whole.from(index).is_call(closers)
-            && !self.opens.iter().any(|open| open.function.quiet > 0)
-        {
+        if here.is_call(closers) && !self.opens.iter().any(|open| open.function.quiet > 0) {
             self.is_noted = true;
-            self.output.unread.push(index)?;
+            self.output.unread.push(here.start)?;
         }
         Ok(())
     }
 
-    /// Reads the byte at this offset.
-    fn read(&mut self, index: usize, byte: u8) -> Result<()> {
-        self.look(index)?;
+    /// Reads the byte that begins this part.
+    fn read(&mut self, here: Part<'a>, byte: u8) -> Result<()> {
+        self.look(here)?;
         let is_outside = self.opens.is_empty();
         match byte {
-            b'$' => self.read_dollar(index),
-            b'\\' if is_outside => self.read_backslash(index),
+            b'$' => self.read_dollar(here),
+            b'\\' if is_outside => self.read_backslash(here),
             b'#' if is_outside && matches!(self.reading, Reading::Value | Reading::Unread) => {
-                self.resume = self.whole.end;
-                Ok(())
+                Ok(self.end_text())
             }
-            b'(' | b'{' | b')' | b'}' if !is_outside => self.count(index, byte),
-            b',' if !is_outside => self.end_argument(),
-            _ => self.add(Unit::Byte(byte, index)),
+            b'(' | b'{' | b')' | b'}' if !is_outside => self.count(here, byte),
+            b',' if !is_outside => Ok(self.end_argument()),
+            _ => self.add(Unit::Byte(byte, here.start)),
         }
+    }
+
+    /// Leaves the rest of the part.
+    fn end_text(&mut self) {
+        self.rest = self.whole.from(self.whole.end);
     }
 
     /// Adds a unit, unless it is within a reference.
@@ -210,60 +211,42 @@ impl MakeText<'_> {
         Ok(())
     }
 
-    /// Adds the bytes between these offsets.
-    fn add_bytes(&mut self, start: usize, end: usize) -> Result<()> {
-        self.whole.between(start, end).push(&mut self.output.units)
-    }
-
-    /// The byte at this offset of the part.
-    fn byte(&self, index: usize) -> Option<u8> {
-        self.whole.from(index).bytes().first().copied()
-    }
-
-    /// What is behind this offset, without what Automake writes before a line.
-    fn line_from(&self, start: usize) -> Part<'_> {
-        after_conditionals(self.whole.from(start))
+    /// Adds the unit in place of the bytes before the rest.
+    fn add_before(&mut self, rest: Part<'a>, unit: Unit) -> Result<()> {
+        self.rest = rest;
+        self.add(unit)
     }
 
     /// Reads a reference, or `$$`.
-    fn read_dollar(&mut self, index: usize) -> Result<()> {
-        let next = index.saturating_add(1);
-        let after = next.saturating_add(1);
-        let end = after.saturating_add(1);
+    fn read_dollar(&mut self, here: Part<'a>) -> Result<()> {
+        let (next, after) = (here.skip(1), here.skip(2));
         let is_recipe = matches!(self.reading, Reading::Recipe);
-        match self.byte(next) {
-            None => self.add(Unit::made(index, next)),
-            Some(b'$') => {
-                self.resume = after;
-                self.add(Unit::Byte(b'$', next))
+        match next.first() {
+            None => self.add(Unit::made(here.start, next.start)),
+            Some(b'$') => self.add_before(after, Unit::Byte(b'$', next.start)),
+            Some(byte @ (b'(' | b'{')) => self.open(here, Brackets::new(byte)),
+            Some(b'\\') if !is_recipe && after.first() == Some(b'\n') => {
+                let line = after.skip(1);
+                let rest = after_conditionals(line).after_blanks();
+                self.add_before(rest, Unit::made(here.start, line.start))
             }
-            Some(b'(') => self.open(index, b'(', b')'),
-            Some(b'{') => self.open(index, b'{', b'}'),
-            Some(b'\\') if !is_recipe && self.byte(after) == Some(b'\n') => {
-                self.resume = self.line_from(end).after_blanks().start;
-                self.add(Unit::made(index, end))
-            }
-            Some(_) => {
-                self.resume = after;
-                self.add(Unit::made(index, after))
-            }
+            Some(_) => self.add_before(after, Unit::made(here.start, after.start)),
         }
     }
 
     /// Begins a reference with a bracket.
-    fn open(&mut self, start: usize, opener: u8, closer: u8) -> Result<()> {
-        let from = start.saturating_add(2);
-        self.resume = from;
+    fn open(&mut self, here: Part<'a>, brackets: Brackets) -> Result<()> {
+        let rest = here.skip(2);
+        self.rest = rest;
         if self.opens.len() >= DEPTH {
-            self.resume = self.whole.end;
-            return self.note(from);
+            self.end_text();
+            return self.note(rest);
         }
         self.is_noted = self.is_noted && !self.opens.is_empty();
-        let rest = self.whole.from(from);
         let name = called_name(rest);
-        self.output.has_eval |= is_among(name, &["eval"]);
+        self.output.has_eval |= is(name, "eval");
         // Beyond so many of them the argument of `$(shell ..)` isn't read by itself.
-        let is_shell = self.shells < SHELLS && is_among(name, &["shell"]);
+        let is_shell = self.shells < SHELLS && is(name, "shell");
         let argument = is_shell.then_some(rest.skip(5).after_blanks().start);
         let (quiet, is_choice) = if is_shell {
             (ALL, false)
@@ -272,10 +255,8 @@ impl MakeText<'_> {
         };
         self.shells = self.shells.saturating_add(usize::from(is_shell));
         self.opens.push(Open {
-            start,
-            opener,
-            closer,
-            count: 0,
+            start: here.start,
+            brackets,
             argument,
             function: Function { quiet, is_choice },
         })?;
@@ -283,119 +264,101 @@ impl MakeText<'_> {
     }
 
     /// Ends an argument of a reference, unless the comma is between brackets.
-    fn end_argument(&mut self) -> Result<()> {
+    fn end_argument(&mut self) {
         if let Some(open) = self.opens.last_mut() {
-            let is_argument = open.count == 0;
+            let is_argument = !open.brackets.is_nested();
             open.function.quiet = open.function.quiet.saturating_sub(usize::from(is_argument));
         }
-        Ok(())
     }
 
     /// Reads a bracket within a reference, which may close it: make counts those of the reference's own sort.
-    fn count(&mut self, index: usize, byte: u8) -> Result<()> {
+    fn count(&mut self, here: Part<'a>, byte: u8) -> Result<()> {
         let Some(open) = self.opens.pop() else {
             return Ok(());
         };
-        let mut count = open.count;
-        if byte == open.opener {
-            count = count.saturating_add(1);
-        } else if byte == open.closer {
-            if count == 0 {
-                return self.close(open, index);
-            }
-            count = count.saturating_sub(1);
+        match open.brackets.after(byte) {
+            Some(brackets) => Ok(self.opens.push(Open { brackets, ..open })?),
+            None => self.close(open, here),
         }
-        self.opens.push(Open { count, ..open })?;
-        Ok(())
     }
 
-    /// Closes a reference, whose bracket is at this offset. The arguments in an argument were found with it.
-    fn close(&mut self, open: Open, index: usize) -> Result<()> {
+    /// Closes a reference, whose bracket begins this part. The arguments in an argument were found with it.
+    fn close(&mut self, open: Open, here: Part<'a>) -> Result<()> {
         if let Some(start) = open.argument {
             let level = self.shells;
             self.shells = level.saturating_sub(1);
             if !matches!(self.reading, Reading::Argument(_)) {
-                let part = self.whole.between(start, index);
+                let part = self.whole.between(start, here.start);
                 self.output.arguments.push(Argument { part, level })?;
             }
         }
-        self.add(Unit::made(open.start, index.saturating_add(1)))
+        self.add(Unit::made(open.start, here.skip(1).start))
     }
 
     /// Reads a backslash outside of references. One before a newline stays in a recipe, where a tab that begins the next line is left out.
-    fn read_backslash(&mut self, index: usize) -> Result<()> {
-        let next = index.saturating_add(1);
-        let after = next.saturating_add(1);
-        let has_newline = self.byte(next) == Some(b'\n');
+    fn read_backslash(&mut self, here: Part<'a>) -> Result<()> {
+        let after = here.skip(2);
+        let has_newline = here.skip(1).first() == Some(b'\n');
         match self.reading {
             Reading::Recipe if has_newline => {
-                self.add_bytes(index, after)?;
-                let start = self.line_from(after).start;
-                let has_tab = self.byte(start) == Some(b'\t');
-                self.resume = start.saturating_add(usize::from(has_tab));
-                Ok(())
+                let line = after_conditionals(after);
+                self.rest = line.skip(usize::from(line.first() == Some(b'\t')));
+                here.to(after.start).push(&mut self.output.units)
             }
-            _ if has_newline => self.join_lines(index, after),
-            Reading::Value | Reading::Unread => self.read_backslashes(index),
-            _ => self.add(Unit::Byte(b'\\', index)),
+            _ if has_newline => self.join_lines(here, after),
+            Reading::Value | Reading::Unread => self.read_backslashes(here),
+            _ => self.add(Unit::Byte(b'\\', here.start)),
         }
     }
 
     /// Reads backslashes in a value: before `#` each two are one, and one more makes that a `#`, which begins a comment otherwise.
-    fn read_backslashes(&mut self, index: usize) -> Result<()> {
-        let end = self.whole.from(index).after_any(b"\\").start;
-        let last = end.saturating_sub(1);
-        if self.byte(end) != Some(b'#') {
-            self.resume = last;
-            if last <= index {
-                self.resume = end;
-                return self.add(Unit::Byte(b'\\', index));
-            }
-            return self.add_bytes(index, last);
+    fn read_backslashes(&mut self, here: Part<'a>) -> Result<()> {
+        let behind = here.after_any("\\");
+        let count = here.before(behind).len();
+        if behind.first() != Some(b'#') {
+            // The last one may be before a newline.
+            let count = count.saturating_sub(1).max(1);
+            self.rest = here.skip(count);
+            return here.to(self.rest.start).push(&mut self.output.units);
         }
-        let count = end.saturating_sub(index);
-        self.add_bytes(index, index.saturating_add(count / 2))?;
+        here.to(here.skip(count / 2).start)
+            .push(&mut self.output.units)?;
         if count % 2 == 0 {
-            self.resume = self.whole.end;
-            return Ok(());
+            return Ok(self.end_text());
         }
-        self.resume = end.saturating_add(1);
-        self.add(Unit::Byte(b'#', end))
+        self.add_before(behind.skip(1), Unit::Byte(b'#', behind.start))
     }
 
     /// Joins two lines by a blank: one of those in the file beside the backslash, since a unit has its place there.
-    fn join_lines(&mut self, index: usize, next: usize) -> Result<()> {
+    fn join_lines(&mut self, here: Part<'a>, next: Part<'a>) -> Result<()> {
         let before = self.take_blanks();
-        let line = self.line_from(next);
-        let (start, end) = (line.start, line.after_blanks().start);
-        self.resume = end;
+        let line = after_conditionals(next);
+        self.rest = line.after_blanks();
         if self.output.units.is_empty() || self.is_joined() {
             return Ok(());
         }
-        let blank = match (before, self.blank_in(start, end)) {
+        let blank = match (before, first_blank(line.to(self.rest.start))) {
             (Some(Unit::Byte(b'\t', _)), Some(behind)) => Some(behind),
             (None, behind) => behind,
             _ => before,
         };
-        self.join_by(blank, Unit::made(index, next))
+        self.join_by(blank, Unit::made(here.start, next.start))
     }
 
     /// Joins two lines by the blank, or without one behind an operator. A tab is what make's space is only where no quote is open.
     fn join_by(&mut self, blank: Option<Unit>, hole: Unit) -> Result<()> {
-        for index in self.looked..self.output.units.len() {
-            if let Some(unit) = self.output.units.get(index) {
-                self.quoting.pass(*unit);
-            }
+        for unit in self.output.units.iter().skip(self.looked) {
+            self.quoting.pass(*unit);
         }
         self.looked = self.output.units.len();
-        let next = self.byte(self.resume).unwrap_or(b' ');
+        let next = self.rest.first().unwrap_or(b' ');
         match blank {
             Some(unit) if self.quoting.is_bare() || unit.byte() == Some(b' ') => self.add(unit),
             None if self.quoting.is_apart(next) => Ok(()),
             _ => {
                 // A call of sed isn't read behind a hole: its name and that are one word.
-                if self.whole.from(self.resume).is_call(QUOTES) {
-                    self.output.unread.push(self.resume)?;
+                if self.rest.is_call(QUOTES) {
+                    self.output.unread.push(self.rest.start)?;
                 }
                 self.add(hole)
             }
@@ -425,27 +388,27 @@ impl MakeText<'_> {
         }
         taken
     }
+}
 
-    /// A blank between these offsets: a space, if there is one.
-    fn blank_in(&self, start: usize, end: usize) -> Option<Unit> {
-        let mut found = None;
-        for index in start..end {
-            match self.byte(index) {
-                Some(b' ') => return Some(Unit::Byte(b' ', index)),
-                Some(b'\t') => found = Some(Unit::Byte(b'\t', index)),
-                _ => {}
-            }
-        }
-        found
-    }
+/// A blank of these: the first space, or else the last tab.
+fn first_blank(blanks: Part) -> Option<Unit> {
+    let space = blanks.from_any(" ");
+    let found = if space.len() > 0 {
+        space
+    } else {
+        blanks.skip(blanks.len().saturating_sub(1))
+    };
+    Some(Unit::Byte(found.first()?, found.start))
 }
 
 /// The name of the function whose call begins the part: it is followed by a blank or the end of a line that is continued.
 fn called_name(part: Part) -> &[u8] {
-    let name = part.after_any(b"abcdefghijklmnopqrstuvwxyz-");
-    match name.bytes() {
-        [b' ' | b'\t' | b'\n', ..] | [b'\\', b'\n', ..] => part.to(name.start).bytes(),
-        _ => &[],
+    let name = part.after_any("abcdefghijklmnopqrstuvwxyz-");
+    let is_call = name.first().is_some_and(|byte| is_in(byte, " \t\n"));
+    if is_call || name.starts_with("\\\n") {
+        part.before(name)
+    } else {
+        &[]
     }
 }
 
@@ -455,8 +418,8 @@ pub(crate) fn after_conditionals(whole: Part) -> Part<'_> {
     for _ in 0..8 {
         let name = rest.skip(1);
         let behind = name.after_name();
-        let bytes = name.to(behind.start).bytes();
-        let is_name = bytes.ends_with(b"_TRUE") || bytes.ends_with(b"_FALSE");
+        let bytes = name.before(behind);
+        let is_name = bytes.ends_with("_TRUE".as_bytes()) || bytes.ends_with("_FALSE".as_bytes());
         if !rest.begins_with(b'@') || !is_name {
             break;
         }
@@ -468,22 +431,17 @@ pub(crate) fn after_conditionals(whole: Part) -> Part<'_> {
 /// Where the reference ends that begins the part with a byte, and has brackets or a single letter; the end of the part if it isn't
 /// closed.
 pub(crate) fn reference_end(part: Part) -> usize {
-    let inner = part.skip(2);
-    let (opener, closer) = match part.file.get(part.start.saturating_add(1)) {
-        Some(b'(') => (b'(', b')'),
-        Some(b'{') => (b'{', b'}'),
-        _ => return inner.start,
-    };
-    let mut count = 0usize;
-    for index in inner.start..inner.end {
-        let byte = part.file.get(index).copied().unwrap_or(b' ');
-        if byte == opener {
-            count = count.saturating_add(1);
-        } else if byte == closer {
-            if count == 0 {
-                return index.saturating_add(1);
-            }
-            count = count.saturating_sub(1);
+    let mut rest = part.skip(2);
+    let opener = part.skip(1).first().unwrap_or(b' ');
+    if opener != b'(' && opener != b'{' {
+        return rest.start;
+    }
+    let mut brackets = Brackets::new(opener);
+    for byte in rest.bytes() {
+        rest = rest.skip(1);
+        match brackets.after(*byte) {
+            Some(open) => brackets = open,
+            None => return rest.start,
         }
     }
     part.end

@@ -44,6 +44,36 @@ impl<'a> Part<'a> {
         self.file.get(self.start..self.end).unwrap_or(&[])
     }
 
+    /// Its bytes before this part of it.
+    pub fn before(self, rest: Part) -> &'a [u8] {
+        self.to(rest.start).bytes()
+    }
+
+    /// How many bytes it has.
+    pub fn len(self) -> usize {
+        self.end.saturating_sub(self.start)
+    }
+
+    /// Its first byte.
+    pub fn first(self) -> Option<u8> {
+        if self.start < self.end {
+            self.file.get(self.start).copied()
+        } else {
+            None
+        }
+    }
+
+    /// Whether its bytes begin with this text.
+    pub fn starts_with(self, text: &str) -> bool {
+        starts_with(self.bytes(), text)
+    }
+
+    /// The same without this byte at its end, if it has that there.
+    pub fn before_last(self, byte: u8) -> Part<'a> {
+        let has_it = self.bytes().last() == Some(&byte);
+        self.to(self.end.saturating_sub(usize::from(has_it)))
+    }
+
     /// Whether the file has the byte where the part begins, which may be its end.
     pub fn begins_with(self, byte: u8) -> bool {
         has_byte(self.file, self.start, byte)
@@ -55,14 +85,14 @@ impl<'a> Part<'a> {
     }
 
     /// The same from the first byte on that is none of these.
-    pub fn after_any(self, skipped: &[u8]) -> Part<'a> {
-        let count = self.bytes().iter().position(|byte| !skipped.contains(byte));
+    pub fn after_any(self, skipped: &str) -> Part<'a> {
+        let count = self.bytes().iter().position(|byte| !is_in(*byte, skipped));
         self.behind(count)
     }
 
     /// The same from the first byte on that is no blank.
     pub fn after_blanks(self) -> Part<'a> {
-        self.after_any(b" \t")
+        self.after_any(" \t")
     }
 
     /// The same from the first byte on that is no letter, digit or underscore.
@@ -71,11 +101,43 @@ impl<'a> Part<'a> {
         self.behind(count)
     }
 
+    /// The same from the first of these bytes on.
+    pub fn from_any(self, wanted: &str) -> Part<'a> {
+        let count = self.bytes().iter().position(|byte| is_in(*byte, wanted));
+        self.behind(count)
+    }
+
+    /// The same without blanks at its end.
+    pub fn before_blanks(self) -> Part<'a> {
+        let last = self.bytes().iter().rposition(|byte| !is_blank(*byte));
+        self.to(last.map_or(self.start, |last| self.skip(last).skip(1).start))
+    }
+
     /// The word that begins the part and ends at a blank, and the part behind it and its blanks.
     pub fn split_word(self) -> (&'a [u8], Part<'a>) {
-        let count = self.bytes().iter().position(|byte| b" \t".contains(byte));
-        let rest = self.behind(count);
-        (self.to(rest.start).bytes(), rest.after_blanks())
+        let rest = self.from_any(" \t");
+        (self.before(rest), rest.after_blanks())
+    }
+
+    /// Its first line without its newline and carriage return, and what is behind that; nothing where it is empty. Where lines are joined, those
+    /// that continue the line belong to it.
+    pub fn split_line(self, is_joined: bool) -> Option<(Part<'a>, Part<'a>)> {
+        let mut is_quoted = false;
+        for (index, byte) in self.bytes().iter().enumerate() {
+            if *byte == b'\n' && !is_quoted {
+                let end = self.skip(index);
+                return Some((self.to(end.start).before_last(b'\r'), end.skip(1)));
+            }
+            is_quoted = is_joined && *byte == b'\\' && !is_quoted;
+        }
+        (self.len() > 0).then_some((self, self.from(self.end)))
+    }
+
+    /// The name between the `@` that begins the part and the next one.
+    pub fn placeholder(self) -> Option<&'a [u8]> {
+        let name = self.skip(1);
+        let behind = name.after_name();
+        (self.begins_with(b'@') && behind.begins_with(b'@')).then_some(name.before(behind))
     }
 
     /// Whether only blanks and a comment are in the part.
@@ -108,16 +170,33 @@ impl<'a> Part<'a> {
     }
 
     /// Whether a call of sed seems to begin the part: its name, perhaps some of the closers, and blanks with more behind them.
-    pub fn is_call(self, closers: &[u8]) -> bool {
-        let length = sed_length(self.bytes());
-        if length == 0 || self.follows_name() {
+    pub fn is_call(self, closers: &str) -> bool {
+        let length = self.sed_length();
+        if length == 0 {
             return false;
         }
         let behind = self.skip(length).after_any(closers);
-        let is_continued = behind.bytes().starts_with(b"\\\n");
+        let is_continued = behind.starts_with("\\\n");
         let rest = behind.skip(usize::from(is_continued));
-        let next = rest.after_any(b" \t\r\n");
+        let next = rest.after_any(" \t\r\n");
         next.start > rest.start && next.start < self.end
+    }
+
+    /// Where the first name of a sed is in the part.
+    pub fn name_of_sed(self) -> Option<usize> {
+        (self.start..self.end).find(|index| self.from(*index).sed_length() > 0)
+    }
+
+    /// How long the name of sed is that begins the part; 0 if none does.
+    fn sed_length(self) -> usize {
+        let bytes = self.bytes();
+        let begins = matches!(bytes.first(), Some(b's' | b'g' | b'$' | b'@' | b'%'));
+        if !begins || self.follows_name() {
+            return 0;
+        }
+        SEDS.iter()
+            .find(|name| starts_with(bytes, name))
+            .map_or(0, |name| name.len())
     }
 
     /// Whether the byte before the part belongs to the same name, as in `used` and `a.sed`.
@@ -127,24 +206,79 @@ impl<'a> Part<'a> {
     }
 }
 
+/// Whether the bytes are this text.
+pub(crate) fn is(bytes: &[u8], text: &str) -> bool {
+    bytes == text.as_bytes()
+}
+
+/// Whether the bytes begin with this text.
+pub(crate) fn starts_with(bytes: &[u8], text: &str) -> bool {
+    bytes.starts_with(text.as_bytes())
+}
+
+/// Whether the text has the byte.
+pub(crate) fn is_in(byte: u8, text: &str) -> bool {
+    text.as_bytes().contains(&byte)
+}
+
+/// Whether it is a space or a tab.
+pub(crate) fn is_blank(byte: u8) -> bool {
+    byte == b' ' || byte == b'\t'
+}
+
+/// Brackets of one sort, of which the first is open.
+#[derive(Clone, Copy)]
+pub(crate) struct Brackets {
+    pub opener: u8,
+    closer: u8,
+    /// How many more are open within it.
+    count: usize,
+}
+
+impl Brackets {
+    /// Those that this byte opens.
+    pub fn new(opener: u8) -> Brackets {
+        let closer = match opener {
+            b'(' => b')',
+            b'{' => b'}',
+            _ => b']',
+        };
+        let count = 0;
+        Brackets {
+            opener,
+            closer,
+            count,
+        }
+    }
+
+    /// Whether others are open within the first.
+    pub fn is_nested(self) -> bool {
+        self.count > 0
+    }
+
+    /// What is open behind this byte; nothing where it closes the first.
+    pub fn after(self, byte: u8) -> Option<Brackets> {
+        let mut count = self.count;
+        if byte == self.opener {
+            count = count.saturating_add(1);
+        } else if byte == self.closer {
+            count = count.checked_sub(1)?;
+        }
+        Some(Brackets { count, ..self })
+    }
+}
+
 /// The lines without their newlines and carriage returns; or the lines with those that continue them, where a backslash before a newline
 /// joins two.
 pub(crate) fn lines_of(alloc: Global, file: &[u8], is_joined: bool) -> Result<Vec<Part<'_>>> {
     let mut lines = Vec::new(alloc);
     let mut rest = Part::whole(file);
-    let mut before = b'\n';
-    let mut is_quoted = false;
-    for (index, byte) in file.iter().enumerate() {
-        if *byte == b'\n' && !is_quoted {
-            let end = index.saturating_sub(usize::from(before == b'\r'));
-            lines.push(rest.to(end))?;
-            rest = rest.from(index.saturating_add(1));
-        }
-        is_quoted = is_joined && *byte == b'\\' && !is_quoted;
-        before = *byte;
-    }
-    if rest.start < rest.end {
-        lines.push(rest)?;
+    for _ in 0..file.len() {
+        let Some((line, next)) = rest.split_line(is_joined) else {
+            break;
+        };
+        lines.push(line)?;
+        rest = next;
     }
     Ok(lines)
 }
@@ -156,15 +290,4 @@ static SEDS: &'static [&'static str] = &[
 ];
 
 /// What may close a word behind the name of sed.
-pub(crate) const QUOTES: &[u8] = b"\"'";
-
-/// How long the name of sed is that begins the bytes; 0 if none does.
-fn sed_length(bytes: &[u8]) -> usize {
-    match bytes.first() {
-        Some(b's' | b'g' | b'$' | b'@' | b'%') => {}
-        _ => return 0,
-    }
-    SEDS.iter()
-        .find(|name| bytes.starts_with(name.as_bytes()))
-        .map_or(0, |name| name.len())
-}
+pub(crate) const QUOTES: &str = "\"'";

@@ -1,27 +1,21 @@
 //! Scalars of YAML: those on one line, and block scalars.
 
-use crate::parts::Part;
+use crate::parts::{Part, is_blank, is_in};
 use sedck_origin::{Result, Unit};
 use std::alloc::Global;
 
 /// The text of a quoted scalar, whose first quote begins the part; none if it doesn't end there.
 pub(crate) fn quoted_units(alloc: Global, whole: Part, quote: u8) -> Result<Option<Vec<Unit>>> {
     let mut units = Vec::new(alloc);
-    let inner = whole.skip(1);
-    let mut resume = inner.start;
-    for index in inner.start..inner.end {
-        if index < resume {
-            continue;
+    let mut rest = whole.skip(1);
+    for _ in 0..whole.len() {
+        if rest.len() == 0 {
+            break;
         }
-        let rest = inner.from(index);
         let Some(unit) = quoted_unit(rest, quote) else {
-            return Ok(if rest.skip(1).is_ended() {
-                Some(units)
-            } else {
-                None
-            });
+            return Ok(rest.skip(1).is_ended().then_some(units));
         };
-        resume = unit.end();
+        rest = rest.from(unit.end());
         units.push(unit)?;
     }
     Ok(None)
@@ -31,7 +25,7 @@ pub(crate) fn quoted_units(alloc: Global, whole: Part, quote: u8) -> Result<Opti
 fn quoted_unit(part: Part, quote: u8) -> Option<Unit> {
     let next = part.skip(1);
     if part.begins_with(quote) {
-        let is_pair = quote == b'\'' && next.start < next.end && next.begins_with(quote);
+        let is_pair = quote == b'\'' && next.first() == Some(quote);
         return is_pair.then_some(Unit::Byte(quote, next.start));
     }
     if quote == b'"' && part.begins_with(b'\\') {
@@ -44,89 +38,74 @@ fn quoted_unit(part: Part, quote: u8) -> Option<Unit> {
 fn escaped_unit(part: Part) -> Unit {
     let next = part.start.saturating_add(1);
     match part.file.get(next) {
-        Some(byte) if b"\\\"/".contains(byte) => Unit::Byte(*byte, next),
+        Some(byte) if is_in(*byte, "\\\"/") => Unit::Byte(*byte, next),
         Some(b'n') => Unit::Escape(b'\n', part.start),
         Some(b't') => Unit::Escape(b'\t', part.start),
         _ => Unit::made(part.start, next.saturating_add(1)),
     }
 }
 
-/// The unit that begins the part of a line: a byte, or an expression as a hole.
+/// The unit that begins the part of a line: a byte; or as a hole an expression, `${{ .. }}` of GitHub's or `$[[ .. ]]` of GitLab's, which
+/// is replaced before a shell runs. One that isn't closed goes to the part's end.
 fn line_unit(part: Part) -> Unit {
-    let end = template_end(part);
-    match part.file.get(part.start) {
-        Some(byte) if end <= part.start => Unit::Byte(*byte, part.start),
-        _ => Unit::made(part.start, end),
-    }
-}
-
-/// Where an expression ends that begins the part: `${{ .. }}` of GitHub's, or `$[[ .. ]]` of GitLab's, which are replaced before a
-/// shell runs; 0 if none begins there. One that isn't closed goes to the part's end.
-fn template_end(part: Part) -> usize {
-    let bytes = part.bytes();
-    let closer = if bytes.starts_with(b"${{") {
-        b'}'
-    } else if bytes.starts_with(b"$[[") {
-        b']'
+    let closer = if part.starts_with("${{") {
+        "}}"
+    } else if part.starts_with("$[[") {
+        "]]"
     } else {
-        return 0;
+        return Unit::Byte(part.first().unwrap_or(b' '), part.start);
     };
-    let mut before = b' ';
-    for (index, byte) in bytes.iter().enumerate() {
-        if *byte == closer && before == closer {
-            return part.start.saturating_add(index).saturating_add(1);
+    let mut rest = part;
+    for _ in 0..part.len() {
+        if rest.starts_with(closer) {
+            return Unit::made(part.start, rest.skip(2).start);
         }
-        before = *byte;
+        rest = rest.skip(1);
     }
-    part.end
+    Unit::made(part.start, part.end)
 }
 
 /// Adds a line, in which expressions are holes.
 pub(crate) fn push_line(units: &mut Vec<Unit>, line: Part) -> Result<()> {
-    let mut resume = line.start;
-    for index in line.start..line.end {
-        if index >= resume {
-            let unit = line_unit(line.from(index));
-            resume = unit.end();
-            units.push(unit)?;
+    let mut rest = line;
+    for _ in 0..line.len() {
+        if rest.len() == 0 {
+            break;
         }
+        let unit = line_unit(rest);
+        rest = rest.from(unit.end());
+        units.push(unit)?;
     }
     Ok(())
 }
 
 /// The plain scalar that begins the part: it ends before a comment and blanks. None if it is no scalar but a key with its value.
 pub(crate) fn plain_scalar(whole: Part) -> Option<Part<'_>> {
-    let mut end = whole.start;
     let mut before = b' ';
+    let mut end = whole.end;
     for (index, byte) in whole.bytes().iter().enumerate() {
-        let is_blank = b" \t".contains(byte);
-        if before == b':' && is_blank {
+        if before == b':' && is_blank(*byte) {
             return None;
         }
-        if *byte == b'#' && b" \t".contains(&before) {
+        if *byte == b'#' && is_blank(before) {
+            end = whole.skip(index).start;
             break;
-        }
-        if !is_blank {
-            end = whole.start.saturating_add(index).saturating_add(1);
         }
         before = *byte;
     }
-    if before == b':' {
-        None
-    } else {
-        Some(whole.to(end))
-    }
+    (before != b':').then_some(whole.to(end).before_blanks())
 }
 
 /// The indentation that the header of a block scalar gives, behind `|` or `>`: 0 if it gives none. None if it is no header.
 pub(crate) fn header(whole: Part) -> Option<usize> {
-    let rest = whole.after_any(b"+-123456789");
-    let mut indentation = 0usize;
-    for byte in whole.to(rest.start).bytes() {
-        if byte.is_ascii_digit() {
-            indentation = usize::from(byte.wrapping_sub(b'0'));
-        }
-    }
+    let rest = whole.after_any("+-123456789");
+    let digits = whole
+        .before(rest)
+        .iter()
+        .filter(|byte| byte.is_ascii_digit());
+    let indentation = digits
+        .last()
+        .map_or(0, |digit| usize::from(digit.wrapping_sub(b'0')));
     rest.is_ended().then_some(indentation)
 }
 
@@ -155,7 +134,7 @@ impl Block {
 
     /// Adds a line without its indentation; answers whether it is one of the block. The first line that isn't blank gives the indentation.
     pub fn add_line(&mut self, line: Part) -> Result<bool> {
-        let text = line.after_any(b" ");
+        let text = line.after_any(" ");
         let found = text.start.saturating_sub(line.start);
         if text.start < line.end {
             let least = self.indentation.unwrap_or(self.parent.saturating_add(1));

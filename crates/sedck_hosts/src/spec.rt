@@ -2,8 +2,8 @@
 
 use crate::host::Host;
 use crate::make_text::reference_end;
-use crate::parts::{Part, QUOTES, lines_of};
-use sedck_origin::{Result, Unit, is_among, named};
+use crate::parts::{Brackets, Part, QUOTES, is, lines_of};
+use sedck_origin::{Result, Unit, named};
 use std::alloc::Global;
 
 /// A macro that isn't closed.
@@ -11,10 +11,7 @@ use std::alloc::Global;
 struct Open {
     /// The offset of its percent sign.
     start: usize,
-    opener: u8,
-    closer: u8,
-    /// How many more pairs are open within it.
-    count: usize,
+    brackets: Brackets,
 }
 
 /// What a line is by the word that begins it.
@@ -72,8 +69,6 @@ struct Spec {
     /// Whether the next one is left out with it.
     is_continued: bool,
     open: Option<Open>,
-    /// The offset with which reading goes on.
-    resume: usize,
 }
 
 /// The shell text of a spec file.
@@ -88,7 +83,6 @@ pub(crate) fn host_of_spec(alloc: Global, file: &[u8]) -> Result<Host> {
         is_definition: false,
         is_continued: false,
         open: None,
-        resume: 0,
     };
     let lines = lines_of(alloc, file, false)?;
     for line in &lines {
@@ -126,12 +120,13 @@ impl Spec {
     /// Reads a line of a section.
     fn read_text(&mut self, line: Part, is_left_out: bool) -> Result<()> {
         self.is_left_out = is_left_out;
-        self.is_continued = is_left_out && line.bytes().ends_with(b"\\");
-        for index in line.start..line.end {
-            match line.file.get(index) {
-                Some(byte) if index >= self.resume => self.read(line.from(index), *byte)?,
-                _ => {}
-            }
+        self.is_continued = is_left_out && line.bytes().last() == Some(&b'\\');
+        let mut rest = line;
+        for _ in 0..line.len() {
+            let Some(byte) = rest.first() else {
+                break;
+            };
+            rest = self.read(rest, byte)?;
         }
         if self.is_text() {
             line.push_newline(&mut self.units)?;
@@ -177,58 +172,44 @@ impl Spec {
         Ok(())
     }
 
-    /// Reads the byte that begins this part of a line.
-    fn read(&mut self, rest: Part, byte: u8) -> Result<()> {
+    /// Reads the byte that begins this part of a line, and answers what isn't read yet.
+    fn read<'a>(&mut self, rest: Part<'a>, byte: u8) -> Result<Part<'a>> {
         if let Some(open) = self.open {
-            return self.read_in_macro(open, rest, byte);
+            self.read_in_macro(open, rest, byte)?;
+            return Ok(rest.skip(1));
         }
         // What is in the text of a macro isn't read.
         if self.is_in_definition() && rest.is_call(QUOTES) {
             self.host.unread.push(rest.start)?;
         }
-        if byte != b'%' {
-            return self.add(Unit::Byte(byte, rest.start));
-        }
-        let (opener, closer) = match rest.skip(1).bytes().first() {
-            Some(b'{') => (b'{', b'}'),
-            Some(b'(') => (b'(', b')'),
-            Some(b'[') => (b'[', b']'),
-            _ => {
-                let (unit, end) = percent_unit(rest);
-                self.resume = end;
-                return self.add(unit);
+        match rest.skip(1).first() {
+            Some(opener @ (b'{' | b'(' | b'[')) if byte == b'%' => {
+                let (start, brackets) = (rest.start, Brackets::new(opener));
+                self.open = Some(Open { start, brackets });
+                Ok(rest.skip(2))
             }
-        };
-        self.resume = rest.skip(2).start;
-        self.open = Some(Open {
-            start: rest.start,
-            opener,
-            closer,
-            count: 0,
-        });
-        Ok(())
+            _ => {
+                let unit = spec_unit(rest, byte);
+                self.add(unit)?;
+                Ok(rest.from(unit.end()))
+            }
+        }
     }
 
     /// Reads a byte of a macro with brackets, which may close it. What is in `%(..)` is read by the shell when it is replaced.
     fn read_in_macro(&mut self, open: Open, rest: Part, byte: u8) -> Result<()> {
+        if let Some(brackets) = open.brackets.after(byte) {
+            self.open = Some(Open { brackets, ..open });
+            return Ok(());
+        }
         let part = rest.between(open.start, rest.start);
-        let mut count = open.count;
-        if byte == open.closer && count == 0 {
-            self.open = None;
-            if byte == b')' {
-                self.add_command(part.skip(2))?;
-            } else {
-                self.note_macro(part)?;
-            }
-            return self.add(Unit::made(open.start, rest.start.saturating_add(1)));
+        self.open = None;
+        if byte == b')' {
+            self.add_command(part.skip(2))?;
+        } else {
+            self.note_macro(part)?;
         }
-        if byte == open.opener {
-            count = count.saturating_add(1);
-        } else if byte == open.closer {
-            count = count.saturating_sub(1);
-        }
-        self.open = Some(Open { count, ..open });
-        Ok(())
+        self.add(Unit::made(open.start, rest.skip(1).start))
     }
 
     /// Adds what is in `%(..)`; calls of sed in macros there aren't read.
@@ -247,43 +228,37 @@ impl Spec {
 /// The units of what is in `%(..)`: macros in it are holes.
 fn command_units(alloc: Global, whole: Part) -> Result<Vec<Unit>> {
     let mut units = Vec::new(alloc);
-    let mut resume = whole.start;
-    for index in whole.start..whole.end {
-        if index < resume {
-            continue;
-        }
-        let rest = whole.from(index);
-        match rest.bytes() {
-            [b'%', b'{' | b'(', ..] => {
-                resume = reference_end(rest);
-                units.push(Unit::made(index, resume))?;
-            }
-            [b'%', ..] => {
-                let (unit, end) = percent_unit(rest);
-                resume = end;
-                units.push(unit)?;
-            }
-            [byte, ..] => units.push(Unit::Byte(*byte, index))?,
-            [] => {}
-        }
+    let mut rest = whole;
+    for _ in 0..whole.len() {
+        let Some(byte) = rest.first() else {
+            break;
+        };
+        let unit = match rest.skip(1).first() {
+            Some(b'{' | b'(') if byte == b'%' => Unit::made(rest.start, reference_end(rest)),
+            _ => spec_unit(rest, byte),
+        };
+        units.push(unit)?;
+        rest = rest.from(unit.end());
     }
     Ok(units)
 }
 
-/// The unit of a percent sign that begins the part, and its end: of a macro without brackets, of `%%`, or of the sign itself.
-fn percent_unit(part: Part) -> (Unit, usize) {
+/// The unit of the byte that begins the part: a macro without brackets as a hole, `%%`, or the byte itself.
+fn spec_unit(part: Part, byte: u8) -> Unit {
     let next = part.skip(1);
-    if next.bytes().starts_with(b"%") {
-        return (Unit::Byte(b'%', next.start), next.skip(1).start);
+    if byte != b'%' {
+        return Unit::Byte(byte, part.start);
     }
-    let name = next.after_any(b"?!");
-    let end = name.after_name().start;
-    let is_number = matches!(part.file.get(name.start), Some(b'0'..=b'9'));
+    if next.first() == Some(b'%') {
+        return Unit::Byte(b'%', next.start);
+    }
+    let name = next.after_any("?!");
+    let behind = name.after_name();
     // A name begins with no digit and has three letters at least.
-    if is_number || end.saturating_sub(name.start) < 3 {
-        return (Unit::Byte(b'%', part.start), next.start);
+    if name.first().is_some_and(|first| first.is_ascii_digit()) || name.before(behind).len() < 3 {
+        return Unit::Byte(b'%', part.start);
     }
-    (Unit::made(part.start, end), end)
+    Unit::made(part.start, behind.start)
 }
 
 /// Whether a section with these options is run by a shell: with no option `-p`, or one with a shell's path.
@@ -291,9 +266,9 @@ fn has_shell(options: Part) -> bool {
     let mut rest = options;
     for _ in 0..8 {
         let (word, next) = rest.split_word();
-        if is_among(word, &["-p"]) {
+        if is(word, "-p") {
             let (program, _) = next.split_word();
-            return program.ends_with(b"sh") && !program.ends_with(b"csh");
+            return program.ends_with("sh".as_bytes()) && !program.ends_with("csh".as_bytes());
         }
         rest = next;
     }

@@ -1,7 +1,7 @@
 //! Files of continuous integration: the shell text of the keys that have it.
 
 use crate::host::Host;
-use crate::parts::{Part, lines_of};
+use crate::parts::{Part, is, is_blank, is_in, starts_with};
 use crate::scalars::{Block, header, plain_scalar, push_line, quoted_units};
 use sedck_origin::{Result, is_among, is_name_byte};
 use std::alloc::Global;
@@ -34,7 +34,6 @@ struct List {
 /// A line without what begins it.
 #[derive(Clone, Copy)]
 struct Line<'a> {
-    number: usize,
     /// What stands behind spaces and the dashes of sequences.
     text: Part<'a>,
     indentation: usize,
@@ -47,10 +46,8 @@ struct Line<'a> {
 /// The beginning of a value.
 #[derive(Clone, Copy)]
 struct Value<'a> {
-    /// Its first line ..
+    /// Its first line.
     text: Part<'a>,
-    /// .. and the number of that.
-    number: usize,
     /// The indentation of the node that has it: of its key, or of the dash before it.
     parent: usize,
 }
@@ -59,8 +56,9 @@ struct Value<'a> {
 #[derive(Drop)]
 struct Yaml<'a> {
     alloc: Global,
-    lines: Vec<Part<'a>>,
     host: Host,
+    /// What isn't read yet.
+    rest: Part<'a>,
     list: Option<List>,
     /// The values before a line that begin with an anchor and weren't read, by its name: shell text may stand elsewhere by their aliases.
     anchors: BTreeMap<Vec<u8>, Value<'a>>,
@@ -68,39 +66,34 @@ struct Yaml<'a> {
     left: usize,
     /// The indentation of the keys of a step whose `shell:` is no shell of POSIX's.
     foreign: Option<usize>,
-    /// The number of the line with which reading goes on.
-    resume: usize,
 }
 
 /// The shell text of a file of YAML.
 pub(crate) fn host_of_yaml(alloc: Global, file: &[u8]) -> Result<Host> {
-    let lines = lines_of(alloc, file, false)?;
-    let count = lines.len();
     let mut yaml = Yaml {
         alloc,
-        lines,
         host: Host::new(alloc),
+        rest: Part::whole(file),
         list: None,
         anchors: BTreeMap::new(alloc),
         left: file.len().saturating_mul(LOOKED_AT),
         foreign: None,
-        resume: 0,
     };
-    for number in 0..count {
-        if number >= yaml.resume {
-            yaml.read_line(number)?;
+    for _ in 0..file.len() {
+        let Some((line, rest)) = yaml.rest.split_line(false) else {
+            break;
+        };
+        yaml.rest = rest;
+        if !line.is_ended() {
+            yaml.read_line(after_dashes(line))?;
         }
     }
     Ok(yaml.host)
 }
 
 impl<'a> Yaml<'a> {
-    /// Reads the line of this number.
-    fn read_line(&mut self, number: usize) -> Result<()> {
-        let line = match self.lines.get(number) {
-            Some(whole) if !whole.is_ended() => after_dashes(number, *whole),
-            _ => return Ok(()),
-        };
+    /// Reads a line.
+    fn read_line(&mut self, line: Line<'a>) -> Result<()> {
         let list = self.list;
         let is_item = self.is_item(line);
         if key_end(line.text).is_some() {
@@ -110,7 +103,8 @@ impl<'a> Yaml<'a> {
         match list.map(|list| list.items.unwrap_or(list.key)) {
             Some(outer) if is_item || line.indentation > outer => {
                 let parent = line.dash.unwrap_or(outer);
-                self.read_value(value_in(line, line.text, parent))
+                let text = line.text;
+                self.read_value(Value { text, parent })
             }
             _ => self.read_key(line),
         }
@@ -139,14 +133,11 @@ impl<'a> Yaml<'a> {
         let Some(end) = key_end(line.text) else {
             return self.pass_line(line);
         };
-        let key = unquoted(line.text.to(end).bytes());
-        let value = value_in(
-            line,
-            line.text.from(end).after_blanks().skip(1).after_blanks(),
-            line.column,
-        );
+        let key = unquoted(line.text.before(end));
+        let (text, parent) = (end.after_blanks().skip(1).after_blanks(), line.column);
+        let value = Value { text, parent };
         self.end_step(line);
-        if is_among(key, &["shell"]) && is_foreign(value.text.bytes()) {
+        if is(key, "shell") && is_foreign(value.text.bytes()) {
             self.foreign = Some(line.column);
         }
         if KEYS.iter().any(|keys| is_among(key, keys)) && self.foreign != Some(line.column) {
@@ -160,26 +151,26 @@ impl<'a> Yaml<'a> {
             self.anchors.insert(name, value)?;
         }
         let value = after_anchor(value);
-        if value.text.begins_with(b'|') || value.text.begins_with(b'>') {
-            return self.read_block(value, 0);
+        match value.text.first() {
+            Some(b'|' | b'>') => self.read_block(value, 0),
+            Some(b'{' | b'[') => self.pass_value(value),
+            _ => Ok(()),
         }
-        if value.text.begins_with(b'{') || value.text.begins_with(b'[') {
-            return self.pass_value(value);
-        }
-        Ok(())
     }
 
     /// Passes a line that begins with no key which is read, and notes a call of sed in it where it may have one: in a mapping in brackets, as
     /// `- {run: sed p}`, behind a tag or an anchor, or with all lines that belong to it in a key or a value that is marked by `?` or `:`.
     fn pass_line(&mut self, line: Line<'a>) -> Result<()> {
-        match line.text.bytes() {
-            [b'?' | b':'] | [b'?' | b':', b' ' | b'\t', ..] => {
-                self.pass_value(value_in(line, line.text, line.column))
-            }
-            [first, ..] if b"[]}!&*".contains(first) => self.host.note_unread(line.text),
-            bytes if bytes.contains(&b'{') => self.host.note_unread(line.text),
-            _ => Ok(()),
+        let text = line.text;
+        if has_sign(text, "?:") {
+            let parent = line.column;
+            return self.pass_value(Value { text, parent });
         }
+        let is_other = text.first().is_some_and(|byte| is_in(byte, "[]}!&*"));
+        if is_other || text.from_any("{").len() > 0 {
+            return self.host.note_unread(text);
+        }
+        Ok(())
     }
 
     /// Forgets the `shell:` of a step that the line ends.
@@ -201,16 +192,14 @@ impl<'a> Yaml<'a> {
         if value.text.begins_with(b'*') {
             self.note_alias(value.text)?;
         }
-        match value.text.file.get(value.text.start) {
+        match value.text.first() {
             Some(b'|') => self.read_block(value, usize::MAX),
             Some(b'>') => self.read_block(value, 1),
-            Some(quote) if b"'\"".contains(quote) => {
-                match quoted_units(self.alloc, value.text, *quote)? {
-                    Some(units) => self.host.add(units),
-                    None => self.pass_value(value),
-                }
-            }
-            Some(sign) if b"[{*!%@`".contains(sign) => self.pass_value(value),
+            Some(quote @ (b'\'' | b'"')) => match quoted_units(self.alloc, value.text, quote)? {
+                Some(units) => self.host.add(units),
+                None => self.pass_value(value),
+            },
+            Some(sign) if is_in(sign, "[{*!%@`") => self.pass_value(value),
             _ => self.read_plain(value),
         }
     }
@@ -221,14 +210,18 @@ impl<'a> Yaml<'a> {
         let Some(anchor) = self.anchors.remove(anchor_of(alias)) else {
             return Ok(());
         };
-        let mut end = anchor.text.start;
-        let lines = self.lines.get(anchor.number..).unwrap_or(&[]);
-        for (index, line) in lines.iter().enumerate() {
-            if self.left == 0 || (index > 0 && is_behind(*line, anchor.parent)) {
+        let mut rest = anchor.text.to(self.rest.end);
+        let mut end = rest.start;
+        for count in 0..rest.len() {
+            let Some((line, next)) = rest.split_line(false) else {
+                break;
+            };
+            if self.left == 0 || (count > 0 && is_behind(line, anchor.parent)) {
                 break;
             }
             self.left = self.left.saturating_sub(line.end.saturating_sub(end));
             end = line.end;
+            rest = next;
         }
         if self.left == 0 {
             return Ok(self.host.unread.push(anchor.text.start)?);
@@ -236,28 +229,27 @@ impl<'a> Yaml<'a> {
         self.host.note_unread(anchor.text.to(end))
     }
 
-    /// The number of the line behind the value, which begins another node.
-    fn line_behind(&self, value: Value<'a>) -> usize {
-        let from = value.number.saturating_add(1);
-        let lines = self.lines.get(from..).unwrap_or(&[]);
-        match lines.iter().position(|line| is_node(*line, value.parent)) {
-            Some(index) => from.saturating_add(index),
-            None => self.lines.len(),
+    /// What is behind a value on the line that was read: the next line that begins another node, and all behind that.
+    fn rest_behind(&self, value: Value<'a>) -> Part<'a> {
+        let mut rest = self.rest;
+        for _ in 0..self.rest.len() {
+            match rest.split_line(false) {
+                Some((line, next)) if !is_node(line, value.parent) => rest = next,
+                _ => break,
+            }
         }
+        rest
     }
 
     /// Passes a value that isn't read, with the lines that belong to it, and notes a call of sed in it.
     fn pass_value(&mut self, value: Value<'a>) -> Result<()> {
-        self.resume = self.line_behind(value);
+        self.rest = self.rest_behind(value);
         self.note_lines(value)
     }
 
-    /// Notes a call of sed in the value, which ends before the line with which reading goes on.
+    /// Notes a call of sed in the value, which ends before what isn't read yet.
     fn note_lines(&mut self, value: Value<'a>) -> Result<()> {
-        match self.lines.get(self.resume.saturating_sub(1)) {
-            Some(last) => self.host.note_unread(value.text.to(last.end)),
-            None => Ok(()),
-        }
+        self.host.note_unread(value.text.to(self.rest.start))
     }
 
     /// Reads a block scalar, which is a text if no more of its lines have text; with none it is no shell text at all.
@@ -270,13 +262,10 @@ impl<'a> Yaml<'a> {
             };
         };
         let mut block = Block::new(self.alloc, value.parent, given);
-        self.resume = self.lines.len();
-        for number in value.number.saturating_add(1)..self.lines.len() {
-            if let Some(line) = self.lines.get(number) {
-                if !block.add_line(*line)? {
-                    self.resume = number;
-                    break;
-                }
+        for _ in 0..self.rest.len() {
+            match self.rest.split_line(false) {
+                Some((line, rest)) if block.add_line(line)? => self.rest = rest,
+                _ => break,
             }
         }
         if block.count <= most {
@@ -290,11 +279,9 @@ impl<'a> Yaml<'a> {
 
     /// Reads a plain scalar, unless it goes on on the next line.
     fn read_plain(&mut self, value: Value<'a>) -> Result<()> {
-        let from = value.number.saturating_add(1);
-        let others = self.lines.get(from..self.line_behind(value)).unwrap_or(&[]);
-        let goes_on = others.iter().any(|line| !line.is_ended());
+        let others = self.rest.to(self.rest_behind(value).start);
         match plain_scalar(value.text) {
-            Some(scalar) if !goes_on => {
+            Some(scalar) if !has_text(others) => {
                 let mut units = Vec::new(self.alloc);
                 push_line(&mut units, scalar)?;
                 self.host.add(units)
@@ -304,13 +291,16 @@ impl<'a> Yaml<'a> {
     }
 }
 
-/// The value that has this text on the line, in a node with this indentation.
-fn value_in<'a>(line: Line<'a>, text: Part<'a>, parent: usize) -> Value<'a> {
-    Value {
-        text,
-        number: line.number,
-        parent,
+/// Whether a line of the part has more than blanks and a comment.
+fn has_text(part: Part) -> bool {
+    let mut rest = part;
+    for _ in 0..part.len() {
+        match rest.split_line(false) {
+            Some((line, next)) if line.is_ended() => rest = next,
+            found => return found.is_some(),
+        }
     }
+    false
 }
 
 /// The value without the anchor that begins it.
@@ -330,12 +320,12 @@ fn anchor_of(text: Part) -> &[u8] {
 
 /// The indentation of the line.
 fn indentation_of(line: Part) -> usize {
-    line.after_any(b" ").start.saturating_sub(line.start)
+    line.after_any(" ").start.saturating_sub(line.start)
 }
 
 /// Whether the line isn't in the value of a key with this indentation, in which the items of a sequence may be.
 fn is_behind(line: Part, column: usize) -> bool {
-    let has_dash = line.after_any(b" ").begins_with(b'-');
+    let has_dash = line.after_any(" ").begins_with(b'-');
     let indentation = indentation_of(line);
     !line.is_ended() && (indentation < column || (indentation == column && !has_dash))
 }
@@ -346,20 +336,18 @@ fn is_node(line: Part, parent: usize) -> bool {
 }
 
 /// The line without the dashes of sequences that begin it.
-fn after_dashes(number: usize, whole: Part) -> Line<'_> {
-    let mut text = whole.after_any(b" ");
+fn after_dashes(whole: Part) -> Line<'_> {
+    let mut text = whole.after_any(" ");
     let indentation = text.start.saturating_sub(whole.start);
     let mut dash = None;
     for _ in 0..8 {
-        match text.bytes() {
-            [b'-'] | [b'-', b' ' | b'\t', ..] => {}
-            _ => break,
+        if !has_sign(text, "-") {
+            break;
         }
         dash = Some(text.start.saturating_sub(whole.start));
         text = text.skip(1).after_blanks();
     }
     Line {
-        number,
         text: key_behind(text),
         indentation,
         column: text.start.saturating_sub(whole.start),
@@ -380,17 +368,17 @@ fn key_behind(part: Part<'_>) -> Part<'_> {
     if key_end(rest).is_some() { rest } else { part }
 }
 
-/// Where the key ends that begins the part, before its colon, or before blanks; none if no key does.
-fn key_end(part: Part) -> Option<usize> {
-    let bytes = part.bytes();
-    let length = bytes
-        .iter()
-        .position(|byte| !is_name_byte(*byte) && !b"-.\"'".contains(byte))?;
-    let end = part.start.saturating_add(length);
-    match part.from(end).after_blanks().bytes() {
-        [b':'] | [b':', b' ' | b'\t', ..] if length > 0 => Some(end),
-        _ => None,
-    }
+/// What is behind the key that begins the part: its colon, perhaps behind blanks; none if no key does.
+fn key_end(part: Part) -> Option<Part<'_>> {
+    let is_other = |byte: &u8| !is_name_byte(*byte) && !is_in(*byte, "-.\"'");
+    let behind = part.skip(part.bytes().iter().position(is_other)?);
+    let is_key = behind.start > part.start && has_sign(behind.after_blanks(), ":");
+    is_key.then_some(behind)
+}
+
+/// Whether one of these signs begins the part, and a blank or nothing follows it.
+fn has_sign(part: Part, signs: &str) -> bool {
+    part.first().is_some_and(|byte| is_in(byte, signs)) && part.skip(1).first().is_none_or(is_blank)
 }
 
 /// The key without quotes around it.
@@ -403,7 +391,5 @@ fn unquoted(key: &[u8]) -> &[u8] {
 
 /// Whether a `shell:` with this value is no shell of POSIX's.
 fn is_foreign(value: &[u8]) -> bool {
-    FOREIGN
-        .iter()
-        .any(|name| value.starts_with(name.as_bytes()))
+    FOREIGN.iter().any(|name| starts_with(value, name))
 }

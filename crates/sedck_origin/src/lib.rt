@@ -3,10 +3,12 @@
 //! What reads shell text undoes its quoting, and isn't trusted: `is_traced` compares what it made with the file.
 #![tactic(auto)]
 
+mod cursor;
 mod hole;
 mod origin;
 mod unit;
 
+pub use cursor::Cursor;
 pub use hole::{Hole, Way, hole_name, is_name_byte};
 pub use origin::{Origin, Traced, escape_byte, has_byte, has_hole, is_traced};
 pub use unit::{

@@ -71,11 +71,6 @@ impl Text<'_> {
         }
     }
 
-    /// Whether it has none.
-    pub fn is_empty(self) -> bool {
-        self.len() == 0
-    }
-
     /// The unit of this number, from 0.
     pub fn get(self, index: usize) -> Option<Unit>
         ensures { result ≡ unit_at self.entry index }
@@ -88,16 +83,11 @@ impl Text<'_> {
             Text::Units(units) => units.get(index).copied(),
         }
     }
-
-    /// The byte of the unit of this number; none where it is a hole, or the text ends before.
-    pub fn byte(self, index: usize) -> Option<u8> {
-        self.get(index)?.byte()
-    }
 }
 
 /// The byte of the unit of this number; none where it is a hole, or the units end before.
 pub fn byte_at(units: &[Unit], index: usize) -> Option<u8> {
-    Text::Units(units).byte(index)
+    units.get(index)?.byte()
 }
 
 /// Whether the units are this text.

@@ -1,76 +1,70 @@
 //! Operators: ends of commands, parentheses and redirections (XCU 2.7, 2.9).
 
 use crate::frame::{Awaited, Delimiter, Enclosure};
-use crate::reader::{Dialect, Reader};
+use crate::reader::Reader;
 use crate::words::begins_with;
 use sedck_origin::{Result, Unit, name_length};
 
 impl Reader<'_> {
     /// Reads an operator that begins with this byte.
-    pub fn read_operator(&mut self, index: usize, unit: Unit, byte: u8) -> Result<()> {
+    pub fn read_operator(&mut self, unit: Unit, byte: u8) -> Result<()> {
         if self.top.is_test && byte != b';' {
-            return self.read_in_test(index, unit, byte);
+            return self.read_in_test(unit, byte);
         }
-        self.note_joined(unit, index.saturating_add(1))?;
+        self.note_joined(unit, 0)?;
         match byte {
-            b';' => self.read_semicolon(index),
-            b'&' => self.read_ampersand(index),
-            b'|' => self.read_bar(index),
-            b'(' => self.open_parenthesis(index),
+            b';' => self.read_semicolon(),
+            b'&' => self.read_ampersand(),
+            b'|' => self.read_bar(),
+            b'(' => self.open_parenthesis(),
             b')' => self.close_parenthesis(unit),
-            _ => self.read_redirection(index, byte),
+            _ => self.read_redirection(byte),
         }
     }
 
     /// Reads an operator between `[[` and `]]`: `&&` and `||` are between two tests, and all others are parts of one.
-    fn read_in_test(&mut self, index: usize, unit: Unit, byte: u8) -> Result<()> {
-        let next = index.saturating_add(1);
-        if !matches!(byte, b'&' | b'|') || self.text.byte(next) != Some(byte) {
+    fn read_in_test(&mut self, unit: Unit, byte: u8) -> Result<()> {
+        if !matches!(byte, b'&' | b'|') || self.rest.peek() != Some(byte) {
             return self.add(unit);
         }
         self.end_word()?;
         self.top.draft.command.words.clear();
-        self.resume = next.saturating_add(1);
-        Ok(())
+        Ok(self.pass(1))
     }
 
     /// Reads `|`, `||`, or `|&` of some shells.
-    fn read_bar(&mut self, index: usize) -> Result<()> {
-        let next = index.saturating_add(1);
-        let second = self.text.byte(next);
+    fn read_bar(&mut self) -> Result<()> {
+        let second = self.rest.peek();
         if let Some(b'|' | b'&') = second {
-            self.resume = next.saturating_add(1);
+            self.pass(1);
         }
         self.join_commands(second != Some(b'|'))
     }
 
     /// Reads `;`, or `;;` and `;&`, behind which a pattern follows.
-    fn read_semicolon(&mut self, index: usize) -> Result<()> {
+    fn read_semicolon(&mut self) -> Result<()> {
         self.end_command()?;
         self.end_list();
-        let next = index.saturating_add(1);
-        if let Some(b';' | b'&') = self.text.byte(next) {
-            self.resume = next.saturating_add(1);
+        if let Some(b';' | b'&') = self.rest.peek() {
+            self.pass(1);
             self.top.is_pattern = self.top.cases > 0;
         }
         Ok(())
     }
 
     /// Reads `&`, `&&`, or `&>` of some shells.
-    fn read_ampersand(&mut self, index: usize) -> Result<()> {
-        let next = index.saturating_add(1);
-        let after = next.saturating_add(1);
-        match self.text.byte(next) {
+    fn read_ampersand(&mut self) -> Result<()> {
+        match self.rest.peek() {
             Some(b'>') => {
                 self.end_word()?;
-                let is_appended = self.text.byte(after) == Some(b'>');
+                let is_appended = self.rest.byte(1) == Some(b'>');
                 self.part_command();
                 self.forget_output();
                 self.top.awaited = written(Stream::Output, !is_appended);
-                self.resume = after.saturating_add(usize::from(is_appended));
+                self.pass(if is_appended { 2 } else { 1 });
             }
             Some(b'&') => {
-                self.resume = after;
+                self.pass(1);
                 return self.join_commands(false);
             }
             _ => {
@@ -82,8 +76,7 @@ impl Reader<'_> {
     }
 
     /// Reads `(`: a group, the parentheses of a function, a list behind `name=`, or a part of a pattern.
-    fn open_parenthesis(&mut self, index: usize) -> Result<()> {
-        let next = index.saturating_add(1);
+    fn open_parenthesis(&mut self) -> Result<()> {
         if self.top.is_pattern {
             if self.top.has_word {
                 self.top.parentheses = self.top.parentheses.saturating_add(1);
@@ -91,28 +84,25 @@ impl Reader<'_> {
             return Ok(());
         }
         if self.opens_words() {
-            return self.open(index, next, Enclosure::Array, true);
+            return self.open(0, Enclosure::Array, true);
         }
-        if let Some(end) = self.empty_end(next) {
-            self.resume = end;
+        let blanks = self.blanks();
+        if self.rest.byte(blanks) == Some(b')') {
+            self.pass(blanks.saturating_add(1));
             return self.begin_named();
         }
         self.end_word()?;
-        let inner = next.saturating_add(1);
-        if self.text.byte(next) == Some(b'(')
-            && self.begins_expression()
-            && self.is_expression(inner)
-        {
-            self.note_commands_within(inner)?;
-            return self.open(index, inner, Enclosure::Arithmetic, false);
+        if self.rest.peek() == Some(b'(') && self.begins_expression() && self.is_expression(1) {
+            self.note_commands_within(1)?;
+            return self.open(1, Enclosure::Arithmetic, false);
         }
-        self.note_parenthesis(index)?;
-        self.open(index, next, Enclosure::Group, false)
+        self.note_parenthesis()?;
+        self.open(0, Enclosure::Group, false)
     }
 
     /// Tells of a parenthesis behind words of a command, which is a pattern in some shells, unless it begins the body of a function. Values of
     /// make's may be nothing.
-    fn note_parenthesis(&mut self, index: usize) -> Result<()> {
+    fn note_parenthesis(&mut self) -> Result<()> {
         let words = &self.top.draft.command.words;
         if begins_with(words, "function") {
             return self.end_command();
@@ -120,18 +110,14 @@ impl Reader<'_> {
         let is_known = words
             .iter()
             .any(|word| word.units.iter().any(|unit| unit.byte().is_some()));
-        if is_known && !begins_with(words, "[[") && self.form.dialect != Dialect::Macros {
-            let before = self.start_at(index);
-            self.output.unread.push(before)?;
-        }
-        Ok(())
+        let is_pattern = is_known && !begins_with(words, "[[") && !self.has_macros();
+        self.output.tell_if(is_pattern, self.here.start())
     }
 
     /// Whether `((` begins an expression where a command may begin, and behind `for`.
     fn begins_expression(&self) -> bool {
         let words = &self.top.draft.command.words;
-        self.form.dialect != Dialect::Macros
-            && (words.is_empty() || (words.len() == 1 && begins_with(words, "for")))
+        !self.has_macros() && (words.is_empty() || (words.len() == 1 && begins_with(words, "for")))
     }
 
     /// Whether the word before `(` makes it the beginning of words of an array, or of a part of a pattern of some shells.
@@ -148,13 +134,16 @@ impl Reader<'_> {
         }
     }
 
-    /// The number of the unit behind `)`, if it comes next.
-    fn empty_end(&self, next: usize) -> Option<usize> {
-        let index = (next..self.text.len()).find(|index| !matches!(
-            self.text.byte(*index),
-            Some(b' ' | b'\t')
-        ))?;
-        (self.text.byte(index) == Some(b')')).then_some(index.saturating_add(1))
+    /// How many blanks come next.
+    fn blanks(&self) -> usize {
+        let mut rest = self.rest;
+        for count in 0..self.rest.len() {
+            if !matches!(rest.peek(), Some(b' ' | b'\t')) {
+                return count;
+            }
+            rest = rest.skip(1);
+        }
+        self.rest.len()
     }
 
     /// Reads `)`: the end of a pattern of `case`, or of what encloses.
@@ -170,18 +159,16 @@ impl Reader<'_> {
             self.top.is_pattern = false;
             return Ok(());
         }
-        if self.frames.is_empty() && self.form.dialect != Dialect::Macros {
-            self.output.unread.push(unit.start())?;
-        }
+        let is_open = !self.frames.is_empty() || self.has_macros();
+        self.output.tell_if(!is_open, unit.start())?;
         self.close(unit.end())
     }
 
     /// Reads the operator of a redirection, or the beginning of `<( )`.
-    fn read_redirection(&mut self, index: usize, byte: u8) -> Result<()> {
-        let next = index.saturating_add(1);
-        let second = self.text.byte(next);
+    fn read_redirection(&mut self, byte: u8) -> Result<()> {
+        let second = self.rest.peek();
         if second == Some(b'(') {
-            self.open(index, next.saturating_add(1), Enclosure::Substitution, true)?;
+            self.open(1, Enclosure::Substitution, true)?;
             self.top.is_process = true;
             return Ok(());
         }
@@ -202,9 +189,8 @@ impl Reader<'_> {
             Stream::Output => self.forget_output(),
             Stream::Other => {}
         }
-        let third = self.text.byte(next.saturating_add(1));
-        let (awaited, length) = redirection((byte, second, third), stream);
-        self.resume = index.saturating_add(length);
+        let (awaited, more) = redirection((byte, second, self.rest.byte(1)), stream);
+        self.pass(more);
         self.top.awaited = awaited;
         Ok(())
     }
@@ -252,27 +238,27 @@ fn stream_of(units: &[Unit]) -> Stream {
     }
 }
 
-/// What follows the operator that begins with these bytes, which is for this stream, and how long it is.
+/// What follows the operator that begins with these bytes, which is for this stream, and how many more than the first it has.
 fn redirection(bytes: (u8, Option<u8>, Option<u8>), stream: Stream) -> (Awaited, usize) {
     let delimiter = Delimiter {
         is_stripped: bytes.2 == Some(b'-'),
         is_input: stream == Stream::Input,
     };
     match bytes {
-        (b'<', Some(b'<'), Some(b'<')) if stream == Stream::Input => (Awaited::HereString, 3),
-        (b'<', Some(b'<'), Some(b'<')) => (Awaited::Skipped, 3),
-        (b'<', Some(b'<'), Some(b'-')) => (Awaited::Delimiter(delimiter), 3),
-        (b'<', Some(b'<'), _) => (Awaited::Delimiter(delimiter), 2),
-        (b'<', Some(b'&'), _) => (Awaited::Skipped, 2),
-        (b'<', Some(b'>'), _) if stream == Stream::Input => (Awaited::Source, 2),
-        (b'<', Some(b'>'), _) => (written(stream, false), 2),
-        (b'<', _, _) if stream == Stream::Input => (Awaited::Source, 1),
-        (b'<', _, _) => (Awaited::Skipped, 1),
-        (_, Some(b'&'), _) if stream == Stream::Output => (Awaited::Copied, 2),
-        (_, Some(b'&'), _) => (Awaited::Skipped, 2),
-        (_, Some(b'>'), _) => (written(stream, false), 2),
-        (_, Some(b'|'), _) => (written(stream, true), 2),
-        _ => (written(stream, true), 1),
+        (b'<', Some(b'<'), Some(b'<')) if stream == Stream::Input => (Awaited::HereString, 2),
+        (b'<', Some(b'<'), Some(b'<')) => (Awaited::Skipped, 2),
+        (b'<', Some(b'<'), Some(b'-')) => (Awaited::Delimiter(delimiter), 2),
+        (b'<', Some(b'<'), _) => (Awaited::Delimiter(delimiter), 1),
+        (b'<', Some(b'&'), _) => (Awaited::Skipped, 1),
+        (b'<', Some(b'>'), _) if stream == Stream::Input => (Awaited::Source, 1),
+        (b'<', Some(b'>'), _) => (written(stream, false), 1),
+        (b'<', _, _) if stream == Stream::Input => (Awaited::Source, 0),
+        (b'<', _, _) => (Awaited::Skipped, 0),
+        (_, Some(b'&'), _) if stream == Stream::Output => (Awaited::Copied, 1),
+        (_, Some(b'&'), _) => (Awaited::Skipped, 1),
+        (_, Some(b'>'), _) => (written(stream, false), 1),
+        (_, Some(b'|'), _) => (written(stream, true), 1),
+        _ => (written(stream, true), 0),
     }
 }
 

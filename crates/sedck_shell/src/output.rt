@@ -4,7 +4,7 @@ use crate::command::{ShellCommand, ShellText, ShellWord};
 use crate::frame::{Delimiter, Draft, Frame, Quote};
 use crate::groups::{COPIED, inherit};
 use crate::reader::{Form, Job, MISSES, Output, Reader};
-use sedck_origin::{Result, Text, Unit};
+use sedck_origin::{Cursor, Result, Text, Unit};
 use std::alloc::Global;
 
 /// How often reading goes on at a next line.
@@ -27,13 +27,13 @@ pub fn read_shell(alloc: Global, text: Text, form: Form) -> Result<ShellText> {
         has_looked: false,
         is_full: false,
     };
-    output = read_text(alloc, text, form, None, output)?;
+    output = read_text(alloc, Cursor::new(text), form, None, output)?;
     for _ in 0..LEVELS {
         let jobs = std::mem::replace(&mut output.jobs, Vec::new(alloc));
         for job in &jobs {
             output = match job.body {
                 Some(number) => read_body(alloc, job, number, form, output)?,
-                None => read_text(alloc, Text::Units(&job.units), form, job.group, output)?,
+                None => read_text(alloc, Cursor::Units(&job.units), form, job.group, output)?,
             };
         }
     }
@@ -43,37 +43,32 @@ pub fn read_shell(alloc: Global, text: Text, form: Form) -> Result<ShellText> {
 /// Reads a text in the group of this number. Where a quote or an expansion isn't closed, reading goes on at the line after it.
 fn read_text(
     alloc: Global,
-    text: Text,
+    text: Cursor,
     form: Form,
     group: Option<usize>,
     output: Output,
 ) -> Result<Output> {
-    let mut output = output;
-    let mut from = 0usize;
+    let (mut output, mut rest) = (output, text);
     for _ in 0..RESTARTS {
         let mut top = Frame::new(alloc, Quote::None);
         top.flow.group = group;
-        let mut reader = new_reader(alloc, text, form, top, output);
-        reader.resume = from;
-        reader.opened = from;
+        let mut reader = new_reader(alloc, rest, form, top, output);
         reader.read_all()?;
         let is_closed = reader.is_closed();
         if is_closed {
             reader.end_command()?;
         }
-        if !is_closed || !reader.frames.is_empty() {
-            let start = reader.start_at(reader.opened);
-            reader.output.unread.push(start)?;
-        }
         let (opened, mark) = (reader.opened, reader.mark);
+        let is_open = !is_closed || !reader.frames.is_empty();
+        reader.output.tell_if(is_open, opened.start())?;
         output = reader.output;
         if is_closed {
             break;
         }
         output.forget(mark);
-        match (opened..text.len()).find(|index| text.byte(*index) == Some(b'\n')) {
-            Some(newline) if newline >= from => from = newline.saturating_add(1),
-            _ => break,
+        match opened.behind(b'\n') {
+            Some(next) => rest = next,
+            None => break,
         }
     }
     Ok(output)
@@ -89,7 +84,7 @@ fn read_body(
 ) -> Result<Output> {
     let mut top = Frame::new(alloc, job.quote);
     top.flow.group = job.group;
-    let mut reader = new_reader(alloc, Text::Units(&job.units), form, top, output);
+    let mut reader = new_reader(alloc, Cursor::Units(&job.units), form, top, output);
     reader.read_all()?;
     reader.leave_frames()?;
     let body = std::mem::replace(&mut reader.top.word.units, Vec::new(alloc));
@@ -102,20 +97,21 @@ fn read_body(
 /// A reader at the beginning of a text.
 fn new_reader<'a>(
     alloc: Global,
-    text: Text<'a>,
+    text: Cursor<'a>,
     form: Form,
     top: Frame,
     output: Output,
 ) -> Reader<'a> {
     Reader {
         alloc,
-        text,
         form,
+        here: text,
+        rest: text,
+        passed: 0,
         top,
         frames: Vec::new(alloc),
         pending: Vec::new(alloc),
-        resume: 0,
-        opened: 0,
+        opened: text,
         mark: output.mark(),
         brackets: 0,
         output,
@@ -204,66 +200,61 @@ impl Reader<'_> {
         Ok(self.pending.push(pending)?)
     }
 
-    /// Takes the here-documents that are awaited, from this number on, to be read by themselves.
-    pub fn read_bodies(&mut self, from: usize) -> Result<()> {
+    /// Takes the here-documents that are awaited, to be read by themselves.
+    pub fn read_bodies(&mut self) -> Result<()> {
         let pending = std::mem::replace(&mut self.pending, Vec::new(self.alloc));
-        self.resume = from;
+        self.pass(0);
         for one in &pending {
             if self.output.misses >= MISSES {
                 break;
             }
-            let Some((end, after)) = body_end(self.text, self.resume, one) else {
+            let Some((end, rest)) = body_end(self.rest, one) else {
                 return self.output.miss(one.start);
             };
-            if !one.is_quoted && ends_before(self.text, self.resume, end, one) {
-                self.output.unread.push(one.start)?;
-            }
-            let units = lines_of(self.alloc, self.text, self.resume, end, one.is_stripped)?;
+            let body = self.rest.before(end);
+            let ends = !one.is_quoted && ends_before(self.rest, body.len(), one);
+            self.output.tell_if(ends, one.start)?;
+            let units = lines_of(self.alloc, body, one.is_stripped)?;
             let quote = if one.is_quoted {
                 Quote::Verbatim
             } else {
                 Quote::Body
             };
-            let (body, group) = (Some(one.number), one.group);
-            let job = Job {
-                units,
-                quote,
-                body,
-                group,
-            };
-            self.output.jobs.push(job)?;
-            self.resume = after;
+            self.output
+                .add_job(units, quote, Some(one.number), one.group)?;
+            if let Some(last) = self.rest.before(rest).len().checked_sub(1) {
+                self.here = self.rest.skip(last);
+                self.pass(0);
+            }
         }
         Ok(())
     }
 }
 
-/// Where the here-document that begins at this number ends: before its delimiter's line, and with it.
-fn body_end(text: Text, from: usize, pending: &Pending) -> Option<(usize, usize)> {
-    let length = text.len();
-    let mut line = from;
-    for index in from..length.saturating_add(1) {
-        if index < length && text.byte(index) != Some(b'\n') {
-            continue;
+/// The line of the delimiter with which the here-document ends that begins the text, and what is behind it.
+fn body_end<'a>(text: Cursor<'a>, pending: &Pending) -> Option<(Cursor<'a>, Cursor<'a>)> {
+    let mut line = text;
+    for _ in 0..text.len().saturating_add(1) {
+        let (inner, rest) = line.split_line();
+        if is_delimiter(inner, pending) {
+            return Some((line, rest));
         }
-        let after = index.saturating_add(1).min(length);
-        if is_delimiter(text, line, index, pending) {
-            return Some((line, after));
-        }
-        line = after;
+        line = line.behind(b'\n')?;
     }
     None
 }
 
-/// Whether some shells find the end of the here-document before the unit of this number: at lines that are joined by backslashes, and are the
+/// Whether some shells find the end of the here-document in its first so many units: at lines that are joined by backslashes, and are the
 /// delimiter then.
-fn ends_before(text: Text, from: usize, end: usize, pending: &Pending) -> bool {
+fn ends_before(text: Cursor, count: usize, pending: &Pending) -> bool {
+    let mut rest = text;
     let mut begins_line = true;
-    for index in from..end {
-        if begins_line && is_joined_delimiter(text, index, pending) {
+    for _ in 0..count {
+        if begins_line && is_joined_delimiter(rest, pending) {
             return true;
         }
-        begins_line = text.byte(index) == Some(b'\n');
+        begins_line = rest.peek() == Some(b'\n');
+        rest = rest.skip(1);
     }
     false
 }
@@ -271,64 +262,52 @@ fn ends_before(text: Text, from: usize, end: usize, pending: &Pending) -> bool {
 /// How many lines are joined at most where the delimiter is looked for: more are taken for it.
 const JOINED: usize = 16;
 
-/// Whether the lines that are joined from this number on, of which the first one is the beginning of the delimiter, are the delimiter.
-fn is_joined_delimiter(text: Text, from: usize, pending: &Pending) -> bool {
-    let mut index = from;
+/// Whether the lines that are joined at the beginning of the text, of which the first is the beginning of the delimiter, are the delimiter.
+fn is_joined_delimiter(text: Cursor, pending: &Pending) -> bool {
+    let mut rest = text;
     let mut count = 0usize;
     let mut place = 0usize;
     let length = pending.delimiter.len();
-    for _ in 0..text.len() {
-        let next = index.saturating_add(1);
-        if count < JOINED && text.byte(index) == Some(b'\\') && text.byte(next) == Some(b'\n') {
+    for _ in 0..text.len().saturating_add(1) {
+        let byte = rest.peek();
+        if count < JOINED && byte == Some(b'\\') && rest.byte(1) == Some(b'\n') {
             count = count.saturating_add(1);
-            index = next.saturating_add(1);
-        } else if pending.is_stripped && place == 0 && text.byte(index) == Some(b'\t') {
-            index = next;
-        } else if place < length && text.byte(index) == pending.delimiter.get(place).copied() {
+            rest = rest.skip(1);
+        } else if pending.is_stripped && place == 0 && byte == Some(b'\t') {
+            // It is left out.
+        } else if place < length && byte == pending.delimiter.get(place).copied() {
             place = place.saturating_add(1);
-            index = next;
         } else {
-            let is_ended = place == length && matches!(text.byte(index), Some(b'\n') | None);
+            let is_ended = place == length && matches!(byte, Some(b'\n') | None);
             return count >= JOINED || (count > 0 && is_ended);
         }
+        rest = rest.skip(1);
     }
     count > 0
 }
 
-/// Whether the line between these numbers is the delimiter.
-fn is_delimiter(text: Text, line: usize, end: usize, pending: &Pending) -> bool {
-    let length = pending.delimiter.len();
-    let start = if pending.is_stripped {
-        end.saturating_sub(length).max(line)
-    } else {
-        line
-    };
-    end.saturating_sub(start) == length
-        && (line..start).all(|index| text.byte(index) == Some(b'\t'))
-        && (start..end)
-            .zip(pending.delimiter.iter())
-            .all(|(index, byte)| text.byte(index) == Some(*byte))
+/// Whether the line is the delimiter.
+fn is_delimiter(line: Cursor, pending: &Pending) -> bool {
+    let tabs = line.len().saturating_sub(pending.delimiter.len());
+    let is_indented = pending.is_stripped && (0..tabs).all(|index| line.byte(index) == Some(b'\t'));
+    (tabs == 0 || is_indented) && line.skip(tabs).is(&pending.delimiter)
 }
 
-/// The units between these numbers, without the tabs at the beginnings of lines if they are left out.
-fn lines_of(
-    alloc: Global,
-    text: Text,
-    from: usize,
-    end: usize,
-    is_stripped: bool,
-) -> Result<Vec<Unit>> {
+/// The units of lines, without the tabs at their beginnings if they are left out.
+fn lines_of(alloc: Global, text: Cursor, is_stripped: bool) -> Result<Vec<Unit>> {
     let mut lines = Vec::new(alloc);
+    let mut rest = text;
     let mut begins_line = true;
-    for index in from..end {
-        let Some(unit) = text.get(index) else {
+    for _ in 0..text.len() {
+        let Some((unit, next)) = rest.split_first() else {
             break;
         };
-        if begins_line && is_stripped && unit.byte() == Some(b'\t') {
-            continue;
+        rest = next;
+        let is_left_out = begins_line && is_stripped && unit.byte() == Some(b'\t');
+        if !is_left_out {
+            begins_line = unit.byte() == Some(b'\n');
+            lines.push(unit)?;
         }
-        begins_line = unit.byte() == Some(b'\n');
-        lines.push(unit)?;
     }
     Ok(lines)
 }

@@ -1,38 +1,36 @@
 //! Quoting (XCU 2.2), and the quotes of M4, which are around the arguments of macros in the sources of Autoconf.
 
 use crate::frame::{Enclosure, Quote};
-use crate::reader::{Dialect, Reader};
-use sedck_origin::{Result, Text, Unit, Way, escape_byte};
+use crate::reader::Reader;
+use sedck_origin::{Cursor, Result, Unit, Way, escape_byte};
 
 impl Reader<'_> {
     /// Begins a quoted part.
-    pub fn open_quote(&mut self, index: usize, unit: Unit, quote: Quote) {
-        self.note_opening(index);
+    pub fn open_quote(&mut self, unit: Unit, quote: Quote) {
+        self.note_opening();
         self.begin_word(unit.start());
         self.top.word.is_quoted = true;
         self.set_quote(quote);
     }
 
     /// Begins what is between `$'` and `'`. A shell that doesn't know this reads a dollar sign, and a text between single quotes.
-    pub fn open_dollar_quote(&mut self, index: usize, unit: Unit) {
+    pub fn open_dollar_quote(&mut self, unit: Unit) {
         let quote = if self.form.has_dollar_quotes {
             Quote::Dollar
         } else {
             Quote::Either
         };
-        self.open_quote(index, unit, quote);
+        self.open_quote(unit, quote);
         self.top.quoted_from = unit.start();
     }
 
     /// Reads a unit between `$'` and `'` where shells differ, which makes a hole of it all. Behind a backslash they find different ends.
-    pub fn read_either(&mut self, index: usize, unit: Unit) -> Result<()> {
+    pub fn read_either(&mut self, unit: Unit) -> Result<()> {
         match unit.byte() {
             Some(b'\\') => {
-                let next = index.saturating_add(1);
-                self.resume = next.saturating_add(1);
-                if self.text.byte(next) == Some(b'\'') {
-                    self.output.unread.push(unit.start())?;
-                }
+                let is_quote = self.rest.peek() == Some(b'\'');
+                self.output.tell_if(is_quote, unit.start())?;
+                self.pass(1);
             }
             Some(b'\'') => {
                 self.top.quote = Quote::None;
@@ -50,15 +48,15 @@ impl Reader<'_> {
     }
 
     /// Reads a backslash that isn't quoted, and what it quotes: a newline behind it is left out with it.
-    pub fn read_backslash(&mut self, index: usize, unit: Unit) -> Result<()> {
-        let next = index.saturating_add(1);
-        self.resume = next.saturating_add(1);
-        let Some(quoted) = self.text.get(next) else {
+    pub fn read_backslash(&mut self, unit: Unit) -> Result<()> {
+        let next = self.rest.get(0);
+        self.pass(1);
+        let Some(quoted) = next else {
             return Ok(());
         };
         match quoted.byte() {
             Some(b'\n') => return Ok(()),
-            Some(b'[') if self.form.dialect == Dialect::Macros => {
+            Some(b'[') if self.has_macros() => {
                 self.brackets = self.brackets.saturating_add(1);
             }
             Some(b']') => self.brackets = self.brackets.saturating_sub(1),
@@ -70,13 +68,13 @@ impl Reader<'_> {
     }
 
     /// Reads a unit between double quotes (XCU 2.2.3), or of a here-document (XCU 2.7.4).
-    pub fn read_double(&mut self, index: usize, unit: Unit) -> Result<()> {
+    pub fn read_double(&mut self, unit: Unit) -> Result<()> {
         match unit.byte() {
             Some(b'"') if self.top.quote == Quote::Double => self.close_double(unit),
-            Some(b'\\') => self.read_backslash_in_double(index, unit),
-            Some(b'$') => self.read_expansion(index, unit),
-            Some(b'`') => self.read_backquote(index, unit),
-            _ => self.add_byte(index, unit),
+            Some(b'\\') => self.read_backslash_in_double(unit),
+            Some(b'$') => self.read_expansion(unit),
+            Some(b'`') => self.read_backquote(unit),
+            _ => self.add_byte(unit),
         }
     }
 
@@ -93,16 +91,11 @@ impl Reader<'_> {
 
     /// Reads a backslash between double quotes or in a here-document: it quotes a dollar sign, a backquote, a backslash and a newline, and
     /// between double quotes a double quote.
-    fn read_backslash_in_double(&mut self, index: usize, unit: Unit) -> Result<()> {
-        let next = index.saturating_add(1);
-        let after = next.saturating_add(1);
-        match self.text.get(next) {
-            Some(quoted) if quoted.byte() == Some(b'\n') => {
-                self.resume = after;
-                Ok(())
-            }
+    fn read_backslash_in_double(&mut self, unit: Unit) -> Result<()> {
+        match self.rest.get(0) {
+            Some(quoted) if quoted.byte() == Some(b'\n') => Ok(self.pass(1)),
             Some(quoted) if self.is_quotable(quoted) => {
-                self.resume = after;
+                self.pass(1);
                 self.add(quoted)
             }
             _ => self.add(unit),
@@ -119,22 +112,22 @@ impl Reader<'_> {
     }
 
     /// Reads a unit between `$'` and `'` (XCU 2.2.4).
-    pub fn read_dollar(&mut self, index: usize, unit: Unit) -> Result<()> {
+    pub fn read_dollar(&mut self, unit: Unit) -> Result<()> {
         match unit {
             Unit::Byte(b'\'', _) => {
                 self.top.quote = Quote::None;
                 Ok(())
             }
-            Unit::Byte(b'\\', offset) => self.read_escape(index, offset),
-            _ => self.add_byte(index, unit),
+            Unit::Byte(b'\\', offset) => self.read_escape(offset),
+            _ => self.add_byte(unit),
         }
     }
 
     /// Reads an escape sequence. One that doesn't stand for one byte by its letter alone is a hole.
-    fn read_escape(&mut self, index: usize, offset: usize) -> Result<()> {
-        let next = index.saturating_add(1);
-        self.resume = next.saturating_add(1);
-        let Some(Unit::Byte(letter, after)) = self.text.get(next) else {
+    fn read_escape(&mut self, offset: usize) -> Result<()> {
+        let next = self.rest.get(0);
+        self.pass(1);
+        let Some(Unit::Byte(letter, after)) = next else {
             return self.add_hole(offset, offset.saturating_add(1), Way::Quoted);
         };
         // Between backquotes there may be another backslash between the two.
@@ -142,10 +135,9 @@ impl Reader<'_> {
         match escape_byte(letter) {
             Some(byte) if is_beside => self.add(Unit::Escape(byte, offset)),
             _ => {
-                let more = digits_after(self.text, next, letter);
-                self.resume = self.resume.saturating_add(more);
-                let end = self.end_at(next.saturating_add(more));
-                self.add_hole(offset, end, Way::Quoted)
+                let count = digits_after(self.rest, letter).saturating_add(1);
+                self.pass(count);
+                self.add_hole(offset, self.end_after(count), Way::Quoted)
             }
         }
     }
@@ -197,8 +189,8 @@ impl Reader<'_> {
     }
 }
 
-/// How many digits follow the letter of an escape sequence as a part of it.
-fn digits_after(text: Text, letter_index: usize, letter: u8) -> usize {
+/// How many digits that begin the text belong to the escape sequence with this letter before them.
+fn digits_after(text: Cursor, letter: u8) -> usize {
     let most = match letter {
         b'0'..=b'7' | b'x' => 2usize,
         b'u' => 4,
@@ -207,8 +199,7 @@ fn digits_after(text: Text, letter_index: usize, letter: u8) -> usize {
         _ => 0,
     };
     for count in 0..most {
-        let index = letter_index.saturating_add(1).saturating_add(count);
-        let is_part = match text.byte(index) {
+        let is_part = match text.byte(count) {
             Some(byte) if letter.is_ascii_digit() => matches!(byte, b'0'..=b'7'),
             Some(b'\'' | b'\\') | None => false,
             Some(byte) => letter == b'c' || byte.is_ascii_hexdigit(),

@@ -3,7 +3,7 @@
 use crate::command::{Pattern, ShellWord};
 use crate::frame::{Draft, Enclosure, Frame, Mark, Quote};
 use crate::output::Pending;
-use sedck_origin::{Result, Text, Unit, Way, is_name_byte, name_length};
+use sedck_origin::{Cursor, Result, Unit, Way, is_name_byte, name_length};
 use std::alloc::Global;
 
 /// How a text is made into shell text before it runs.
@@ -70,8 +70,13 @@ impl Output {
 
     /// Notes that what begins at this offset in the file isn't kept, as there is too much.
     pub fn note_full(&mut self, offset: usize) -> Result<()> {
-        if !self.is_full {
-            self.is_full = true;
+        let was_full = std::mem::replace(&mut self.is_full, true);
+        self.tell_if(!was_full, offset)
+    }
+
+    /// Tells that what begins at this offset in the file isn't understood, if it isn't.
+    pub fn tell_if(&mut self, is_unread: bool, offset: usize) -> Result<()> {
+        if is_unread {
             self.unread.push(offset)?;
         }
         Ok(())
@@ -81,6 +86,24 @@ impl Output {
     pub fn forget(&mut self, mark: Mark) {
         self.commands.truncate(mark.commands);
         self.jobs.truncate(mark.jobs);
+    }
+
+    /// Has a text be read by itself.
+    pub fn add_job(
+        &mut self,
+        units: Vec<Unit>,
+        quote: Quote,
+        body: Option<usize>,
+        group: Option<usize>,
+    ) -> Result<()> {
+        Ok(
+            self.jobs.push(Job {
+                units,
+                quote,
+                body,
+                group,
+            })?,
+        )
     }
 
     /// Notes that the end of what begins at this offset was looked for in vain.
@@ -103,112 +126,124 @@ const DEPTH: usize = 100;
 #[derive(Drop)]
 pub(crate) struct Reader<'a> {
     pub alloc: Global,
-    pub text: Text<'a>,
     pub form: Form,
+    /// What begins with the unit that is read, and what is behind that and isn't read yet.
+    pub here: Cursor<'a>,
+    pub rest: Cursor<'a>,
+    /// The offset in the file of the last unit that was passed in one step.
+    pub passed: usize,
     pub top: Frame,
     /// What encloses it, from the outermost on.
     pub frames: Vec<Frame>,
     /// Here-documents that begin at the next newline.
     pub pending: Vec<Pending>,
-    /// The number of the unit with which reading goes on.
-    pub resume: usize,
-    /// The number of the unit with which the outermost quote or expansion begins, and what had been read before it.
-    pub opened: usize,
+    /// What begins with the outermost quote or expansion, and what had been read before it.
+    pub opened: Cursor<'a>,
     pub mark: Mark,
     /// How many brackets of M4 are open.
     pub brackets: usize,
     pub output: Output,
 }
 
-impl Reader<'_> {
-    /// Reads the units from the one with which reading goes on.
+impl<'a> Reader<'a> {
+    /// Reads the units that are left.
     pub fn read_all(&mut self) -> Result<()> {
-        for index in self.resume..self.text.len() {
-            match self.text.get(index) {
-                Some(unit) if index >= self.resume => self.read(index, unit)?,
-                _ => {}
-            }
+        for _ in 0..self.rest.len() {
+            let Some((unit, rest)) = self.rest.split_first() else {
+                break;
+            };
+            self.here = self.rest;
+            self.rest = rest;
+            self.read(unit)?;
         }
         Ok(())
     }
 
-    /// Reads the unit of this number.
-    fn read(&mut self, index: usize, unit: Unit) -> Result<()> {
+    /// Whether macros of M4 are in the text.
+    pub fn has_macros(&self) -> bool {
+        self.form.dialect == Dialect::Macros
+    }
+
+    /// The offset in the file behind the unit after so many more; 0 where the text ends before.
+    pub fn end_after(&self, count: usize) -> usize {
+        self.here.get(count).map_or(0, Unit::end)
+    }
+
+    /// Passes so many units more.
+    pub fn pass(&mut self, count: usize) {
+        let last = self.here.skip(count);
+        self.passed = last.start();
+        self.rest = last.skip(1);
+    }
+
+    /// Reads a unit.
+    fn read(&mut self, unit: Unit) -> Result<()> {
         match unit.byte() {
-            Some(b'[') if self.form.dialect == Dialect::Macros => self.open_bracket(unit),
-            Some(b']') if self.form.dialect == Dialect::Macros => self.close_bracket(unit),
-            _ => self.read_by_quote(index, unit),
+            Some(b'[') if self.has_macros() => self.open_bracket(unit),
+            Some(b']') if self.has_macros() => self.close_bracket(unit),
+            _ => self.read_by_quote(unit),
         }
     }
 
     /// Reads a unit by the quoting around it.
-    fn read_by_quote(&mut self, index: usize, unit: Unit) -> Result<()> {
+    fn read_by_quote(&mut self, unit: Unit) -> Result<()> {
         match self.top.quote {
-            Quote::None => self.read_bare(index, unit),
+            Quote::None => self.read_bare(unit),
             Quote::Single if unit.byte() == Some(b'\'') => {
                 self.top.quote = Quote::None;
                 Ok(())
             }
-            Quote::Single | Quote::Verbatim => self.add_byte(index, unit),
-            Quote::Double | Quote::Body => self.read_double(index, unit),
-            Quote::Dollar => self.read_dollar(index, unit),
-            Quote::Either => self.read_either(index, unit),
+            Quote::Single | Quote::Verbatim => self.add_byte(unit),
+            Quote::Double | Quote::Body => self.read_double(unit),
+            Quote::Dollar => self.read_dollar(unit),
+            Quote::Either => self.read_either(unit),
             Quote::Comment if unit.byte() != Some(b'\n') => Ok(()),
             Quote::Comment => {
                 self.top.quote = Quote::None;
-                self.read_bare(index, unit)
+                self.read_bare(unit)
             }
         }
     }
 
     /// Reads a unit that isn't quoted.
-    fn read_bare(&mut self, index: usize, unit: Unit) -> Result<()> {
+    fn read_bare(&mut self, unit: Unit) -> Result<()> {
         match self.top.enclosure {
-            Enclosure::Parameter => self.read_parameter(index, unit),
-            Enclosure::Arithmetic => self.read_arithmetic(index, unit),
-            _ => self.read_in_commands(index, unit),
+            Enclosure::Parameter => self.read_parameter(unit),
+            Enclosure::Arithmetic => self.read_arithmetic(unit),
+            _ => self.read_in_commands(unit),
         }
     }
 
     /// Reads a unit between commands, or in one.
-    fn read_in_commands(&mut self, index: usize, unit: Unit) -> Result<()> {
+    fn read_in_commands(&mut self, unit: Unit) -> Result<()> {
         let Some(byte) = unit.byte() else {
             return self.add(unit);
         };
         match byte {
             b' ' | b'\t' => self.end_word(),
-            b'\n' => self.end_line(index),
-            b'\'' | b'"' => {
-                let quote = if byte == b'"' {
-                    Quote::Double
-                } else {
-                    Quote::Single
-                };
-                self.open_quote(index, unit, quote);
-                Ok(())
+            b'\n' => self.end_line(),
+            b'\'' => Ok(self.open_quote(unit, Quote::Single)),
+            b'"' => Ok(self.open_quote(unit, Quote::Double)),
+            b'\\' => self.read_backslash(unit),
+            b'$' => self.read_expansion(unit),
+            b'`' => self.read_backquote(unit),
+            b'#' | b'd' if !self.top.has_word && self.begins_comment(byte) => {
+                Ok(self.set_quote(Quote::Comment))
             }
-            b'\\' => self.read_backslash(index, unit),
-            b'$' => self.read_expansion(index, unit),
-            b'`' => self.read_backquote(index, unit),
-            b'#' | b'd' if !self.top.has_word && self.begins_comment(index, byte) => {
-                self.set_quote(Quote::Comment);
-                Ok(())
-            }
-            b';' | b'&' | b'|' | b'<' | b'>' | b'(' | b')' => self.read_operator(index, unit, byte),
+            b';' | b'&' | b'|' | b'<' | b'>' | b'(' | b')' => self.read_operator(unit, byte),
             b'~' if self.begins_tilde() => {
-                let end = self.name_end(index.saturating_add(1));
-                self.add_hole_to(unit, end.saturating_sub(1), Way::Quoted)
+                self.add_hole_over(self.rest.name_length(), Way::Quoted)
             }
-            b'*' | b'?' | b'[' | b'{' | b'}' | b',' | b'.' => self.read_sign(index, unit, byte),
-            _ => self.add_byte(index, unit),
+            b'*' | b'?' | b'[' | b'{' | b'}' | b',' | b'.' => self.read_sign(unit, byte),
+            _ => self.add_byte(unit),
         }
     }
 
     /// Reads a byte that may make several words of one, outside of quotes.
-    fn read_sign(&mut self, index: usize, unit: Unit, byte: u8) -> Result<()> {
+    fn read_sign(&mut self, unit: Unit, byte: u8) -> Result<()> {
         let number = self.top.word.units.len();
         let braces = &mut self.top.braces;
-        let next = self.text.byte(index.saturating_add(1));
+        let next = self.rest.peek();
         match byte {
             b'{' if braces.from.is_none() => braces.from = Some(number),
             b',' => braces.has_list = braces.from.is_some(),
@@ -236,46 +271,38 @@ impl Reader<'_> {
     }
 
     /// Whether a word that begins here is a comment to the line's end: `#`, or `dnl` of M4.
-    fn begins_comment(&self, index: usize, byte: u8) -> bool {
-        let next = index.saturating_add(1);
+    fn begins_comment(&self, byte: u8) -> bool {
         byte == b'#'
-            || (self.form.dialect == Dialect::Macros
-                && self.text.byte(next) == Some(b'n')
-                && self.text.byte(next.saturating_add(1)) == Some(b'l')
-                && self.name_end(index) == index.saturating_add(3))
+            || (self.has_macros()
+                && self.rest.byte(0) == Some(b'n')
+                && self.rest.byte(1) == Some(b'l')
+                && self.rest.name_length() == 2)
     }
 
     /// Adds a unit to the word, or the name with `@` around it that begins there.
-    pub fn add_byte(&mut self, index: usize, unit: Unit) -> Result<()> {
-        let from = index.saturating_add(1);
+    pub fn add_byte(&mut self, unit: Unit) -> Result<()> {
         if self.form.dialect == Dialect::Template
             && unit.byte() == Some(b'@')
-            && self.text.byte(from).is_some_and(begins_name)
+            && self.rest.peek().is_some_and(begins_name)
         {
-            let last = self.name_end(from);
-            if self.text.byte(last) == Some(b'@') {
-                return self.add_hole_to(unit, last, self.made_way());
+            let length = self.rest.name_length();
+            if self.rest.byte(length) == Some(b'@') {
+                return self.add_hole_over(length.saturating_add(1), self.made_way());
             }
         }
         self.add(unit)
     }
 
-    /// Opens what encloses the units from this number on.
-    pub fn open(
-        &mut self,
-        index: usize,
-        from: usize,
-        enclosure: Enclosure,
-        is_hole: bool,
-    ) -> Result<()> {
+    /// Opens what encloses the units behind so many more.
+    pub fn open(&mut self, count: usize, enclosure: Enclosure, is_hole: bool) -> Result<()> {
         if enclosure != Enclosure::Group {
-            self.note_opening(index);
+            self.note_opening();
         }
-        self.resume = from;
+        self.pass(count);
         if self.frames.len() >= DEPTH {
-            return self.give_up_line(index);
+            return self.give_up_line();
         }
-        let mut frame = self.frame_for(index, enclosure, is_hole);
+        let mut frame = self.frame_for(enclosure, is_hole);
         if frame.has_commands() {
             frame.flow.group = self.new_group(frame.opened, is_hole)?;
         }
@@ -284,13 +311,13 @@ impl Reader<'_> {
     }
 
     /// The frame of what is opened.
-    fn frame_for(&self, index: usize, enclosure: Enclosure, is_hole: bool) -> Frame {
+    fn frame_for(&self, enclosure: Enclosure, is_hole: bool) -> Frame {
         let is_group = enclosure == Enclosure::Group;
         let mut frame = Frame::new(self.alloc, Quote::None);
         frame.enclosure = enclosure;
         frame.is_hole = is_hole;
         frame.is_plain = self.top.is_plain && self.top.quote == Quote::None && is_group;
-        frame.opened = self.start_at(index);
+        frame.opened = self.here.start();
         frame.is_in_double = enclosure == Enclosure::Parameter
             && (self.top.is_in_double || matches!(self.top.quote, Quote::Double | Quote::Body));
         frame.brackets = self.brackets;
@@ -304,18 +331,17 @@ impl Reader<'_> {
         frame
     }
 
-    /// Keeps the number of the unit, where nothing is open but groups.
-    pub fn note_opening(&mut self, index: usize) {
+    /// Keeps what begins with the unit that is read, where nothing is open but groups.
+    pub fn note_opening(&mut self) {
         if self.top.is_plain && self.top.quote == Quote::None {
-            self.opened = index;
+            self.opened = self.here;
             self.mark = self.output.mark();
         }
     }
 
     /// Leaves all that is open, and goes on at the next line.
-    fn give_up_line(&mut self, index: usize) -> Result<()> {
-        let before = self.end_at(index.saturating_sub(1));
-        self.output.unread.push(before)?;
+    fn give_up_line(&mut self) -> Result<()> {
+        self.output.unread.push(self.here.start())?;
         self.top = Frame::new(self.alloc, Quote::Comment);
         self.top.brackets = self.brackets;
         self.top.floor = self.brackets;
@@ -347,9 +373,8 @@ impl Reader<'_> {
 
     /// Leaves all that encloses, whose units are lost.
     pub fn leave_frames(&mut self) -> Result<()> {
-        if !self.frames.is_empty() {
-            self.output.unread.push(self.top.opened)?;
-        }
+        let is_open = !self.frames.is_empty();
+        self.output.tell_if(is_open, self.top.opened)?;
         for _ in 0..self.frames.len() {
             if let Some(outer) = self.frames.pop() {
                 self.top = outer;
@@ -363,38 +388,18 @@ impl Reader<'_> {
         self.top.is_plain && matches!(self.top.quote, Quote::None | Quote::Comment)
     }
 
-    /// The offset in the file where the unit of this number begins; 0 where the text ends before.
-    pub fn start_at(&self, index: usize) -> usize {
-        self.text.get(index).map_or(0, Unit::start)
-    }
-
-    /// The offset in the file behind it.
-    pub fn end_at(&self, index: usize) -> usize {
-        self.text.get(index).map_or(0, Unit::end)
-    }
-
-    /// Tells of a backslash and a newline at this index, which a shell leaves out, where the byte behind them belongs to the operator or the
-    /// expansion that begins with the unit.
-    pub fn note_joined(&mut self, unit: Unit, index: usize) -> Result<()> {
-        let next = index.saturating_add(1);
-        let behind = self.text.byte(next.saturating_add(1)).unwrap_or(b' ');
-        let is_part = match self.text.byte(index.saturating_sub(1)) {
-            Some(b'$') => !b" \t".contains(&behind),
-            Some(before) if is_name_byte(before) => is_name_byte(behind),
-            _ => b";&|<>(".contains(&behind),
+    /// Tells of a backslash and a newline behind the unit and so many letters of a name, which a shell leaves out, where the byte behind them
+    /// belongs to the operator or the expansion that begins with the unit.
+    pub fn note_joined(&mut self, unit: Unit, length: usize) -> Result<()> {
+        let rest = self.rest.skip(length);
+        let behind = rest.byte(2).unwrap_or(b' ');
+        let is_part = match unit.byte() {
+            Some(b'$') if length > 0 => is_name_byte(behind),
+            Some(b'$') => behind != b' ' && behind != b'\t',
+            _ => matches!(behind, b';' | b'&' | b'|' | b'<' | b'>' | b'('),
         };
-        if is_part && self.text.byte(index) == Some(b'\\') && self.text.byte(next) == Some(b'\n') {
-            self.output.unread.push(unit.start())?;
-        }
-        Ok(())
-    }
-
-    /// Where the name that begins at this index ends.
-    pub fn name_end(&self, from: usize) -> usize {
-        let length = self.text.len();
-        (from..length)
-            .find(|index| !self.text.byte(*index).is_some_and(is_name_byte))
-            .unwrap_or(length)
+        let is_joined = rest.byte(0) == Some(b'\\') && rest.byte(1) == Some(b'\n');
+        self.output.tell_if(is_joined && is_part, unit.start())
     }
 }
 

@@ -2,7 +2,7 @@
 
 use crate::command::{ShellWord, Site, Target};
 use crate::frame::{Awaited, Braces, Draft, Enclosure, Quote};
-use crate::reader::{Dialect, MOST, Reader};
+use crate::reader::{MOST, Reader};
 use sedck_origin::{Hole, Result, Unit, Way, byte_at, is_one_of, is_text};
 
 /// Reserved words before a command, which are no words of it.
@@ -49,10 +49,10 @@ impl Reader<'_> {
         Ok(self.top.word.units.push(Unit::Hole(hole))?)
     }
 
-    /// Adds a hole in place of the units from this one on to that of the number, behind which reading goes on.
-    pub fn add_hole_to(&mut self, first: Unit, last: usize, way: Way) -> Result<()> {
-        self.resume = last.saturating_add(1);
-        self.add_hole(first.start(), self.end_at(last), way)
+    /// Adds a hole in place of the unit that is read and so many more.
+    pub fn add_hole_over(&mut self, count: usize, way: Way) -> Result<()> {
+        self.pass(count);
+        self.add_hole(self.here.start(), self.end_after(count), way)
     }
 
     /// How what an expansion makes becomes a part of the word.
@@ -108,9 +108,8 @@ impl Reader<'_> {
 
     /// Notes what may be other words in the word of a redirection: what is there before a shell reads it, and what some shells have behind `>!`.
     fn note_redirection(&mut self, word: &ShellWord) -> Result<()> {
-        if !word.is_quoted && byte_at(&word.units, 0) == Some(b'!') {
-            self.output.unread.push(word.start)?;
-        }
+        let has_sign = !word.is_quoted && byte_at(&word.units, 0) == Some(b'!');
+        self.output.tell_if(has_sign, word.start)?;
         for unit in &word.units {
             match *unit {
                 Unit::Hole(hole) if hole.way.is_made() => self.top.draft.command.made.push(hole)?,
@@ -145,20 +144,15 @@ impl Reader<'_> {
     /// begin another command: what bash reads as one may be two to it.
     fn note_parted(&mut self) -> Result<()> {
         let awaited = std::mem::replace(&mut self.top.awaited, Awaited::Word);
-        if !matches!(awaited, Awaited::Word) && self.form.dialect != Dialect::Macros {
-            let before = self.start_at(self.resume.saturating_sub(1));
-            self.output.unread.push(before)?;
+        let is_alone = !matches!(awaited, Awaited::Word) && !self.has_macros();
+        self.output.tell_if(is_alone, self.passed)?;
+        match self.top.draft.parted {
+            Some(count) if !self.form.has_dollar_quotes => {
+                let sed = parted_sed(&self.top.draft.command.words, count);
+                self.output.tell_if(sed.is_some(), sed.unwrap_or(0))
+            }
+            _ => Ok(()),
         }
-        let Some(count) = self.top.draft.parted else {
-            return Ok(());
-        };
-        if self.form.has_dollar_quotes {
-            return Ok(());
-        }
-        if let Some(start) = parted_sed(&self.top.draft.command.words, count) {
-            self.output.unread.push(start)?;
-        }
-        Ok(())
     }
 
     /// Makes a hole of braces that some shells expand, and others don't.
@@ -212,7 +206,7 @@ impl Reader<'_> {
         if !is_first {
             return self.read_second_reserved(units);
         }
-        let has_tests = self.form.has_dollar_quotes && self.form.dialect != Dialect::Macros;
+        let has_tests = self.form.has_dollar_quotes && !self.has_macros();
         self.top.is_test |= has_tests && is_text(units, "[[");
         self.note_flow(units)?;
         Ok(is_one_of(units, RESERVED))
@@ -254,10 +248,7 @@ impl Reader<'_> {
         let start = first.start;
         if self.top.enclosure == Enclosure::Array {
             // What the words of an array are used for isn't followed.
-            if ends_with_sed(&first.units) {
-                self.output.unread.push(start)?;
-            }
-            return Ok(());
+            return self.output.tell_if(ends_with_sed(&first.units), start);
         }
         if self.top.is_pattern || !self.top.has_commands() {
             return Ok(());
@@ -293,7 +284,7 @@ impl Reader<'_> {
     }
 
     /// Ends a line, behind which here-documents may follow.
-    pub fn end_line(&mut self, index: usize) -> Result<()> {
+    pub fn end_line(&mut self) -> Result<()> {
         self.end_word()?;
         if !self.goes_on() {
             self.end_command()?;
@@ -302,7 +293,7 @@ impl Reader<'_> {
         if self.pending.is_empty() {
             return Ok(());
         }
-        self.read_bodies(index.saturating_add(1))
+        self.read_bodies()
     }
 
     /// Where the command is that is being read.
