@@ -72,7 +72,7 @@ impl Reader<'_> {
         let first = self.rest.peek();
         // Some shells read commands there, and no others anything.
         let has_commands = matches!(first, Some(b' ' | b'\t' | b'\n' | b'|'));
-        self.output.tell_if(has_commands, self.here.start())?;
+        self.output.note_if(has_commands, self.here.start())?;
         let has_sign = matches!(first, Some(b'!' | b'#' | b'@' | b'*' | b'?' | b'-' | b'$'));
         let name = self.rest.skip(usize::from(has_sign));
         let length = name.name_length();

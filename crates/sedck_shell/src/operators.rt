@@ -111,7 +111,7 @@ impl Reader<'_> {
             .iter()
             .any(|word| word.units.iter().any(|unit| unit.byte().is_some()));
         let is_pattern = is_known && !begins_with(words, "[[") && !self.has_macros();
-        self.output.tell_if(is_pattern, self.here.start())
+        self.output.note_if(is_pattern, self.here.start())
     }
 
     /// Whether `((` begins an expression where a command may begin, and behind `for`.
@@ -160,7 +160,7 @@ impl Reader<'_> {
             return Ok(());
         }
         let is_open = !self.frames.is_empty() || self.has_macros();
-        self.output.tell_if(!is_open, unit.start())?;
+        self.output.note_if(!is_open, unit.start())?;
         self.close(unit.end())
     }
 

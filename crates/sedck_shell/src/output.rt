@@ -60,7 +60,7 @@ fn read_text(
         }
         let (opened, mark) = (reader.opened, reader.mark);
         let is_open = !is_closed || !reader.frames.is_empty();
-        reader.output.tell_if(is_open, opened.start())?;
+        reader.output.note_if(is_open, opened.start())?;
         output = reader.output;
         if is_closed {
             break;
@@ -213,7 +213,7 @@ impl Reader<'_> {
             };
             let body = self.rest.before(end);
             let ends = !one.is_quoted && ends_before(self.rest, body.len(), one);
-            self.output.tell_if(ends, one.start)?;
+            self.output.note_if(ends, one.start)?;
             let units = lines_of(self.alloc, body, one.is_stripped)?;
             let quote = if one.is_quoted {
                 Quote::Verbatim
@@ -239,7 +239,10 @@ fn body_end<'a>(text: Cursor<'a>, pending: &Pending) -> Option<(Cursor<'a>, Curs
         if is_delimiter(inner, pending) {
             return Some((line, rest));
         }
-        line = line.behind(b'\n')?;
+        if inner.len() == line.len() {
+            break;
+        }
+        line = rest;
     }
     None
 }

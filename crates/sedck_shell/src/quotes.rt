@@ -29,7 +29,7 @@ impl Reader<'_> {
         match unit.byte() {
             Some(b'\\') => {
                 let is_quote = self.rest.peek() == Some(b'\'');
-                self.output.tell_if(is_quote, unit.start())?;
+                self.output.note_if(is_quote, unit.start())?;
                 self.pass(1);
             }
             Some(b'\'') => {

@@ -71,11 +71,11 @@ impl Output {
     /// Notes that what begins at this offset in the file isn't kept, as there is too much.
     pub fn note_full(&mut self, offset: usize) -> Result<()> {
         let was_full = std::mem::replace(&mut self.is_full, true);
-        self.tell_if(!was_full, offset)
+        self.note_if(!was_full, offset)
     }
 
-    /// Tells that what begins at this offset in the file isn't understood, if it isn't.
-    pub fn tell_if(&mut self, is_unread: bool, offset: usize) -> Result<()> {
+    /// Notes that what begins at this offset in the file isn't understood, if it isn't.
+    pub fn note_if(&mut self, is_unread: bool, offset: usize) -> Result<()> {
         if is_unread {
             self.unread.push(offset)?;
         }
@@ -374,7 +374,7 @@ impl<'a> Reader<'a> {
     /// Leaves all that encloses, whose units are lost.
     pub fn leave_frames(&mut self) -> Result<()> {
         let is_open = !self.frames.is_empty();
-        self.output.tell_if(is_open, self.top.opened)?;
+        self.output.note_if(is_open, self.top.opened)?;
         for _ in 0..self.frames.len() {
             if let Some(outer) = self.frames.pop() {
                 self.top = outer;
@@ -399,7 +399,7 @@ impl<'a> Reader<'a> {
             _ => matches!(behind, b';' | b'&' | b'|' | b'<' | b'>' | b'('),
         };
         let is_joined = rest.byte(0) == Some(b'\\') && rest.byte(1) == Some(b'\n');
-        self.output.tell_if(is_joined && is_part, unit.start())
+        self.output.note_if(is_joined && is_part, unit.start())
     }
 }
 

@@ -109,7 +109,7 @@ impl Reader<'_> {
     /// Notes what may be other words in the word of a redirection: what is there before a shell reads it, and what some shells have behind `>!`.
     fn note_redirection(&mut self, word: &ShellWord) -> Result<()> {
         let has_sign = !word.is_quoted && byte_at(&word.units, 0) == Some(b'!');
-        self.output.tell_if(has_sign, word.start)?;
+        self.output.note_if(has_sign, word.start)?;
         for unit in &word.units {
             match *unit {
                 Unit::Hole(hole) if hole.way.is_made() => self.top.draft.command.made.push(hole)?,
@@ -145,11 +145,11 @@ impl Reader<'_> {
     fn note_parted(&mut self) -> Result<()> {
         let awaited = std::mem::replace(&mut self.top.awaited, Awaited::Word);
         let is_alone = !matches!(awaited, Awaited::Word) && !self.has_macros();
-        self.output.tell_if(is_alone, self.passed)?;
+        self.output.note_if(is_alone, self.passed)?;
         match self.top.draft.parted {
             Some(count) if !self.form.has_dollar_quotes => {
                 let sed = parted_sed(&self.top.draft.command.words, count);
-                self.output.tell_if(sed.is_some(), sed.unwrap_or(0))
+                self.output.note_if(sed.is_some(), sed.unwrap_or(0))
             }
             _ => Ok(()),
         }
@@ -248,7 +248,7 @@ impl Reader<'_> {
         let start = first.start;
         if self.top.enclosure == Enclosure::Array {
             // What the words of an array are used for isn't followed.
-            return self.output.tell_if(ends_with_sed(&first.units), start);
+            return self.output.note_if(ends_with_sed(&first.units), start);
         }
         if self.top.is_pattern || !self.top.has_commands() {
             return Ok(());
