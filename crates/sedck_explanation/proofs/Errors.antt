@@ -8,7 +8,8 @@ use Rattle.sedck_advice.specs.Added.{AddsNoError}
 use Rattle.sedck_advice.proofs.Added.{or-false}
 use Rattle.sedck_explanation.specs.Denial.{is_denied, status_under}
 use Rattle.sedck_explanation.specs.Errors.{BeginsWithAnswer}
-use Rattle.sedck_answer.specs.Status.{Status, is_accepted}
+use Rattle.sedck_answer.specs.Status.{is_accepted}
+use Rattle.sedck_answer.specs.declared.status.Status.{Status}
 use Rattle.sedck_explanation.specs.Private.Errors.{IsRefused, AreFindingsOf, IsFindingOf}
 use Rattle.sedck_explanation.specs.Private.Explaining.{AreDeniedFindings}
 use Rattle.sedck_answer.specs.declared.answer.Answer.{Answer}

@@ -12,7 +12,8 @@ use Rattle.sedck_errors.specs.declared.denied.Denied.{Denied}
 use Rattle.sedck_errors.specs.declared.warnings.DeniedWarnings.{DeniedWarnings}
 use Rattle.sedck_explanation.specs.Denial.{status_under, warns_of_denied}
 use Rattle.sedck_explanation.specs.Errors.{BeginsWithAnswer}
-use Rattle.sedck_answer.specs.Status.{Status, is_accepted}
+use Rattle.sedck_answer.specs.Status.{is_accepted}
+use Rattle.sedck_answer.specs.declared.status.Status.{Status}
 use Rattle.sedck_explanation.specs.Private.Reporting.{errors_in, KeepsErrors, AreReported}
 use Rattle.sedck_answer.specs.declared.answer.Answer.{Answer}
 use Rattle.sedck_explanation.specs.declared.answer.Expressions.{Expressions}

@@ -21,7 +21,9 @@ use Rattle.sedck_errors.specs.Denials.{denies}
 use Rattle.sedck_errors.specs.declared.denied.Denied.{Denied}
 use Rattle.sedck_explanation.specs.Denial.{warns_of_denied}
 use Rattle.sedck_explanation.specs.Explanations.{IsExplanation, Keeps}
-use Rattle.sedck_answer.specs.Status.{Status, Accepted, Rejected, is_accepted}
+use Rattle.sedck_answer.specs.Status.{is_accepted}
+use Rattle.sedck_answer.specs.declared.status.Status.{Status}
+use Rattle.sedck_answer.specs.declared.status.Status.TheVariants.{Accepted, Rejected}
 use Rattle.sedck_answer.specs.declared.explanation.Explanation.{Explanation}
 
 -- An option that makes sed read another language than that of the model: extended expressions. With `-s` and `-i` there are several

@@ -14,7 +14,8 @@ use Rattle.sedck_answer.specs.Answers.{status_of}
 use Rattle.sedck_answer.specs.declared.answer.Answer.{Answer}
 use Rattle.sedck_answer.specs.declared.answer.Answer.TheVariants.{Accepted}
 use Rattle.sedck_explanation.specs.declared.answer.Expressions.{Expressions}
-use Rattle.sedck_answer.specs.Status.{Status, Rejected}
+use Rattle.sedck_answer.specs.declared.status.Status.{Status}
+use Rattle.sedck_answer.specs.declared.status.Status.TheVariants.{Rejected}
 
 -- nothing is denied, and nothing is known of the locale
 abbrev pub nothing : Denied

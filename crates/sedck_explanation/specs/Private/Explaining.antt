@@ -17,7 +17,8 @@ use Rattle.sedck_errors.specs.declared.denied.Denied.{Denied}
 use Rattle.sedck_explanation.specs.Denial.{expressions_of, is_denied, status_under, warns_of_denied}
 use Rattle.sedck_explanation.specs.Errors.{HasErrors, BeginsWithAnswer}
 use Rattle.sedck_explanation.specs.Explanations.{kept_has}
-use Rattle.sedck_answer.specs.Status.{Status, is_accepted}
+use Rattle.sedck_answer.specs.Status.{is_accepted}
+use Rattle.sedck_answer.specs.declared.status.Status.{Status}
 use Rattle.sedck_answer.specs.declared.answer.Answer.{Answer}
 use Rattle.sedck_answer.specs.declared.answer.Answer.TheVariants.{Accepted}
 use Rattle.sedck_explanation.specs.declared.answer.Expressions.{Expressions}
