@@ -17,3 +17,4 @@ pub mod RuledOut
 mod PlainWalks
 mod OtherSide
 mod TurnedSets
+mod SameRanks

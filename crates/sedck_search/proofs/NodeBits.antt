@@ -10,7 +10,7 @@ use Rattle.std.proofs.lemmas.Nat.{or_lt, and_le_l}
 use Rattle.std.proofs.lemmas.List.{get_or_past}
 use Rattle.std.proofs.lemmas.List.Elements.{All-get_or, All-set, All-replicate, All-from_get_or}
 use Rattle.sedck_search.specs.Rows.{bit_count}
-use Rattle.sedck_search.specs.Private.NodeSet.{has, IsNodeSet, IsEmpty, HasChanged, IsUnion, AreWordsOfBoth}
+use Rattle.sedck_search.specs.Private.NodeSet.{has, AreZeroBefore, IsNodeSet, IsEmpty, HasChanged, IsUnion, AreWordsOfBoth}
 
 abbrev pub bit_of : Bool → ℕ
 bit_of b = cond b 1 0
@@ -165,3 +165,35 @@ both_union left right both is_left is_right words = record {
     from_bit true r b e h = inl refl
     from_bit false true b e h = inr refl
     from_bit false false b e h = grind arith
+
+-- ---- The words before the first one that may have a node
+
+pub none_before : (first : ℕ) → AreZeroBefore (replicate 256 0) first
+none_before first j less = zero_at 256 j
+
+pub inserted_before : (words : List ℕ) (node old new : ℕ) → new ≤ old → new ≤ node / 64 → AreZeroBefore words old
+    → AreZeroBefore (set words (node / 64) (with_bit words node)) new
+inserted_before words node old new fewer inside h j less =
+    let other : j ≢ node / 64 = λ same. omega (arith, same, less, inside) in
+    get_or-set_other words (node / 64) j (with_bit words node) 0 other ∙ h j (omega (arith, less, fewer))
+
+pub removed_before : (words : List ℕ) (node first : ℕ) → node < 16384 → IsNodeSet words → AreZeroBefore words first
+    → AreZeroBefore (set words (node / 64) (without_bit words node)) first
+removed_before words node first l members h j less = elim (cases_eq j (node / 64)) [
+  | inl same ↦
+      let zero : slice_index words (node / 64) ≡ 0 = subst (λ k. slice_index words k ≡ 0) same (h j less) in
+      let most = and_le_l (slice_index words (node / 64)) (2 ^ 64 - 1 - 1 * 2 ^ (node % 64) % 2 ^ 64) in
+      let at = ap (slice_index (set words (node / 64) (without_bit words node))) same
+      ∙ get_or-set_same words (node / 64) (without_bit words node) 0 (omega (arith, members.long)) in
+      omega (arith, zero, most, at)
+  | inr apart ↦ get_or-set_other words (node / 64) j (without_bit words node) 0 apart ∙ h j less
+]
+
+pub both_before : (left right both : List ℕ) → IsNodeSet left → AreWordsOfBoth left right both → (l r new : ℕ) → l ≤ 256 → AreZeroBefore left l
+    → AreZeroBefore right r → new ≤ l → new ≤ r → AreZeroBefore both new
+both_before left right both is_left words l r new within h k less_left less_right j less =
+    let at_left : slice_index left j ≡ 0 = h j (omega (arith, less, less_left)) in
+    let at_right : slice_index right j ≡ 0 = k j (omega (arith, less, less_right)) in
+    let none : bit_or (slice_index left j) (slice_index right j) < 1 =
+    or_lt 0 (slice_index left j) (slice_index right j) (omega (arith, at_left)) (omega (arith, at_right)) in
+    omega (arith, words.each j (omega (arith, less, less_left, within, is_left.long)), none)

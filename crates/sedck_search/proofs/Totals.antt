@@ -1,14 +1,15 @@
 -- Sums of a function over the numbers below a limit: with them bits are counted one by one.
-use Rattle.std.proofs.Common.{◌≡◌, ◌≢◌, ℕ, zero, suc, ◌+◌, ◌*◌, ◌<◌, ◌≤◌, ◌^◌, ◌/◌, List, [], ◌∷◌, ◌++◌, length, take, drop, Fits, w64, refl, sym, ap, ◌∙◌, arith, zero-add, add-zero, add_assoc}
+use Rattle.std.proofs.Common.{◌≡◌, ◌≢◌, ℕ, zero, suc, ◌+◌, ◌-◌, ◌*◌, ◌<◌, ◌≤◌, ◌^◌, ◌/◌, List, [], ◌∷◌, ◌++◌, length, take, drop, Fits, w64, refl, sym, ap, ◌∙◌, arith, zero-add, add-zero, add_assoc}
 use Rattle.std.specs.Prelude.{slice_index, count_ones}
 use Rattle.std.specs.Int.{bit_at}
 use Rattle.std.specs.Int.Count.{ones_step}
 use Rattle.std.proofs.Math.Nat.{pow-suc}
 use Rattle.std.proofs.Math.Facts.{Fits-lt-pow}
-use Rattle.std.proofs.lemmas.List.{take-append-drop, take_more}
+use Rattle.std.proofs.lemmas.List.{take-append-drop, take_more, take_all, length-drop}
 use Rattle.std.proofs.lemmas.Nat.{ones-le}
 use Rattle.std.proofs.lemmas.Nat.Bits.{bit_at_lowest, bit_at-suc}
 use Rattle.sedck_search.specs.Rows.{bit_count}
+use Rattle.sedck_search.specs.Private.NodeSet.{AreZeroBefore}
 
 pub total : (ℕ → ℕ) → ℕ → ℕ
 total f zero = zero
@@ -90,6 +91,21 @@ pub bit_count-more : (words : List ℕ) (i : ℕ) → i < length words → bit_c
 bit_count-more words i l =
     ap bit_count (take_more words i 0 l) ∙ bit_count-append (take i words) (slice_index words i ∷ [])
     ∙ ap (λ m. bit_count (take i words) + m) (add-zero (count_ones (slice_index words i)))
+
+-- words without a bit count for nothing
+bit_count-drop : (words : List ℕ) (first : ℕ) → AreZeroBefore words first → bit_count (drop first words) ≡ bit_count words
+bit_count-drop words zero h = refl
+bit_count-drop [] (suc first) h = refl
+bit_count-drop (word ∷ words) (suc first) h =
+    let none : word ≡ 0 = h 0 (omega arith) in
+    let few : count_ones word ≤ 0 = ones-le 0 word (omega (arith, none)) in
+    omega (arith, few, bit_count-drop words first (λ j less. h (suc j) (omega (arith, less))))
+
+-- the others of a set's words count for all
+pub bit_count-rest : (words : List ℕ) (first : ℕ) → length words ≡ 256 → AreZeroBefore words first
+    → bit_count (take (256 - first) (drop first words)) ≡ bit_count words
+bit_count-rest words first long h =
+    ap bit_count (take_all (256 - first) (drop first words) (omega (arith, length-drop first words, long))) ∙ bit_count-drop words first h
 
 pub bit_count-take : (words : List ℕ) (i : ℕ) → bit_count (take i words) ≤ bit_count words
 bit_count-take words i =

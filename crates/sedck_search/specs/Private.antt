@@ -10,3 +10,4 @@ pub mod Distances
 pub mod Closing
 pub mod ShortestLoop
 pub mod Ranking
+pub mod SameRanks

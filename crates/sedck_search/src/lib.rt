@@ -22,6 +22,7 @@ mod other_side;
 mod reachable;
 mod reaching;
 pub mod rows;
+mod same_ranks;
 mod searching;
 mod sets;
 mod turned;

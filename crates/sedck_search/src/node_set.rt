@@ -7,24 +7,27 @@ ghost use Rattle.sedck_search.specs.Private.NodeSet.{has, IsNodeSet, IsEmpty, Ha
 use crate::rows::{both, count_bits};
 use std::marker::Model;
 
-/// A set of nodes, one bit a node: those of 4,095 commands and the script's end, four each. It knows how many nodes it has.
+/// A set of nodes, one bit a node: those of 4,095 commands and the script's end, four each. It knows how many nodes it has, and before which
+/// word it has none.
 #[derive(Drop)]
 pub(crate) struct NodeSet {
     words: [u64; 256],
     count: usize,
+    /// The words before this one have no node: at most 256.
+    first: usize,
 }
 
 impl Model for NodeSet {
-    ghost use Rattle.std.specs.Prelude.{◌≡◌, ℕ, List};
+    ghost use Rattle.std.specs.Prelude.{◌≡◌, ◌≤◌, ℕ, List};
 
     ghost Value = { List ℕ };
 
     ghost use Rattle.sedck_search.specs.Rows.{bit_count};
-    ghost use Rattle.sedck_search.specs.Private.NodeSet.{IsNodeSet};
+    ghost use Rattle.sedck_search.specs.Private.NodeSet.{IsNodeSet, AreZeroBefore};
 
     ghost view = { λ a. a.words };
 
-    ghost invariant = { λ a. IsNodeSet a.words × (a.count ≡ bit_count a.words) };
+    ghost invariant = { λ a. IsNodeSet a.words × (a.count ≡ bit_count a.words) × (a.first ≤ 256) × AreZeroBefore a.words a.first };
 }
 
 impl NodeSet {
@@ -36,6 +39,7 @@ impl NodeSet {
         NodeSet {
             words: [0; 256],
             count: 0,
+            first: 256,
         }
     }
 
@@ -46,6 +50,7 @@ impl NodeSet {
     {
         self.words = [0; 256];
         self.count = 0;
+        self.first = 256;
     }
 
     /// Whether the node is in the set.
@@ -71,6 +76,7 @@ impl NodeSet {
         }
         self.words[node / 64] |= 1 << (node % 64);
         self.count += 1;
+        self.first = self.first.min(node / 64);
         true
     }
 
@@ -117,6 +123,7 @@ impl NodeSet {
     {
         self.words = other.words;
         self.count = other.count;
+        self.first = other.first;
     }
 
     /// Puts the nodes of another set in.
@@ -126,7 +133,8 @@ impl NodeSet {
     {
         let words = both(&self.words, &other.words);
         self.words = words;
-        self.count = count_bits(&words) as usize;
+        self.first = self.first.min(other.first);
+        self.count = count_bits(&words[self.first..]) as usize;
     }
 
     /// The number of nodes in the set.
@@ -142,6 +150,6 @@ impl NodeSet {
         ensures value { result ≡ bit_count self.now }
         ensures is_set { IsNodeSet self.now }
     {
-        count_bits(&self.words) as usize
+        count_bits(&self.words[self.first..]) as usize
     }
 }

@@ -17,6 +17,7 @@ use crate::edge_table::EdgeTable;
 use crate::filter::{EdgeFilter, Graph};
 use crate::loops::{first_closing, loop_from};
 use crate::reachable::reachable_marks;
+use crate::same_ranks::keeps_space;
 use sedck_cert::Cert;
 use sedck_flow::Kind;
 use sedck_script::Script;
@@ -26,6 +27,7 @@ use std::alloc::{AllocError, Global};
 ///
 /// Only nodes that one of the two starts reaches are visited. The first rank of a node is the number of nodes that it reaches
 /// without reading a line, the second the number of those that it reaches while the pattern space is kept, itself among them each time.
+/// Both are counted at once where the script never changes the pattern space without reading a line.
 pub fn search(alloc: Global, script: &Script) -> Result<Found, AllocError>
     ensures { IfOk result (IsFound script.now) }
 {
@@ -40,6 +42,9 @@ pub fn search(alloc: Global, script: &Script) -> Result<Found, AllocError>
     let seconds = counts_of(alloc, graph, EdgeFilter::Kept, &marks)?;
     if let Some(edge) = first_closing(graph, Kind::Keep, &seconds) {
         return Ok(Found::Loop(loop_from(alloc, graph, Form::Idle, edge)?));
+    }
+    if keeps_space(graph) {
+        return Ok(Found::Ranks(certificate(alloc, script, &seconds, &seconds)?));
     }
     let firsts = counts_of(alloc, graph, EdgeFilter::Unread, &marks)?;
     if let Some(edge) = first_closing(graph, Kind::Grow, &firsts) {

@@ -11,6 +11,10 @@ pub record IsNodeSet (words : List ℕ) : Type 0 where
   pub long : length words ≡ 256
   pub small : All (λ word. word < 2 ^ 64) words
 
+-- the words before this one have no node
+abbrev pub AreZeroBefore : List ℕ → ℕ → Type 0
+AreZeroBefore words first = (j : ℕ) → j < first → slice_index words j ≡ 0
+
 -- the set has no node
 abbrev pub IsEmpty : List ℕ → Type 0
 IsEmpty words = (node : ℕ) → has words node ≡ false

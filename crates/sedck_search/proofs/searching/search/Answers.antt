@@ -1,11 +1,12 @@
 use Rattle.std.proofs.Common.{sym, ◌∙◌, subst}
 use Rattle.sedck_flow.specs.declared.graph.Edge.{Edge}
 use Rattle.sedck_flow.specs.declared.graph.Kind.TheVariants.{Keep, Grow}
-use Rattle.sedck_search.specs.Private.Reaching.{ArePartlyCounted}
+use Rattle.sedck_search.specs.Private.Reaching.{AreCounted, ArePartlyCounted}
 use Rattle.sedck_search.specs.declared.filter.EdgeFilter.TheVariants.{Kept, Unread}
 use Rattle.sedck_search.specs.Private.Closing.{Closes, IsFirstClosing}
 use Rattle.sedck_search.specs.declared.answer.Form.TheVariants.{Idle, Growing}
 use Rattle.sedck_search.proofs.ClosedWalks.{closes_back, idle_loop, growing_loop}
+use Rattle.sedck_search.proofs.SameRanks.{same_counts, none_grows}
 use Rattle.sedck_search.proofs.searching.search.Goals as goal
 
 pub loop_from-requires-clause-closing : goal.loop_from-requires-clause-closing
@@ -35,12 +36,27 @@ returns-in-Some-first_closing c =
     growing_loop p c.in_ok-table.ensures.script c.in_ok-seconds.seconds.items c.in_ok-seconds.ensures none c.in_ok-firsts.firsts.items
     c.in_ok-firsts.ensures c.in-Some-first_closing.edge first c.in_ok-loop_from-2.field-0 c.in_ok-loop_from-2.ensures
 
+-- both ranks are the same
+pub certificate-requires-clause-firsts : goal.certificate-requires-clause-firsts
+certificate-requires-clause-firsts c =
+    subst (AreCounted c.args.script.now Unread) (sym c.deref-then-keeps_space.ensures.value)
+    (same_counts c.args.script.now c.if-keeps_space.ensures c.in_ok-seconds.seconds.items c.in_ok-seconds.ensures)
+
 pub certificate-requires-clause-idle : goal.certificate-requires-clause-idle
 certificate-requires-clause-idle c =
-    subst (λ counts. (e : Edge) → ¬ Closes c.args.script.now Keep counts e) (c.deref-2.ensures.value ∙ sym c.deref-6.ensures.value) c.in_default.ensures
+    subst (λ counts. (e : Edge) → ¬ Closes c.args.script.now Keep counts e) (c.deref-2.ensures.value ∙ sym c.deref-then-keeps_space-2.ensures.value)
+    c.in_default.ensures
 
 pub certificate-requires-clause-growing : goal.certificate-requires-clause-growing
 certificate-requires-clause-growing c =
+    none_grows c.args.script.now c.if-keeps_space.ensures c.deref-then-keeps_space.result.now
+
+pub certificate-requires-2-clause-idle : goal.certificate-requires-2-clause-idle
+certificate-requires-2-clause-idle c =
+    subst (λ counts. (e : Edge) → ¬ Closes c.args.script.now Keep counts e) (c.deref-2.ensures.value ∙ sym c.deref-6.ensures.value) c.in_default.ensures
+
+pub certificate-requires-2-clause-growing : goal.certificate-requires-2-clause-growing
+certificate-requires-2-clause-growing c =
     subst (λ counts. (e : Edge) → ¬ Closes c.args.script.now Grow counts e)
     (c.deref-4.ensures.value ∙ sym c.deref-5.ensures.value) c.in_default-first_closing.ensures
 

@@ -1,6 +1,6 @@
 use Rattle.std.proofs.Common.{◌≡◌, ◌/◌, subst, false, true, refl, sym, ap, ◌∙◌, set, arith}
 use Rattle.sedck_search.specs.Private.NodeSet.{has, HasChanged}
-use Rattle.sedck_search.proofs.NodeBits.{inserted, inserted_set, with_bit}
+use Rattle.sedck_search.proofs.NodeBits.{inserted, inserted_set, with_bit, inserted_before}
 use Rattle.sedck_search.proofs.NodeSets.{inserted_count, count_within}
 use Rattle.sedck_search.proofs.node_set.NodeSet.insert.Goals as goal
 
@@ -12,8 +12,13 @@ invariant_of-self c =
     let members = inserted_set c.self.inside.words c.args.node c.requires c.self.invariant.0 in
     let absent : has c.self.inside.words c.args.node ≡ false = ap (λ words. has words c.args.node) c.self.view_is ∙ sym c.has.ensures.value ∙ c.if-has.false in
     let more = inserted_count c.self.inside.words (set c.self.inside.words (c.args.node / 64) (with_bit c.self.inside.words c.args.node)) c.self.invariant.0
-    members c.args.node (inserted c.self.inside.words c.args.node c.requires c.self.invariant.0) absent in
-    (members, omega (arith, more, c.self.invariant.1))
+    members c.args.node (inserted c.self.inside.words c.args.node c.requires c.self.invariant.0) absent in (
+      members,
+      omega (arith, more, c.self.invariant.1),
+      omega (arith, c.min-self-inside.ensures, c.self.invariant.2),
+      inserted_before c.self.inside.words c.args.node c.self.inside.first c.min-self-inside.result (omega (arith, c.min-self-inside.ensures))
+          (omega (arith, c.min-self-inside.ensures)) c.self.invariant.3,
+    )
 
 pub returns-then-has-clause-changed : goal.returns-then-has-clause-changed
 returns-then-has-clause-changed c = record { at = sym c.has.ensures.value ∙ c.if-has.true; others = λ i other. refl }

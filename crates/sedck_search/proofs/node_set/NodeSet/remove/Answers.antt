@@ -1,6 +1,6 @@
 use Rattle.std.proofs.Common.{◌≡◌, ◌/◌, subst, false, true, ap, ◌∙◌, set, arith}
 use Rattle.sedck_search.specs.Private.NodeSet.{has, HasChanged}
-use Rattle.sedck_search.proofs.NodeBits.{removed, removed_set, without_bit}
+use Rattle.sedck_search.proofs.NodeBits.{removed, removed_set, without_bit, removed_before}
 use Rattle.sedck_search.proofs.NodeSets.{removed_count, counts_node}
 use Rattle.sedck_search.proofs.node_set.NodeSet.remove.Goals as goal
 
@@ -14,8 +14,12 @@ invariant_of-self c =
     let members = removed_set c.self.inside.words c.args.node c.requires.inside c.self.invariant.0 in
     let present : has c.self.inside.words c.args.node ≡ true = ap (λ words. has words c.args.node) c.self.view_is ∙ c.requires.present in
     let fewer = removed_count c.self.inside.words (set c.self.inside.words (c.args.node / 64) (without_bit c.self.inside.words c.args.node)) c.self.invariant.0
-    members c.args.node (removed c.self.inside.words c.args.node c.requires.inside c.self.invariant.0) present in
-    (members, omega (arith, fewer, c.self.invariant.1))
+    members c.args.node (removed c.self.inside.words c.args.node c.requires.inside c.self.invariant.0) present in (
+      members,
+      omega (arith, fewer, c.self.invariant.1),
+      c.self.invariant.2,
+      removed_before c.self.inside.words c.args.node c.self.inside.first c.requires.inside c.self.invariant.0 c.self.invariant.3,
+    )
 
 pub returns-clause-changed : goal.returns-clause-changed
 returns-clause-changed c =
