@@ -11,18 +11,15 @@ use Rattle.sedck_cert.proofs.NameLimits.{left_cons}
 use Rattle.sedck_cert.proofs.DueLines.{node_texts-append}
 use Rattle.sedck_cert.proofs.LineLemmas.{joined_lines-append}
 
-pub some_pieces : (first second : ℕ) → line (ranks_text (Some (first, second))) ≡ (decimal first ++ 32 ∷ []) ++ (decimal second ++ 10 ∷ [])
-some_pieces first second = append_assoc (decimal first ++ 32 ∷ []) (decimal second) (10 ∷ [])
-
 five : (a b c d e : List ℕ) → a ++ b ++ c ++ d ++ e ≡ a ++ (b ++ (c ++ (d ++ e)))
 five a b c d e = simp append_assoc
 
-seven : (a s f l r e : List ℕ) → a ++ s ++ f ++ s ++ l ++ s ++ r ++ e ≡ (a ++ s) ++ ((f ++ s) ++ ((l ++ s) ++ (r ++ e)))
-seven a s f l r e = simp append_assoc
+seven : (a f l r e : List ℕ) → a ++ 32 ∷ (f ++ 32 ∷ (l ++ 32 ∷ (r ++ e))) ≡ a ++ (32 ∷ []) ++ f ++ (32 ∷ []) ++ l ++ (32 ∷ []) ++ r ++ e
+seven a f l r e = simp append_assoc
 
-pub node_pieces : (index : ℕ) (ranks : Option (ℕ × ℕ)) → line (node_text Two index ranks) ≡ (decimal (index / 4) ++ 32 ∷ [])
-    ++ ((decimal (index / 2 % 2) ++ 32 ∷ []) ++ ((decimal (index % 2) ++ 32 ∷ []) ++ line (ranks_text ranks)))
-node_pieces index ranks = seven (decimal (index / 4)) (32 ∷ []) (decimal (index / 2 % 2)) (decimal (index % 2)) (ranks_text ranks) (10 ∷ [])
+pub node_pieces : (index : ℕ) (ranks : Option (ℕ × ℕ))
+    → decimal (index / 4) ++ 32 ∷ (decimal (index / 2 % 2) ++ 32 ∷ (decimal (index % 2) ++ 32 ∷ line (ranks_text ranks))) ≡ line (node_text Two index ranks)
+node_pieces index ranks = seven (decimal (index / 4)) (decimal (index / 2 % 2)) (decimal (index % 2)) (ranks_text ranks) (10 ∷ [])
 
 pub node_lines-more : (ranks : List (Option (ℕ × ℕ))) (i : ℕ) (d : Option (ℕ × ℕ)) → i < length ranks
     → joined_lines (node_texts Two 0 (take (i + 1) ranks)) ≡ joined_lines (node_texts Two 0 (take i ranks)) ++ line (node_text Two i (get_or ranks i d))

@@ -4,6 +4,7 @@ ghost use Rattle.std.specs.Prelude.{◌≡◌, ◌<◌, ◌≤◌, ℕ, List, le
 ghost use Rattle.std.specs.Io.KnownBytes.{ReadConsumes, WriteAppends, Appends};
 ghost use Rattle.sedck_cert.specs.Streams.{ReportsFailure, AppendsPrefix};
 
+use itoa::Buffer;
 use std::io::{Read, Write};
 
 /// A read or a write failed.
@@ -70,11 +71,8 @@ pub fn write_decimal<W: Sink>(out: &mut W, number: usize) -> Result<(), Failed>
     ensures begun { OnErr result (AppendsPrefix (W.taken out.old) (W.taken out.new) (decimal number)) }
     ensures failure { ReportsFailure result (W.has_failed out.old) (W.has_failed out.new) }
 {
-    if number < 10 {
-        return write_all(out, &[b'0' + number as u8]);
-    }
-    write_decimal(out, number / 10)?;
-    write_all(out, &[b'0' + (number % 10) as u8])
+    let mut buffer = Buffer::new();
+    write_all(out, buffer.format(number).as_bytes())
 }
 
 /// A source over a reader of std.

@@ -1,6 +1,6 @@
 //! From a certificate to its text.
 
-ghost use Rattle.std.specs.Prelude.{◌++◌, ◌≤◌, ◌∷◌, [], length, map, OnOk, OnErr, decimal, codes, ℕ, List};
+ghost use Rattle.std.specs.Prelude.{◌≡◌, ◌+◌, ◌++◌, ◌≤◌, ◌∷◌, [], length, drop, replicate, map, OnOk, OnErr, decimal, codes, ℕ, List};
 ghost use Rattle.std.specs.Io.KnownBytes.{Appends};
 ghost use Rattle.sedck_cert.specs.Streams.{ReportsFailure, IsPrefixOf, AppendsPrefix};
 ghost use Rattle.sedck_cert.specs.Text.{line, header, ranks_text, node_text, node_texts, joined_lines, files_text, certificate_text};
@@ -8,6 +8,7 @@ ghost use Rattle.sedck_cert.specs.declared.versions.Version.TheVariants.{Two};
 
 use crate::certificate::Cert;
 use crate::streams::{Failed, Sink, write_all, write_decimal};
+use itoa::write_digits;
 use std::convert::AsSlice;
 
 /// Writes the certificate's text. It takes no memory.
@@ -44,29 +45,46 @@ fn write_line<W: Sink>(out: &mut W, text: &[u8]) -> Result<(), Failed>
     write_all(out, b"\n")
 }
 
-/// Writes what ends a node's line.
-fn write_ranks<W: Sink>(out: &mut W, ranks: Option<(u16, u16)>) -> Result<(), Failed>
-    ensures written { OnOk result (Appends (W.taken out.old) (W.taken out.new) (line (ranks_text ranks))) }
-    ensures begun { OnErr result (AppendsPrefix (W.taken out.old) (W.taken out.new) (line (ranks_text ranks))) }
-    ensures failure { ReportsFailure result (W.has_failed out.old) (W.has_failed out.new) }
+/// More bytes than a node's line has: five decimals of at most five digits, each with a byte after it.
+const LINE: usize = 32;
+
+/// Puts the decimal of the number and a blank before this place of the line, and answers where it begins.
+fn put_field(buffer: &mut [u8; 32], number: u16, end: usize) -> usize
+    requires { (6 ≤ end) × (end ≤ 32) }
+    ensures put { drop result buffer.new ≡ decimal number ++ 32 ∷ drop end buffer.old }
+    ensures room { (end ≤ result + 6) × (result ≤ 32) }
 {
-    let Some((first, second)) = ranks else {
-        return write_line(out, b"-");
-    };
-    write_field(out, first, b' ')?;
-    write_field(out, second, b'\n')
+    buffer[end - 1] = b' ';
+    write_digits(u64::from(number), buffer, end - 1)
 }
 
-/// Writes a node's line: its place, its flag, whether the last line has been read, and its ranks.
+/// Puts the ranks before the newline that ends the line, and answers where they begin.
+fn put_ranks(buffer: &mut [u8; 32], ranks: Option<(u16, u16)>) -> usize
+    requires { buffer.old ≡ replicate 32 10 }
+    ensures put { drop result buffer.new ≡ line (ranks_text ranks) }
+    ensures room { (18 ≤ result) × (result ≤ 32) }
+{
+    let Some((first, second)) = ranks else {
+        buffer[LINE - 2] = b'-';
+        return LINE - 2;
+    };
+    let start = write_digits(u64::from(second), buffer, LINE - 1);
+    put_field(buffer, first, start)
+}
+
+/// Writes a node's line: its place, its flag, whether the last line has been read, and its ranks. It is put together from its end, and
+/// written at once.
 fn write_node<W: Sink>(out: &mut W, index: u16, ranks: Option<(u16, u16)>) -> Result<(), Failed>
     ensures written { OnOk result (Appends (W.taken out.old) (W.taken out.new) (line (node_text Two index ranks))) }
     ensures begun { OnErr result (AppendsPrefix (W.taken out.old) (W.taken out.new) (line (node_text Two index ranks))) }
     ensures failure { ReportsFailure result (W.has_failed out.old) (W.has_failed out.new) }
 {
-    write_field(out, index / 4, b' ')?;
-    write_field(out, index / 2 % 2, b' ')?;
-    write_field(out, index % 2, b' ')?;
-    write_ranks(out, ranks)
+    let mut buffer = [b'\n'; LINE];
+    let start = put_ranks(&mut buffer, ranks);
+    let start = put_field(&mut buffer, index % 2, start);
+    let start = put_field(&mut buffer, index / 2 % 2, start);
+    let start = put_field(&mut buffer, index / 4, start);
+    write_all(out, &buffer[start..])
 }
 
 fn write_nodes<W: Sink>(out: &mut W, ranks: &[Option<(u16, u16)>]) -> Result<(), Failed>

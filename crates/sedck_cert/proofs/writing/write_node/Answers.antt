@@ -1,26 +1,17 @@
-use Rattle.sedck_cert.proofs.Written.{on_err, begins_first, begins_at, begins_third, written_fourth, begun_fourth}
+use Rattle.std.proofs.Common.{ap, ◌∙◌, subst, ◌-◌, ◌/◌, ◌%◌, ◌++◌, ◌∷◌, drop, OnErr, decimal, arith}
+use Rattle.std.proofs.lemmas.List.{take_all, length-drop}
+use Rattle.sedck_cert.specs.Streams.{AppendsPrefix}
 use Rattle.sedck_cert.proofs.Pieces.{node_pieces}
 use Rattle.sedck_cert.proofs.writing.write_node.Goals as goal
 
-pub returns-in_err-write_field-clause-begun : goal.returns-in_err-write_field-clause-begun
-returns-in_err-write_field-clause-begun g c = on_err c.from_residual.result _
-    (begins_first _ _ _ _ _ (node_pieces c.args.index c.args.ranks) c.in_err-write_field.ensures.begun)
-
-pub returns-in_err-write_field-2-clause-begun : goal.returns-in_err-write_field-2-clause-begun
-returns-in_err-write_field-2-clause-begun g c = on_err c.from_residual-in_err-write_field-2.result _
-    (begins_at _ _ _ _ _ _ _ (node_pieces c.args.index c.args.ranks) c.in_ok-write_field.ensures.written c.in_err-write_field-2.ensures.begun)
-
-pub returns-in_err-write_field-3-clause-begun : goal.returns-in_err-write_field-3-clause-begun
-returns-in_err-write_field-3-clause-begun g c = on_err c.from_residual-in_err-write_field-3.result _
-    (begins_third _ _ _ _ _ _ _ _ _ (node_pieces c.args.index c.args.ranks) c.in_ok-write_field.ensures.written c.in_ok-write_field-2.ensures.written
-    c.in_err-write_field-3.ensures.begun)
-
-pub returns-clause-written : goal.returns-clause-written
-returns-clause-written g c = written_fourth c.write_ranks.result _ _ _ _ _ _ _ _ _ _
-    (node_pieces c.args.index c.args.ranks) c.in_ok-write_field.ensures.written c.in_ok-write_field-2.ensures.written
-    c.in_ok-write_field-3.ensures.written c.write_ranks.ensures.written
-
 pub returns-clause-begun : goal.returns-clause-begun
-returns-clause-begun g c = begun_fourth c.write_ranks.result _ _ _ _ _ _ _ _ _ _
-    (node_pieces c.args.index c.args.ranks) c.in_ok-write_field.ensures.written c.in_ok-write_field-2.ensures.written
-    c.in_ok-write_field-3.ensures.written c.write_ranks.ensures.begun
+returns-clause-begun g c =
+    let start = c.put_field-start-3.result in
+    let buffer = c.put_field-start-3.new.buffer in
+    let all = take_all (32 - start) (drop start buffer) (omega (arith, length-drop start buffer, c.put_field-start-3.array_long)) in
+    let whole = all ∙ c.put_field-start-3.ensures.put ∙ ap (λ rest. decimal (c.args.index / 4) ++ 32 ∷ rest)
+    (c.put_field-start-2.ensures.put ∙ ap (λ rest. decimal (c.args.index / 2 % 2) ++ 32 ∷ rest)
+    (c.put_field-start.ensures.put ∙ ap (λ rest. decimal (c.args.index % 2) ++ 32 ∷ rest) c.put_ranks-start.ensures.put))
+    ∙ node_pieces c.args.index c.args.ranks in
+    subst (λ text. OnErr c.write_all.result (AppendsPrefix (g.W.Sink.taken c.args.out.now) (g.W.Sink.taken c.write_all.new.out) text)) whole
+    c.write_all.ensures.begun
