@@ -4,22 +4,18 @@ use crate::mentions::writes_sed;
 use crate::names::{Names, Point, Scope};
 use crate::programs::{LONGEST, is_sed_path, is_sed_variable};
 use crate::units::{
-    after, begins_open, bytes_of, has_hole, is_one_in, is_option, known_bytes, lone_hole, meant_by,
-    rest, variable_of,
+    after, begins_open, has_hole, is_one_in, is_option, is_word_in, known_bytes, lone_hole, rest,
+    variable_of, without,
 };
 use crate::values::written_value;
-use sedck_origin::{
-    Result, Unit, begins_with, byte_at, hole_name, is_name_byte, is_one_of, is_text,
-};
+use sedck_origin::{Result, Unit, begins_with, byte_at, hole_name, is_name_byte};
 use sedck_shell::{Pattern, ShellCommand, ShellWord};
 
 /// What a utility sets by its operands.
 #[derive(Clone, Copy)]
 enum Utility {
-    /// Assignments to variables of the shell; others stay as they are.
-    Exporting,
-    /// Assignments to variables of its own.
-    Declaring,
+    /// Assignments to variables of the shell, where others stay as they are, or to variables of its own.
+    Declaring { is_own: bool },
     /// Variables that it is given by their names.
     Setting,
     /// One that is the first operand ..
@@ -41,8 +37,8 @@ enum Utility {
 }
 
 static UTILITIES: &'static [(Utility, &'static str)] = &[
-    (Utility::Exporting, "export readonly"),
-    (Utility::Declaring, "local declare typeset"),
+    (Utility::Declaring { is_own: false }, "export readonly"),
+    (Utility::Declaring { is_own: true }, "local declare typeset"),
     (Utility::Setting, "read unset mapfile readarray"),
     (Utility::SettingFirst, "for select"),
     (Utility::SettingSecond, "getopts"),
@@ -55,7 +51,7 @@ static UTILITIES: &'static [(Utility, &'static str)] = &[
 ];
 
 /// Utilities that may make a variable read-only.
-static FIXING: &'static [&'static str] = &["readonly", "declare", "typeset", "local"];
+const FIXING: &str = "readonly declare typeset local";
 
 /// The name to which the word assigns, and the units of the value; none of the latter for a part of a value.
 type Assigned<'a> = (&'a [Unit], Option<&'a [Unit]>);
@@ -88,10 +84,9 @@ fn has_subscript(units: &[Unit]) -> bool {
 fn without_prefixes(words: &[ShellWord]) -> &[ShellWord] {
     let mut words = words;
     for _ in 0..8 {
-        words = match words.split_first() {
-            Some((first, others)) if first.is("command") || first.is("builtin") => {
-                let has_option = others.first().is_some_and(|word| word.is("-p"));
-                others.get(usize::from(has_option)..).unwrap_or(&[])
+        words = match words {
+            [first, others @ ..] if is_word_in(&first.units, "command builtin") => {
+                without(others, "-p")
             }
             _ => return words,
         };
@@ -107,59 +102,54 @@ impl Names<'_> {
             return Ok(());
         };
         let point = scope.point(command.site, first.start);
-        let is_alone = words.iter().all(|word| is_assignment(&word.units));
-        let mut count = 0usize;
-        for word in words {
-            if !is_assignment(&word.units) {
-                break;
-            }
-            count = count.saturating_add(1);
+        let name = words.iter().position(|word| !is_assignment(&word.units));
+        let is_alone = name.is_none();
+        let count = name.unwrap_or(words.len());
+        for word in words.iter().take(count) {
             // Before a command IFS is set for that alone.
             if !self.is_make() && (is_alone || !begins_with(&word.units, "IFS=")) {
                 self.note_word(word, point, is_alone)?;
             }
         }
-        let others = words.get(count..).unwrap_or(&[]);
-        match without_prefixes(others).split_first() {
-            Some((name, operands)) => self.note_utility(name, operands, point),
-            None => Ok(()),
-        }
+        self.note_utility(without_prefixes(rest(words, count)), point)
     }
 
-    /// Notes what a command of this name sets by its operands.
-    fn note_utility(
-        &mut self,
-        name: &ShellWord,
-        operands: &[ShellWord],
-        point: Point,
-    ) -> Result<()> {
-        let utility = match bytes_of(self.alloc, &name.units)? {
-            Some(bytes) => meant_by(UTILITIES, &bytes),
-            None if self.gives_sed(&name.units) => None,
-            None => Some(Utility::Opening),
+    /// Notes what a command with these words sets by its operands.
+    fn note_utility(&mut self, words: &[ShellWord], point: Point) -> Result<()> {
+        let [name, operands @ ..] = words else {
+            return Ok(());
         };
-        if let Some(Utility::Aliasing) = utility {
+        let utility = match UTILITIES.iter().find(|row| is_word_in(&name.units, row.1)) {
+            Some(row) => row.0,
+            None if has_hole(&name.units) && !self.gives_sed(&name.units) => Utility::Opening,
+            None => return Ok(()),
+        };
+        if let Utility::Aliasing = utility {
             self.note_aliases(operands)?;
         }
         let second = operands.get(1..2).unwrap_or(&[]);
         match utility {
-            None => Ok(()),
-            Some(Utility::Optioning) => Ok(self.note_options(operands)),
-            Some(Utility::Hashing) => Ok(self.note_hashed(operands)),
+            Utility::Optioning => Ok(self.note_options(operands)),
+            Utility::Hashing => Ok(self.note_hashed(operands)),
             // There variables are make's.
-            Some(_) if self.is_make() => Ok(()),
-            Some(Utility::Exporting) => self.note_declared(operands, point, false),
-            Some(Utility::Declaring) => self.note_declared(operands, point, true),
-            Some(Utility::Setting) => self.note_names(operands, point),
-            Some(Utility::SettingFirst) => self.note_loop(operands, point),
-            Some(Utility::SettingSecond) => self.note_names(second, point),
-            Some(Utility::Opening | Utility::Aliasing) => self.note_open(point),
+            _ if self.is_make() => Ok(()),
+            Utility::Declaring { is_own } => self.note_declared(operands, point, is_own),
+            Utility::Setting => self.note_names(operands, point),
+            Utility::SettingFirst => self.note_loop(operands, point),
+            Utility::SettingSecond => self.note_names(second, point),
+            Utility::Opening | Utility::Aliasing => self.note_open(point),
             // The texts of words that are known are read by themselves.
-            Some(Utility::Running) if operands.iter().any(|word| has_hole(&word.units)) => {
+            Utility::Running if operands.iter().any(|word| has_hole(&word.units)) => {
                 self.note_open(point)
             }
-            Some(Utility::Running) => Ok(()),
-            Some(Utility::Printing) => self.note_printf(operands, point),
+            Utility::Running => Ok(()),
+            Utility::Printing => match operands {
+                [option, ..] if option.is("-v") => self.note_names(second, point),
+                [option, ..] if self.form.has_dollar_quotes && may_be(&option.units, "-v") => {
+                    self.note_open(point)
+                }
+                _ => Ok(()),
+            },
         }
     }
 
@@ -168,31 +158,26 @@ impl Names<'_> {
         let Some((name, value)) = assigned(&word.units) else {
             return Ok(());
         };
-        let is_sed = self.begins_with_sed(rest(&word.units, name.len()))?;
+        let is_sed = self.begins_with_sed(rest(&word.units, name.len()));
         let value = match value {
-            Some(value) if stands => written_value(self.alloc, value)?,
+            Some(value) if stands && point.scope != Scope::Other => {
+                written_value(self.alloc, value)?
+            }
             _ => None,
         };
         let at = word.start;
         let name = known_bytes(self.alloc, name)?;
-        match point.scope {
-            Scope::Other => self.note_unknown(name.clone()?)?,
-            _ => self.note(name.clone()?, value, Point { at, ..point })?,
-        }
-        if is_sed {
-            self.note_sed(&name);
-        }
-        Ok(())
+        self.note(&name, value, Point { at, ..point })?;
+        Ok(self.note_sed(&name, is_sed))
     }
 
     /// Whether the value after the sign that assigns it begins with the name of a sed, or with a variable that has one.
-    pub fn begins_with_sed(&self, units: &[Unit]) -> Result<bool> {
+    pub fn begins_with_sed(&self, units: &[Unit]) -> bool {
         let value = after(units, b'=').unwrap_or(units);
         let mut words = value.split(|unit| matches!(unit.byte(), Some(b' ' | b'\t')));
-        let first = words.next().unwrap_or(&[]);
-        let first = first.get(..LONGEST).unwrap_or(first);
-        let path = bytes_of(self.alloc, first)?;
-        Ok(self.gives_sed(first) || path.is_some_and(|path| is_sed_path(&path)))
+        words
+            .next()
+            .is_some_and(|first| self.gives_sed(first) || is_sed_path(first))
     }
 
     /// Whether the units are a command that writes the path of a sed, or a variable that may have one.
@@ -214,14 +199,9 @@ impl Names<'_> {
             return Ok(());
         };
         self.note_name(first, point)?;
-        for word in words {
-            if self.begins_with_sed(&word.units)? {
-                let name = known_bytes(self.alloc, variable_of(&first.units))?;
-                self.note_sed(&name);
-                break;
-            }
-        }
-        Ok(())
+        let is_sed = words.iter().any(|word| self.begins_with_sed(&word.units));
+        let name = known_bytes(self.alloc, variable_of(&first.units))?;
+        Ok(self.note_sed(&name, is_sed))
     }
 
     /// Notes the operands of a utility that declares variables. An option may change values; `-n` makes a name refer to another one.
@@ -230,34 +210,18 @@ impl Names<'_> {
         for word in operands {
             let units = word.units.as_slice();
             let name = variable_of(units);
-            let next = units.get(name.len());
             if is_option(units) {
-                stands = stands && (word.is("-x") || word.is("-r"));
-            } else if name.is_empty() || next.is_some_and(|next| next.byte().is_none()) {
+                stands = stands && is_word_in(units, "-x -r");
+            } else if name.is_empty() || begins_open(rest(units, name.len())) {
                 self.note_open(point)?;
             } else if is_assignment(units) {
                 self.note_word(word, point, stands && word.pattern == Pattern::None)?;
             } else if is_own {
-                self.note_unknown(known_bytes(self.alloc, name)?)?;
+                self.note_unknown(&known_bytes(self.alloc, name)?)?;
             }
         }
         if is_own && !stands {
             self.note_open(point)?;
-        }
-        Ok(())
-    }
-
-    /// Notes what `printf` sets with its option `-v`.
-    fn note_printf(&mut self, operands: &[ShellWord], point: Point) -> Result<()> {
-        let Some(option) = operands.first() else {
-            return Ok(());
-        };
-        if option.is("-v") {
-            return self.note_names(operands.get(1..2).unwrap_or(&[]), point);
-        }
-        let may_set = begins_open(&option.units) || begins_with(&option.units, "-v");
-        if self.form.has_dollar_quotes && may_set {
-            return self.note_open(point);
         }
         Ok(())
     }
@@ -275,11 +239,7 @@ impl Names<'_> {
         if has_hole(&word.units) {
             self.note_open(point)?;
         }
-        let name = known_bytes(self.alloc, variable_of(&word.units))?;
-        if name.is_empty() {
-            return Ok(());
-        }
-        self.note_unknown(name)
+        self.note_unknown(&known_bytes(self.alloc, variable_of(&word.units))?)
     }
 
     /// Notes the variables that `${NAME=..}`, `${NAME:=..}` and arithmetic may set (XCU 2.6.2 and 2.6.4). `${!NAME=..}` sets one whose name
@@ -301,10 +261,8 @@ impl Names<'_> {
                 _ => is_arithmetic && !name.is_empty(),
             };
             if may_be_set {
-                self.note_unknown(Vec::from_slice(self.alloc, name)?)?;
-                if assigns_sed(sign) {
-                    self.note_sed(name);
-                }
+                self.note_unknown(name)?;
+                self.note_sed(name, assigns_sed(sign));
             }
             self.is_open |= is_set && before.starts_with(b"{!");
             from = index.saturating_add(1);
@@ -331,19 +289,20 @@ fn assigns_sed(bytes: &[u8]) -> bool {
 
 /// Whether an assignment of LC_ALL is one of C or of POSIX, where a character is a byte; none of another variable.
 pub(crate) fn is_c_locale(units: &[Unit]) -> Option<bool> {
-    let is_c = is_text(units, "LC_ALL=C") || is_text(units, "LC_ALL=POSIX");
+    let is_c = is_word_in(units, "LC_ALL=C LC_ALL=POSIX");
     begins_with(units, "LC_ALL").then_some(is_c)
 }
 
 /// Whether the command may make LC_ALL read-only: bash then runs a call after an assignment to it in the locale that was before. What
 /// isn't known may be its name.
 pub(crate) fn may_fix_locale(words: &[ShellWord]) -> bool {
-    let mut is_fixing = false;
-    for word in words {
-        if is_fixing && (begins_open(&word.units) || begins_with(&word.units, "LC_ALL")) {
-            return true;
-        }
-        is_fixing = is_fixing || is_one_of(&word.units, FIXING);
-    }
-    false
+    let is_fixing = |word: &ShellWord| is_word_in(&word.units, FIXING);
+    let place = words.iter().position(is_fixing);
+    let mut names = rest(words, place.unwrap_or(words.len())).iter();
+    names.any(|word| may_be(&word.units, "LC_ALL"))
+}
+
+/// Whether the units may begin with this text.
+fn may_be(units: &[Unit], text: &str) -> bool {
+    begins_open(units) || begins_with(units, text)
 }

@@ -114,7 +114,7 @@ pub enum Unknown {
     Function,
     /// A setting of the file may change the words.
     Setting,
-    /// The script is empty behind `-i`, which some seds read as the suffix of that option.
+    /// The script is empty after `-i`, which some seds read as the suffix of that option.
     Suffix,
 }
 
@@ -131,12 +131,12 @@ pub struct OpenHole {
 }
 
 impl OpenHole {
-    /// One outside of expressions and replacements.
-    pub(crate) fn outside(hole: Hole, role: Role) -> OpenHole {
+    /// One with this delimiter, which is 0 outside of expressions and replacements.
+    pub(crate) fn new(hole: Hole, role: Role, delimiter: u8) -> OpenHole {
         OpenHole {
             hole,
             role,
-            delimiter: 0,
+            delimiter,
             is_variable: false,
         }
     }
@@ -167,13 +167,13 @@ pub enum Role {
     Pattern,
     /// A pattern in place of an operand.
     Names,
-    /// The name of the sed, behind which options may be.
+    /// The name of the sed, after which options may be.
     Sed,
     /// What runs the sed, or nothing.
     Runner,
     /// The operands that `xargs` adds.
     Added,
-    /// The options behind an operand, which are none where POSIXLY_CORRECT is set.
+    /// The options after an operand, which are none where POSIXLY_CORRECT is set.
     Options,
     /// A command that has its delimiter in a list: it is read with the delimiter of the hole. The file may have the whole command as it is,
     /// without quoting; and the command may be an address between slashes.

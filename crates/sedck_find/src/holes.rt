@@ -1,6 +1,7 @@
 //! The holes of a script, with letters in their places that fit their roles.
 
 use crate::found::{OpenHole, Role};
+use crate::script::Around;
 use crate::words::{CallWord, add, empty};
 use sedck_call::{Call, Piece};
 use sedck_origin::{Hole, Origin, Result, Traced, Way};
@@ -20,7 +21,7 @@ struct Roles {
     is_unknown: bool,
     /// Whether a hole of an expression or a list ends here.
     follows_hole: bool,
-    /// Whether a hyphen ends here that may make a range of a list.
+    /// Whether a hyphen of a list ends here that may make a range.
     follows_hyphen: bool,
     /// The hole that was read last, in whose place several bytes may be.
     last: Option<Hole>,
@@ -30,8 +31,7 @@ struct Roles {
 pub(crate) fn roles_of(
     alloc: Global,
     call: &Call,
-    words: &[CallWord],
-    here: Option<&CallWord>,
+    around: Around<'_>,
 ) -> Result<Option<(Traced, Vec<OpenHole>)>> {
     let mut roles = Roles {
         reading: Reading::SCRIPT,
@@ -47,41 +47,25 @@ pub(crate) fn roles_of(
             roles.read(b'\n', Origin::Between)?;
         }
         let (word, from) = match *piece {
-            Piece::File(_) => (here, 0),
-            Piece::Text(origin) => (words.get(origin.word), origin.from),
+            Piece::File(_) => (around.here, 0),
+            Piece::Text(origin) => (around.words.get(origin.word), origin.from),
         };
-        if let Some(word) = word {
-            roles.read_part(word, from)?;
+        if let Some(CallWord { traced, .. }) = word {
+            for (byte, origin) in traced.bytes.iter().zip(&traced.origins).skip(from) {
+                roles.read(*byte, *origin)?;
+            }
         }
     }
-    if roles.is_unknown {
-        return Ok(None);
-    }
-    Ok(Some((roles.text, roles.holes)))
+    Ok((!roles.is_unknown).then_some((roles.text, roles.holes)))
 }
 
 impl Roles {
-    /// Reads a word from this byte on.
-    fn read_part(&mut self, word: &CallWord, from: usize) -> Result<()> {
-        let bytes = word.traced.bytes.get(from..).unwrap_or(&[]);
-        let origins = word.traced.origins.get(from..).unwrap_or(&[]);
-        for (byte, origin) in bytes.iter().zip(origins.iter()) {
-            self.read(*byte, *origin)?;
-        }
-        Ok(())
-    }
-
     /// Reads a byte, or a hole.
     fn read(&mut self, byte: u8, origin: Origin) -> Result<()> {
-        if let Origin::Hole(hole) = origin {
-            if self.last == Some(hole) {
-                return Ok(());
-            }
-            self.last = Some(hole);
-            return self.read_hole(hole);
-        }
-        if self.follows_hole && self.changes_hole(byte) {
-            self.is_unknown = true;
+        match origin {
+            Origin::Hole(hole) if self.last == Some(hole) => return Ok(()),
+            Origin::Hole(hole) => return self.read_hole(hole),
+            _ => self.is_unknown |= self.follows_hole && self.changes_hole(byte),
         }
         let before = self.reading;
         self.reading = before.after(byte);
@@ -101,53 +85,35 @@ impl Roles {
         }
     }
 
-    /// Reads a hole.
+    /// Reads a hole: puts letters in its place that fit its role, which has none where no letters do.
     fn read_hole(&mut self, hole: Hole) -> Result<()> {
-        if hole.way == Way::Several || self.holes.len() > MOST {
-            self.is_unknown = true;
+        self.last = Some(hole);
+        let place = self.reading.place;
+        if let Place::Text | Place::TextBegin = place {
+            self.reading.place = Place::Text;
+            self.reading.delimiter = 0;
         }
-        match self.reading.place {
-            _ if self.reading.is_escaped => self.is_unknown = true,
-            Place::Expression => self.fill(hole, Role::Expression, b"x*")?,
+        let (role, letters) = match place {
+            _ if self.reading.is_escaped => (Role::Text, ""),
+            Place::Expression => (Role::Expression, "x*"),
             Place::List | Place::ListBegin | Place::ListNegated | Place::ListEscape => {
-                if self.follows_hyphen {
-                    self.is_unknown = true;
-                }
                 self.reading.place = Place::List;
-                self.fill(hole, Role::List, b"x")?;
+                (Role::List, "x")
             }
-            Place::Replacement => self.fill(hole, Role::Replacement, b"&x")?,
-            Place::Text => self.fill_text(hole, Role::Text)?,
-            Place::TextBegin => self.fill_text(hole, Role::TextBegin)?,
-            // A newline in the value would end the comment.
-            Place::Comment => self.fill(hole, Role::Text, b"x")?,
-            _ => self.is_unknown = true,
-        }
-        Ok(())
-    }
-
-    /// Puts a letter in place of a hole in the text of a command.
-    fn fill_text(&mut self, hole: Hole, role: Role) -> Result<()> {
-        self.reading.place = Place::Text;
-        self.reading.delimiter = 0;
-        self.fill(hole, role, b"x")
-    }
-
-    /// Puts the letters in place of a hole that has this role.
-    fn fill(&mut self, hole: Hole, role: Role, letters: &[u8]) -> Result<()> {
+            Place::Replacement => (Role::Replacement, "&x"),
+            // A newline in the value would end a comment.
+            Place::Text | Place::Comment => (Role::Text, "x"),
+            Place::TextBegin => (Role::TextBegin, "x"),
+            _ => (Role::Text, ""),
+        };
         let delimiter = self.reading.delimiter;
-        if letters.contains(&delimiter) {
-            self.is_unknown = true;
-        }
-        for letter in letters {
+        let fits = !letters.is_empty() && !letters.as_bytes().contains(&delimiter);
+        let is_one = hole.way != Way::Several && self.holes.len() <= MOST;
+        self.is_unknown |= !fits || !is_one || self.follows_hyphen;
+        for letter in letters.as_bytes() {
             add(&mut self.text, *letter, Origin::Hole(hole))?;
         }
-        self.holes.push(OpenHole {
-            hole,
-            role,
-            delimiter,
-            is_variable: false,
-        })?;
+        self.holes.push(OpenHole::new(hole, role, delimiter))?;
         self.follows_hole = true;
         self.follows_hyphen = false;
         Ok(())

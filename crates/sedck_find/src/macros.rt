@@ -1,7 +1,6 @@
 //! Macros of M4 in sources of Autoconf.
 
-use crate::names::Names;
-use crate::units::{begins_name, is_one_among};
+use crate::units::{begins_name, is_one_in, rest};
 use crate::words::CallWord;
 use sedck_hosts::Kind;
 use sedck_origin::{Origin, Result, Traced, is_name_byte};
@@ -9,52 +8,111 @@ use sedck_shell::ShellWord;
 use std::alloc::Global;
 
 /// Macros whose first argument is the name of a macro that they define.
-static DEFINING: &'static [&'static str] = &[
-    "AC_DEFUN AC_DEFUN_ONCE AU_DEFUN AU_ALIAS m4_define m4_define_default m4_defun",
-    "m4_defun_once m4_pushdef define pushdef m4_for m4_foreach m4_foreach_w",
-];
+const DEFINING: &str = "AC_DEFUN AC_DEFUN_ONCE AU_DEFUN AU_ALIAS m4_define m4_define_default \
+    m4_defun m4_defun_once m4_pushdef define pushdef m4_for m4_foreach m4_foreach_w";
 
 /// Macros of M4 itself, where a parenthesis follows.
-static CALLED: &'static [&'static str] = &[
-    "builtin changecom changequote changeword debugfile debugmode decr define defn divert",
-    "dumpdef errprint esyscmd eval format ifdef ifelse include incr index indir len",
-    "m4exit m4wrap maketemp mkstemp patsubst popdef pushdef regexp shift sinclude substr",
-    "syscmd traceoff traceon translit undefine undivert",
-];
+const CALLED: &str = "builtin changecom changequote changeword debugfile debugmode decr define \
+    defn divert dumpdef errprint esyscmd eval format ifdef ifelse include incr index indir len \
+    m4exit m4wrap maketemp mkstemp patsubst popdef pushdef regexp shift sinclude substr syscmd \
+    traceoff traceon translit undefine undivert";
 
 /// The same, whatever follows.
-static BARE: &'static [&'static str] = &[
-    "changecom changequote debugfile debugmode divert divnum dnl dumpdef m4exit sysval",
-    "traceoff traceon undivert __file__ __line__ __oline__ __program__",
-];
+const BARE: &str = "changecom changequote debugfile debugmode divert divnum dnl dumpdef m4exit \
+    sysval traceoff traceon undivert __file__ __line__ __oline__ __program__";
 
-/// The names of the macros that a file of this kind defines, in order: none but in a source of Autoconf.
-pub(crate) fn macros_of(alloc: Global, kind: Kind, file: &[u8]) -> Result<Vec<Vec<u8>>> {
-    let mut macros = Vec::new(alloc);
-    if kind != Kind::Autoconf {
-        return Ok(macros);
-    }
-    for index in 0..file.len() {
-        let name = name_in(file, index);
-        let after = file.get(index.saturating_add(name.len())..).unwrap_or(&[]);
-        if !after.starts_with(b"(") || !is_one_among(name, DEFINING) {
-            continue;
+/// The macros of M4 in a file; all else is false of them where it is no source of Autoconf.
+#[derive(Drop)]
+pub(crate) struct Macros<'a> {
+    /// Whether macros may change what the file has.
+    pub are_read: bool,
+    file: &'a [u8],
+    /// The names of the macros that the file defines, in order.
+    names: Vec<Vec<u8>>,
+}
+
+impl<'a> Macros<'a> {
+    /// Those of a file of this kind.
+    pub fn of(alloc: Global, kind: Kind, file: &'a [u8]) -> Result<Macros<'a>> {
+        let are_read = kind == Kind::Autoconf;
+        let mut names = Vec::new(alloc);
+        let end = if are_read { file.len() } else { 0 };
+        for index in 0..end {
+            let name = name_in(file, index);
+            let after = rest(file, index.saturating_add(name.len()));
+            if !after.starts_with(b"(") || !is_one_in(name, DEFINING) {
+                continue;
+            }
+            let quotes = after.iter().position(|byte| !b"([ \t\n".contains(byte));
+            let defined = name_at(rest(after, quotes.unwrap_or(after.len())));
+            names.push(Vec::from_slice(alloc, defined)?)?;
         }
-        let quotes = after.iter().position(|byte| !b"([ \t\n".contains(byte));
-        let defined = name_at(after.get(quotes.unwrap_or(after.len())..).unwrap_or(&[]));
-        if !defined.is_empty() {
-            macros.push(Vec::from_slice(alloc, defined)?)?;
-        }
+        names.sort()?;
+        names.dedup();
+        Ok(Macros {
+            are_read,
+            file,
+            names,
+        })
     }
-    macros.sort()?;
-    macros.dedup();
-    Ok(macros)
+
+    /// Whether the file defines a macro of this name.
+    pub fn has(&self, name: &[u8]) -> bool {
+        let found = self.names.binary_search_by(|one| one.as_slice().cmp(name));
+        found.is_ok()
+    }
+
+    /// Whether the words of a command are prose within brackets: the name is right after one, and the next word is letters alone.
+    pub fn is_prose(&self, name: &ShellWord, others: &[ShellWord]) -> bool {
+        let before = self.file.get(..name.start).unwrap_or(&[]);
+        let is_plain = others.first().is_none_or(|next| {
+            let mut units = next.units.iter();
+            let is_word = !next.is_quoted && next.units.len() > 1;
+            is_word && units.all(|unit| unit.byte().is_some_and(|byte| byte.is_ascii_alphabetic()))
+        });
+        self.are_read && before.ends_with(b"[") && is_plain && name.is("sed")
+    }
+
+    /// Whether macros may change the script, which has this text, or a word of the call. A bracket is a quote of M4.
+    pub fn change(&self, words: &[CallWord], text: &Traced) -> bool {
+        let mut words = words.iter();
+        self.are_read
+            && (text.bytes.iter().any(|byte| matches!(*byte, b'[' | b']'))
+                || text.origins.iter().any(|origin| self.is_hole(*origin))
+                || self.are_named_in(&text.bytes)
+                || words.any(|word| self.are_named_in(&word.traced.bytes)))
+    }
+
+    /// Whether a word of the text is the name of a macro: of one of these, or one of Autoconf, Automake, Libtool, pkg-config or M4.
+    fn are_named_in(&self, text: &[u8]) -> bool {
+        (0..text.len()).any(|index| match name_in(text, index) {
+            [] => false,
+            [b'_', b'A', b'A'..=b'Z', b'_', ..] | [b'A', b'A'..=b'Z', b'_', ..] => true,
+            [b'm', b'4', b'_', ..] | [b'L', b'T', b'_', ..] | [b'P', b'K', b'G', b'_', ..] => true,
+            name => {
+                let is_called = text.get(index.saturating_add(name.len())) == Some(&b'(');
+                is_one_in(name, BARE) || self.has(name) || (is_called && is_one_in(name, CALLED))
+            }
+        })
+    }
+
+    /// Whether it is a quadrigraph of Autoconf, or a parameter of a macro.
+    fn is_hole(&self, origin: Origin) -> bool {
+        let Origin::Hole(hole) = origin else {
+            return false;
+        };
+        let written = self.file.get(hole.start..hole.end);
+        matches!(
+            written,
+            Some([b'@', ..] | [b'$', b'0'..=b'9' | b'@' | b'*' | b'#'])
+        )
+    }
 }
 
 /// The name that begins at the index of the text; nothing where none begins there.
 fn name_in(text: &[u8], index: usize) -> &[u8] {
     if begins_name(text, index) {
-        return name_at(text.get(index..).unwrap_or(&[]));
+        return name_at(rest(text, index));
     }
     &[]
 }
@@ -66,65 +124,4 @@ fn name_at(text: &[u8]) -> &[u8] {
     }
     let end = text.iter().position(|byte| !is_name_byte(*byte));
     text.get(..end.unwrap_or(text.len())).unwrap_or(&[])
-}
-
-/// Whether the words of a command are prose within brackets: the name is right after one, and the next word is letters alone.
-pub(crate) fn is_prose(file: &[u8], name: &ShellWord, others: &[ShellWord]) -> bool {
-    let before = file.get(..name.start).unwrap_or(&[]);
-    let is_plain = others.first().is_none_or(|next| {
-        let mut units = next.units.iter();
-        let is_word = !next.is_quoted && next.units.len() > 1;
-        is_word && units.all(|unit| unit.byte().is_some_and(|byte| byte.is_ascii_alphabetic()))
-    });
-    before.ends_with(b"[") && is_plain && name.is("sed")
-}
-
-/// Whether macros may change the script, which has this text, or a word of the call.
-pub(crate) fn has_macro(names: &Names<'_>, words: &[CallWord], text: &Traced) -> bool {
-    let mut words = words.iter();
-    has_bracket(&text.bytes)
-        || has_macro_name(&text.bytes, &names.macros)
-        || has_macro_hole(names.file, &text.origins)
-        || words.any(|word| has_macro_name(&word.traced.bytes, &names.macros))
-}
-
-/// Whether a bracket is in the text, which is a quote of M4.
-fn has_bracket(text: &[u8]) -> bool {
-    text.iter().any(|byte| matches!(*byte, b'[' | b']'))
-}
-
-/// Whether a word of the text is the name of a macro: of one of these, or one of Autoconf, Automake, Libtool, pkg-config or M4.
-fn has_macro_name(text: &[u8], macros: &[Vec<u8>]) -> bool {
-    (0..text.len()).any(|index| {
-        let name = name_in(text, index);
-        let is_called = text.get(index.saturating_add(name.len())) == Some(&b'(');
-        let is_known = begins_macro(name) || is_one_among(name, BARE) || is_defined(macros, name);
-        !name.is_empty() && (is_known || (is_called && is_one_among(name, CALLED)))
-    })
-}
-
-/// Whether one of these macros, which are in order, has the name.
-pub(crate) fn is_defined(macros: &[Vec<u8>], name: &[u8]) -> bool {
-    let found = macros.binary_search_by(|one| one.as_slice().cmp(name));
-    found.is_ok()
-}
-
-/// Whether the name begins like those of Autoconf, Automake, Libtool, pkg-config or M4.
-fn begins_macro(name: &[u8]) -> bool {
-    match name {
-        [b'_', b'A', b'A'..=b'Z', b'_', ..] | [b'A', b'A'..=b'Z', b'_', ..] => true,
-        [b'm', b'4', b'_', ..] | [b'L', b'T', b'_', ..] | [b'P', b'K', b'G', b'_', ..] => true,
-        _ => false,
-    }
-}
-
-/// Whether a hole is a quadrigraph of Autoconf, or a parameter of a macro.
-fn has_macro_hole(file: &[u8], origins: &[Origin]) -> bool {
-    origins.iter().any(|origin| match *origin {
-        Origin::Hole(hole) => matches!(
-            file.get(hole.start..hole.end),
-            Some([b'@', ..] | [b'$', b'0'..=b'9' | b'@' | b'*' | b'#'])
-        ),
-        _ => false,
-    })
 }

@@ -14,25 +14,20 @@ pub(crate) fn mended(
     text: Traced,
     holes: &mut Vec<OpenHole>,
 ) -> Result<Traced> {
-    let mends = mends_in(alloc, &text.bytes)?;
-    if mends.is_empty() {
-        return Ok(text);
-    }
+    let mut mends = mends_in(alloc, &text.bytes)?;
+    mends.retain(|mend| is_in_file(&text.origins, *mend));
     let mut written = empty(alloc);
-    let mut number = 0usize;
     let mut reading = Reading::SCRIPT;
-    for (offset, (byte, origin)) in text.bytes.iter().zip(text.origins.iter()).enumerate() {
+    for (offset, (byte, origin)) in text.bytes.iter().zip(&text.origins).enumerate() {
         reading = reading.after(*byte);
         let next = text.bytes.get(offset.saturating_add(1));
-        let mend = mends.get(number).copied();
-        match mend.filter(|mend| is_in_file(&text.origins, *mend)) {
+        match mends.get(mends.partition_point(|mend| mend.last < offset)) {
             Some(mend) if mend.has(offset) => {
-                add_delimiter(&mut written, holes, (mend, offset), file, &text.origins)?
+                add_delimiter(&mut written, holes, (*mend, offset), file, &text.origins)?
             }
             Some(mend) if mend.is_around(offset) && escapes_delimiter(reading, next) => {}
             _ => add(&mut written, *byte, *origin)?,
         }
-        number = number.saturating_add(usize::from(mend.is_some_and(|mend| mend.last == offset)));
     }
     Ok(written)
 }
@@ -51,12 +46,8 @@ fn add_delimiter(
         let part = origins.get(mend.first..mend.last).unwrap_or(&[]);
         let is_whole = is_unquoted(file, part, whole.start);
         let is_bare = mend.is_bare;
-        holes.push(OpenHole {
-            hole: whole,
-            role: Role::Delimiter { is_whole, is_bare },
-            delimiter: mend.other,
-            is_variable: false,
-        })?;
+        let role = Role::Delimiter { is_whole, is_bare };
+        holes.push(OpenHole::new(whole, role, mend.other))?;
         if is_bare {
             add(written, b'\\', Origin::Hole(hole))?;
         }
@@ -66,13 +57,8 @@ fn add_delimiter(
 
 /// Whether the file has each of the delimiters.
 fn is_in_file(origins: &[Origin], mend: Mend) -> bool {
-    let is_middle = mend.middle.is_none_or(|middle| is_at(origins, middle));
-    is_at(origins, mend.first) && is_middle && is_at(origins, mend.last)
-}
-
-/// Whether the file has this byte.
-fn is_at(origins: &[Origin], index: usize) -> bool {
-    matches!(origins.get(index), Some(Origin::At(_)))
+    let is_at = |index: usize| matches!(origins.get(index), Some(Origin::At(_)));
+    is_at(mend.first) && mend.middle.is_none_or(is_at) && is_at(mend.last)
 }
 
 /// Whether the file has these bytes and holes one right after another, from this offset on, and in the place of each hole just the name of
@@ -94,8 +80,7 @@ fn is_unquoted(file: &[u8], origins: &[Origin], start: usize) -> bool {
 /// Whether a variable is written in the place of the hole with no more than its name.
 fn is_name(file: &[u8], hole: Hole) -> bool {
     let written = file.get(hole.start..hole.end).unwrap_or(&[]);
-    written.iter().all(|byte| matches!(*byte, b'$' | b'{' | b'}' | b'(' | b')' | b'_')
-        || byte.is_ascii_alphanumeric())
+    written.iter().all(|byte| byte.is_ascii_alphanumeric() || b"${}()_".contains(byte))
 }
 
 /// What the file has from the one of these bytes to the other one.

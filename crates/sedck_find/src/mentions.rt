@@ -5,51 +5,35 @@ use crate::names::Names;
 use crate::parts::{Part, Runner};
 use crate::programs::{LONGEST, Program, is_sed_word};
 use crate::units::{
-    begins_name, bytes_of, ends_with, has_hole, is_letters, is_one_among, is_one_in, is_option,
-    known_bytes, last_part, lone_hole, rest, variable_of,
+    begins_name, has_hole, hole_of, is_letters, is_option, is_word_in, last_part, lone_hole, rest,
+    variable_of,
 };
 use sedck_origin::{Result, Unit, begins_with, byte_at, hole_name, is_name_byte, is_text};
 use sedck_shell::ShellWord;
 
 /// Commands whose words are no commands.
-static PLAIN: &'static [&'static str] = &[
-    "echo printf test [ [[ : case return exit which type hash command grep egrep fgrep",
-    "expr cat rm cp mv ln chmod ls mkdir touch cd diff cmp install tar make gmake dirname",
-    "basename export readonly local declare typeset unset read unalias awk gawk mawk perl",
-    "python python3 ruby apt apt-get aptitude dpkg yum dnf microdnf rpm zypper apk pacman",
-    "brew opkg emerge pkg port",
-];
+const PLAIN: &str = "echo printf test [ [[ : case return exit which type hash command grep egrep \
+    fgrep expr cat rm cp mv ln chmod ls mkdir touch cd diff cmp install tar make gmake dirname \
+    basename export readonly local declare typeset unset read unalias awk gawk mawk perl python \
+    python3 ruby apt apt-get aptitude dpkg yum dnf microdnf rpm zypper apk pacman brew opkg \
+    emerge pkg port";
 
 /// Commands that run a text, which isn't read.
-static RUNNING: &'static [&'static str] = &[
-    "env ssh rsh watch parallel docker podman kubectl script nsenter git tmux screen",
-    "xterm entr adb alias systemd-run lxc-attach vagrant crontab",
-];
+const RUNNING: &str = "env ssh rsh watch parallel docker podman kubectl script nsenter git tmux \
+    screen xterm entr adb alias systemd-run lxc-attach vagrant crontab";
 
 /// Variables whose values other programs run.
-static EDITORS: &'static [&'static str] = &[
-    "EDITOR VISUAL FCEDIT PAGER BROWSER LESSOPEN GIT_EDITOR GIT_SEQUENCE_EDITOR GIT_PAGER",
-    "MANPAGER SUDO_EDITOR SYSTEMD_EDITOR KUBE_EDITOR SVN_EDITOR HGEDITOR PROMPT_COMMAND",
-    "GIT_EXTERNAL_DIFF",
-];
+const EDITORS: &str = "EDITOR VISUAL FCEDIT PAGER BROWSER LESSOPEN GIT_EDITOR \
+    GIT_SEQUENCE_EDITOR GIT_PAGER MANPAGER SUDO_EDITOR SYSTEMD_EDITOR KUBE_EDITOR SVN_EDITOR \
+    HGEDITOR PROMPT_COMMAND GIT_EXTERNAL_DIFF";
 
 /// The offset of what may call sed in this part of a command, where it is none of a sed. In prose, and in a value of make's, a word after
 /// the name of a sed must look like an option or a script.
-pub(crate) fn mention_in(
-    names: &Names<'_>,
-    words: &[ShellWord],
-    part: &Part,
-    is_strict: bool,
-) -> Result<Option<usize>> {
-    let Some((name, others)) = part.words(words) else {
-        return Ok(None);
-    };
-    let words = words.get(part.name..part.end).unwrap_or(&[]);
-    let called = rest(&name.units, part.glued);
-    let bytes = bytes_of(names.alloc, last_part(called))?;
-    let known = bytes.as_deref().unwrap_or(&[]);
-    let from = first_open(names, known, words);
-    if let Some(offset) = word_in(names, words, from, part.runner, is_strict)? {
+pub(crate) fn mention_in(names: &Names<'_>, part: &Part, is_strict: bool) -> Result<Option<usize>> {
+    let Part { name, others, .. } = *part;
+    let called = last_part(rest(&name.units, part.glued));
+    let open = open_words(names, called, others)?;
+    if let Some(offset) = word_in(names, open, part.run.runner, is_strict) {
         return Ok(Some(offset));
     }
     // The texts of other commands are read.
@@ -59,117 +43,90 @@ pub(crate) fn mention_in(
     if has_value(names, &name.units) || (!others.is_empty() && names_sed(names, &name.units)) {
         return Ok(Some(name.start));
     }
-    Ok(text_in(words, from, is_one_among(known, RUNNING)))
+    Ok(text_in(name, open, is_word_in(called, RUNNING)))
 }
 
-/// The offset of the first of these words, from this number on, that is the name of a sed and has a word after it, or gets one by `xargs`;
-/// or that is a value with such words.
-fn word_in(
-    names: &Names<'_>,
-    words: &[ShellWord],
-    from: usize,
-    runner: Runner,
-    is_strict: bool,
-) -> Result<Option<usize>> {
-    for (index, word) in words.iter().enumerate().skip(from) {
+/// The offset of the first of these words that is the name of a sed and has a word after it, or gets one by `xargs`; or that is a value with
+/// such words.
+fn word_in(names: &Names, words: &[ShellWord], runner: Runner, is_strict: bool) -> Option<usize> {
+    for (index, word) in words.iter().enumerate() {
         let is_called = match words.get(index.saturating_add(1)) {
             Some(next) => !is_strict || looks_called(next),
             None => runner == Runner::Adding,
         };
+        let is_sed = is_called && is_sed_word(names, &word.units);
         let is_value = lone_hole(&word.units).is_some_and(|hole| hole.way.is_split());
-        if (is_value && has_value(names, &word.units)) || (is_called && is_sed_word(names, word)?) {
-            return Ok(Some(word.start));
-        }
-    }
-    Ok(None)
-}
-
-/// The offset of the first of these words, from this number on, that is a text with a call of sed; a shell or another command may run any
-/// one, or those after some options.
-fn text_in(words: &[ShellWord], from: usize, is_running: bool) -> Option<usize> {
-    let mut is_run = is_running;
-    for (index, word) in words.iter().enumerate() {
-        if index >= from && has_text(&word.units, is_run) {
+        if is_sed || (is_value && has_value(names, &word.units)) {
             return Some(word.start);
         }
-        is_run = is_running || is_command_option(&word.units);
     }
     None
 }
 
-/// The number of the first word that may be a command: none where the words of a command with this name are no commands.
-fn first_open(names: &Names<'_>, name: &[u8], words: &[ShellWord]) -> usize {
-    let is_loop = is_one_in(name, "for select") && words.get(2).is_none_or(|word| word.is("in"));
-    let is_plain = is_loop || is_one_among(name, PLAIN);
-    if !is_plain || names.is_function(name) {
-        return 1;
+/// The offset of the first of these words of the command with this name that is a text with a call of sed; a shell or another command may
+/// run any one, or those after some options.
+fn text_in(name: &ShellWord, words: &[ShellWord], is_running: bool) -> Option<usize> {
+    let mut before = name;
+    for word in words {
+        if has_text(&word.units, is_running || is_command_option(&before.units)) {
+            return Some(word.start);
+        }
+        before = word;
     }
-    let mut others = words.iter().skip(1);
-    let brace = others.position(|word| !word.is_quoted
-        && (word.is("{") || word.is("}") || word.is("]]")));
-    brace.map_or(words.len(), |place| place.saturating_add(1))
+    None
+}
+
+/// Those of the words after this name that may be commands: none where the words of a command with this name are no commands.
+fn open_words<'a>(names: &Names, name: &[Unit], words: &'a [ShellWord]) -> Result<&'a [ShellWord]> {
+    let is_loop = is_word_in(name, "for select") && words.get(1).is_none_or(|word| word.is("in"));
+    if !(is_loop || is_word_in(name, PLAIN)) || names.is_function(name)? {
+        return Ok(words);
+    }
+    let mut others = words.iter();
+    let brace = others.position(|word| !word.is_quoted && is_word_in(&word.units, "{ } ]]"));
+    Ok(rest(words, brace.unwrap_or(words.len())))
 }
 
 /// The offset of an assignment in these words to a variable whose value other programs run, where that has a call of sed.
-pub(crate) fn editor_in(names: &Names<'_>, words: &[ShellWord]) -> Result<Option<usize>> {
-    for word in words {
-        if !is_assignment(&word.units) || !has_call(&word.units) {
-            continue;
-        }
-        if is_one_among(
-            &known_bytes(names.alloc, variable_of(&word.units))?,
-            EDITORS,
-        ) {
-            return Ok(Some(word.start));
-        }
-    }
-    Ok(None)
+pub(crate) fn editor_in(words: &[ShellWord]) -> Option<usize> {
+    let is_editor = |units: &[Unit]| is_word_in(variable_of(units), EDITORS);
+    let mut assignments = words.iter().filter(|word| is_assignment(&word.units));
+    let editor = assignments.find(|word| is_editor(&word.units) && has_call(&word.units));
+    editor.map(|word| word.start)
 }
 
 /// Whether a name that isn't known has `sed` written in it: after its holes, or in the place of one.
 fn names_sed(names: &Names<'_>, units: &[Unit]) -> bool {
-    if has_hole(units) && begins_with(rest(units, units.len().saturating_sub(3)), "sed") {
-        return true;
-    }
-    units.iter().take(LONGEST).any(|unit| match *unit {
-        Unit::Hole(hole) => {
-            let written = names.written_hole(hole);
-            writes_sed(written.get(..LONGEST).unwrap_or(written))
-        }
-        _ => false,
-    })
+    let end = rest(units, units.len().saturating_sub(3));
+    let mut holes = units.iter().take(LONGEST).filter_map(hole_of);
+    let is_in_hole = holes.any(|hole| {
+        let written = names.written_hole(hole);
+        writes_sed(written.get(..LONGEST).unwrap_or(written))
+    });
+    is_in_hole || (has_hole(units) && begins_with(end, "sed"))
 }
 
 /// Whether the file sets a variable of these units to a value that has a call of sed.
 fn has_value(names: &Names<'_>, units: &[Unit]) -> bool {
-    units.iter().take(LONGEST).any(|unit| match *unit {
-        Unit::Hole(hole) => {
-            let name = hole_name(names.written_hole(hole)).unwrap_or(&[]);
-            let value = names.facts.get(name).and_then(|fact| fact.value.as_deref());
-            value.is_some_and(|value| has_name(value.get(..LONGEST).unwrap_or(value)))
-        }
-        _ => false,
+    let mut holes = units.iter().take(LONGEST).filter_map(hole_of);
+    holes.any(|hole| {
+        let name = hole_name(names.written_hole(hole)).unwrap_or(&[]);
+        let value = names.facts.get(name).and_then(|fact| fact.value.as_deref());
+        value.is_some_and(|value| has_name(value.get(..LONGEST).unwrap_or(value)))
     })
 }
 
 /// Whether what is written in place of a hole has the name `sed`. In a command that is one which writes the name, and no call.
 pub(crate) fn writes_sed(written: &[u8]) -> bool {
     let is_command = written.starts_with(b"$(") || written.starts_with(b"`");
-    (0..written.len()).any(|index| {
-        let text = written.get(index..).unwrap_or(&[]);
-        match text.strip_prefix(b"sed") {
-            Some(after) if begins_name(written, index) => ends_sed(after, is_command),
-            _ => false,
+    (0..written.len()).any(|index| match rest(written, index) {
+        [b's', b'e', b'd', after @ ..] if begins_name(written, index) => {
+            let mut others = after.iter().filter(|byte| **byte != b' ');
+            let is_last = others.next().is_none_or(|next| b")`|;&<>2".contains(next));
+            !after.first().is_some_and(|byte| is_name_byte(*byte)) && (!is_command || is_last)
         }
+        _ => false,
     })
-}
-
-/// Whether what is after `sed` ends the name, and for the command also its last word.
-fn ends_sed(after: &[u8], is_command: bool) -> bool {
-    let mut others = after.iter().filter(|byte| **byte != b' ');
-    let is_last = others.next().is_none_or(|next| b")`|;&<>2".contains(next));
-    let is_name = !after.first().is_some_and(|byte| is_name_byte(*byte));
-    is_name && (!is_command || is_last)
 }
 
 /// Whether the units are a word that has a call of sed in a text: where it is known to be run any one, and else one that begins it, or what
@@ -192,13 +149,10 @@ fn has_script(units: &[Unit]) -> bool {
 /// Whether `sed` and a blank are among the units from this one on, and no part of a name.
 fn begins_call(units: &[Unit], index: usize) -> bool {
     let text = rest(units, index);
-    if !begins_with(text, "sed ") && !begins_with(text, "sed\t") {
-        return false;
-    }
     let before = byte_at(units, index.saturating_sub(1));
     let is_inside = index > 0 && before.is_some_and(|byte| is_name_byte(byte) || byte == b'.');
     let is_split = index > 1 && before == Some(b'S') && is_option(units);
-    !is_inside || is_split
+    (begins_with(text, "sed ") || begins_with(text, "sed\t")) && (!is_inside || is_split)
 }
 
 /// Whether the units have `sed` as a word, with a blank after it.
@@ -215,7 +169,8 @@ fn has_name(units: &[Unit]) -> bool {
 
 /// Whether the word before a text is an option that says that a shell runs it.
 fn is_command_option(units: &[Unit]) -> bool {
-    (is_letters(units) && ends_with(units, b'c')) || is_text(units, "--command")
+    let ends_in_c = units.last().is_some_and(|unit| unit.byte() == Some(b'c'));
+    (is_letters(units) && ends_in_c) || is_text(units, "--command")
 }
 
 /// Whether the word after a name looks like an option or a script: it begins with a hyphen, is quoted or has a slash.

@@ -1,13 +1,13 @@
 //! What is known of the values of variables.
 
 use crate::found::Assumptions;
-use crate::macros::is_defined;
+use crate::macros::Macros;
 use crate::settings::Settings;
-use crate::units::{bytes_of, is_one_among, is_one_in};
+use crate::units::{bytes_of, is_one_in};
 use crate::values::Value;
 use sedck_hosts::Kind;
 use sedck_origin::{Hole, Result, Unit, hole_name};
-use sedck_shell::{Dialect, Form, Site};
+use sedck_shell::{Form, Site};
 use std::alloc::Global;
 use std::collections::BTreeMap;
 
@@ -67,6 +67,8 @@ pub(crate) struct Names<'a> {
     pub form: Form,
     pub file: &'a [u8],
     pub assumed: Assumptions<'a>,
+    /// The values of the variables that are assumed, in their order.
+    pub given: Vec<Vec<Unit>>,
     pub facts: BTreeMap<Vec<u8>, Fact>,
     /// For each text the offset of the first command that may set variables which it doesn't name.
     pub open: BTreeMap<usize, usize>,
@@ -77,16 +79,15 @@ pub(crate) struct Names<'a> {
     /// The names of functions and of aliases.
     pub functions: BTreeMap<Vec<u8>, ()>,
     pub settings: Settings,
-    /// The names of the macros of M4 that the file defines, in order.
-    pub macros: Vec<Vec<u8>>,
+    pub macros: Macros<'a>,
     /// The offset of each line's first byte.
     pub lines: Vec<usize>,
 }
 
 impl<'a> Names<'a> {
     /// Notes that the variable is set there, to this value if it is known.
-    pub fn note(&mut self, name: Vec<u8>, value: Option<Vec<Unit>>, point: Point) -> Result<()> {
-        if let Some(fact) = self.facts.get_mut(name.as_slice()) {
+    pub fn note(&mut self, name: &[u8], value: Option<Vec<Unit>>, point: Point) -> Result<()> {
+        if let Some(fact) = self.facts.get_mut(name) {
             fact.value = None;
             return Ok(());
         }
@@ -95,14 +96,14 @@ impl<'a> Names<'a> {
             point,
             is_sed: false,
         };
-        self.facts.insert(name, fact)?;
+        self.facts.insert(Vec::from_slice(self.alloc, name)?, fact)?;
         Ok(())
     }
 
-    /// Notes that a value which the variable is given somewhere begins with the name of a sed.
-    pub fn note_sed(&mut self, name: &[u8]) {
+    /// Notes whether a value which the variable is given somewhere begins with the name of a sed.
+    pub fn note_sed(&mut self, name: &[u8], is_sed: bool) {
         if let Some(fact) = self.facts.get_mut(name) {
-            fact.is_sed = true;
+            fact.is_sed |= is_sed;
         }
     }
 
@@ -112,7 +113,7 @@ impl<'a> Names<'a> {
     }
 
     /// Notes that the variable is set to what isn't known.
-    pub fn note_unknown(&mut self, name: Vec<u8>) -> Result<()> {
+    pub fn note_unknown(&mut self, name: &[u8]) -> Result<()> {
         self.note(name, None, Scope::Other.point(Site::default(), 0))
     }
 
@@ -144,23 +145,20 @@ impl<'a> Names<'a> {
     }
 
     /// Whether a function or an alias has the name.
-    pub fn is_function(&self, name: &[u8]) -> bool {
-        self.functions.get(name).is_some()
+    pub fn is_function(&self, name: &[Unit]) -> Result<bool> {
+        let name = bytes_of(self.alloc, name)?;
+        Ok(name.is_some_and(|name| self.functions.get(name.as_slice()).is_some()))
     }
 
     /// Whether another program may run in place of the one that is named so, also where another command runs it.
-    pub fn is_replaced(&self, name: &[u8]) -> bool {
-        self.settings.has_tables || is_defined(&self.macros, name)
+    pub fn is_replaced(&self, name: &[Unit]) -> Result<bool> {
+        let name = bytes_of(self.alloc, name)?;
+        Ok(name.is_some_and(|name| self.settings.has_tables || self.macros.has(&name)))
     }
 
     /// Whether the file is a makefile.
     pub fn is_make(&self) -> bool {
         self.kind == Kind::Make
-    }
-
-    /// Whether macros of M4 may change what the file has.
-    pub fn has_macros(&self) -> bool {
-        self.form.dialect == Dialect::Macros
     }
 
     /// Whether make replaces the hole.
@@ -178,8 +176,11 @@ impl<'a> Names<'a> {
     pub fn value_of(&self, hole: Hole, point: Point) -> Option<Value<'_>> {
         let name = self.variable_at(hole, point)?;
         let mut assumed = self.assumed.variables.iter();
-        if let Some(one) = assumed.find(|one| one.name == name) {
-            return Some(Value::Given(one.value.unwrap_or(&[])));
+        if let Some(place) = assumed.position(|one| one.name == name) {
+            return Some(Value {
+                units: self.given.get(place)?,
+                is_given: true,
+            });
         }
         if self.written_hole(hole).first() == Some(&b'@') {
             return None;
@@ -194,10 +195,13 @@ impl<'a> Names<'a> {
                 at: hole.start,
                 ..point
             };
-            self.lasts(fact, used) && !may_split && !is_one_among(name, SET_BY_SHELL)
+            self.lasts(fact, used) && !may_split && !is_one_in(name, SET_BY_SHELL)
         };
         match &fact.value {
-            Some(value) if is_there => Some(Value::Written(value)),
+            Some(units) if is_there => Some(Value {
+                units,
+                is_given: false,
+            }),
             _ => None,
         }
     }
@@ -225,11 +229,9 @@ impl<'a> Names<'a> {
 }
 
 /// Variables that a shell sets by itself.
-static SET_BY_SHELL: &'static [&'static str] = &[
-    "_ IFS PWD OLDPWD UID EUID PPID GROUPS REPLY OPTARG OPTIND OPTERR LINENO MAPFILE",
-    "RANDOM SRANDOM SECONDS LINES COLUMNS EPOCHSECONDS EPOCHREALTIME COPROC DIRSTACK",
-    "HISTCMD",
-];
+const SET_BY_SHELL: &str = "_ IFS PWD OLDPWD UID EUID PPID GROUPS REPLY OPTARG OPTIND OPTERR \
+    LINENO MAPFILE RANDOM SRANDOM SECONDS LINES COLUMNS EPOCHSECONDS EPOCHREALTIME COPROC \
+    DIRSTACK HISTCMD";
 
 /// The name of the variable whose value replaces all that is written: `$NAME`, `${NAME}`, `@NAME@`, and make's `$(NAME)`.
 pub(crate) fn replaced_name(written: &[u8], kind: Kind) -> Option<&[u8]> {
@@ -244,7 +246,7 @@ pub(crate) fn replaced_name(written: &[u8], kind: Kind) -> Option<&[u8]> {
         1 => written.starts_with(b"$"),
         _ => false,
     };
-    if is_name { Some(name) } else { None }
+    is_name.then_some(name)
 }
 
 /// Whether an odd number of dollar signs precedes the offset, so that the one there is the shell's and not make's.

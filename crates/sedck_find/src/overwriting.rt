@@ -3,9 +3,10 @@
 use crate::found::{FoundScript, Overwritten};
 use crate::names::{Names, replaced_name};
 use crate::parts::Runner;
+use crate::script::Around;
 use crate::texts::Held;
 use crate::units::is_one_in;
-use crate::words::{CallWord, Filler, STANDARD};
+use crate::words::{Filler, STANDARD};
 use sedck_call::{Call, CallOption, Given, path_of};
 use sedck_origin::{Origin, Result, Traced, hole_name};
 use sedck_shell::{ShellWord, Target};
@@ -18,26 +19,22 @@ const MOST: usize = 100;
 pub(crate) fn overwritten_by(
     filler: &mut Filler<'_>,
     held: &Held,
-    runner: Runner,
     script: &FoundScript,
-    words: &[CallWord],
+    around: Around<'_>,
 ) -> Result<Option<Overwritten>> {
     let FoundScript::Text { call, .. } = script else {
         return Ok(None);
     };
+    // With -i no line goes to the output.
+    let has_no_output = call.given.iter().any(is_in_place);
     for target in held.command.targets.iter().take(MOST) {
-        // With -i no line goes to the output.
-        let is_written = target.is_output && !is_in_place(call);
-        if !target.is_emptied && !is_written {
+        if !target.is_emptied && (!target.is_output || has_no_output) {
             continue;
         }
-        let Some(path) = path_at(filler, &target.word)? else {
-            continue;
-        };
-        let is_read = has_operand(filler.names, call, words, &path)?
-            || (reads_standard(call, words, runner) && is_source(filler, held, &path)?);
-        if is_read {
-            return Ok(overwritten(target));
+        if let Some(path) = path_at(filler, &target.word)? {
+            if is_read(filler, held, call, around, &path)? {
+                return Ok(overwritten(target));
+            }
         }
     }
     Ok(None)
@@ -45,55 +42,48 @@ pub(crate) fn overwritten_by(
 
 /// The file that is opened for writing, with where the file of the call has its name.
 fn overwritten(target: &Target) -> Option<Overwritten> {
-    let first = target.word.units.first()?;
-    let last = target.word.units.last()?;
+    let units = &target.word.units;
     Some(Overwritten {
-        start: first.start(),
-        end: last.end(),
+        start: units.first()?.start(),
+        end: units.last()?.end(),
         is_emptied: target.is_emptied,
         is_output: target.is_output,
     })
 }
 
 /// Whether an option has the operands overwritten.
-fn is_in_place(call: &Call) -> bool {
-    call.given.iter().any(|item| match *item {
-        Given::Alone(option, _) | Given::With(option, _) => matches!(
-            option,
-            CallOption::InPlace | CallOption::InPlaceSuffix
-        ),
-        Given::Operand(_) => false,
-    })
+fn is_in_place(item: &Given) -> bool {
+    matches!(
+        *item,
+        Given::Alone(CallOption::InPlace | CallOption::InPlaceSuffix, _)
+            | Given::With(CallOption::InPlace | CallOption::InPlaceSuffix, _)
+    )
 }
 
-/// Whether an operand of the call has this path.
-fn has_operand(names: &Names<'_>, call: &Call, words: &[CallWord], path: &[u8]) -> Result<bool> {
+/// Whether an operand of the call has this path, or the standard input of its command, which `xargs` reads itself.
+fn is_read(
+    filler: &mut Filler<'_>,
+    held: &Held,
+    call: &Call,
+    around: Around<'_>,
+    path: &[u8],
+) -> Result<bool> {
+    let mut is_standard = call.inputs.is_empty();
     for number in &call.inputs {
-        if let Some(word) = words.get(*number) {
-            if written_path(names, &word.traced)?.as_deref() == Some(path) {
+        if let Some(word) = around.words.get(*number) {
+            if written_path(filler.names, &word.traced)?.as_deref() == Some(path) {
                 return Ok(true);
             }
+            is_standard |= is_one_in(&word.traced.bytes, STANDARD);
         }
     }
-    Ok(false)
-}
-
-/// Whether the call reads the standard input of its command, which `xargs` reads itself.
-fn reads_standard(call: &Call, words: &[CallWord], runner: Runner) -> bool {
-    let is_free = matches!(runner, Runner::Plain | Runner::Find);
-    let is_named = call.inputs.iter().any(|number| {
-        let word = words.get(*number);
-        word.is_some_and(|word| is_one_in(&word.traced.bytes, STANDARD))
-    });
-    is_free && (is_named || call.inputs.is_empty())
-}
-
-/// Whether the standard input of the command is the file with this path.
-fn is_source(filler: &mut Filler<'_>, held: &Held, path: &[u8]) -> Result<bool> {
-    let Some(source) = &held.command.source else {
-        return Ok(false);
-    };
-    Ok(path_at(filler, source)?.as_deref() == Some(path))
+    let is_free = matches!(around.runner, Runner::Plain | Runner::Find);
+    match &held.command.source {
+        Some(source) if is_free && is_standard => {
+            Ok(path_at(filler, source)?.as_deref() == Some(path))
+        }
+        _ => Ok(false),
+    }
 }
 
 /// The path that the word of a redirection is. What its variables have is no matter of the call's words.
@@ -109,7 +99,7 @@ fn path_at(filler: &mut Filler<'_>, word: &ShellWord) -> Result<Option<Vec<u8>>>
 fn written_path(names: &Names<'_>, traced: &Traced) -> Result<Option<Vec<u8>>> {
     let mut written = Vec::new(names.alloc);
     let mut last = None;
-    for (byte, origin) in traced.bytes.iter().zip(traced.origins.iter()) {
+    for (byte, origin) in traced.bytes.iter().zip(&traced.origins) {
         match *origin {
             Origin::Hole(hole) if last == Some(hole) => {}
             Origin::Hole(hole) => {
@@ -127,7 +117,7 @@ fn written_path(names: &Names<'_>, traced: &Traced) -> Result<Option<Vec<u8>>> {
     Ok(Some(path_of(names.alloc, &written)?))
 }
 
-/// The name of what is written, where that is the same at each place of a command: a variable, a parameter, or a folder behind a tilde.
+/// The name of what is written, where that is the same at each place of a command: a variable, a parameter, or a folder after a tilde.
 fn lasting_name<'a>(names: &Names<'_>, written: &'a [u8]) -> Option<&'a [u8]> {
     match written {
         [b'~', ..] => Some(written),

@@ -1,7 +1,7 @@
 //! Settings of a shell by which a call may have other words, or another program runs in place of the sed.
 
 use crate::names::Names;
-use crate::units::{begins_open, has_any, has_hole, has_letter, is_option};
+use crate::units::{begins_open, has_any, has_hole, has_letter, is_one_in, is_option, rest};
 use sedck_hosts::Assignment;
 use sedck_origin::{Result, Unit, is_text};
 use sedck_shell::ShellWord;
@@ -20,54 +20,37 @@ pub(crate) struct Settings {
 }
 
 /// Names of variables that are tables of programs and aliases.
-static TABLES: &'static [&'static str] = &["bashcmds", "bashaliases"];
+const TABLES: &str = "bashcmds bashaliases";
 
 /// An alias that each `configure` has for zsh: with it and without it the word is the same words.
 const WORDS: &str = "${1+\"$@\"}=\"$@\"";
 
 /// The same for zsh alone.
-static TABLES_OF_ZSH: &'static [&'static str] = &[
-    "aliases[",
-    "functions[",
-    "commands[",
-    "aliases=",
-    "functions=",
-    "commands=",
-];
+const TABLES_OF_ZSH: &str = "aliases[ functions[ commands[ aliases= functions= commands=";
 
 /// What changes the quotes or the signs of zsh.
-static SIGNS: &'static [&'static str] = &[
-    "rcquotes",
-    "cshjunkiequotes",
-    "extendedglob",
-    "braceccl",
-];
+const SIGNS: &str = "rcquotes cshjunkiequotes extendedglob braceccl";
 
 /// The settings that the text of a file shows, whatever commands it has.
 pub(crate) fn settings_of(file: &[u8]) -> Settings {
     let mut lines = file.split(|byte| *byte == b'\n');
-    let line = lines.next().unwrap_or(&[]);
-    let is_program = line.starts_with(b"#!");
-    let is_zsh = is_program && has_names(line, &["zsh"]);
+    let first = lines.next().unwrap_or(&[]);
+    let line = if first.starts_with(b"#!") { first } else { &[] };
+    let mut words = line.split(|byte| matches!(*byte, b' ' | b'\t'));
+    let is_zsh = has_names(line, "zsh");
     Settings {
-        has_keywords: is_program && names_keywords(line),
-        has_no_match: has_names(file, &["nullglob"]),
+        has_keywords: words.any(|word| word.starts_with(b"-") && word.contains(&b'k')),
+        has_no_match: has_names(file, "nullglob"),
         has_signs: has_names(file, SIGNS),
         has_tables: has_names(file, TABLES) || (is_zsh && has_names(file, TABLES_OF_ZSH)),
     }
 }
 
-/// Whether a word of the first line is an option with the letter `k`.
-fn names_keywords(line: &[u8]) -> bool {
-    let mut words = line.split(|byte| matches!(*byte, b' ' | b'\t'));
-    words.any(|word| word.starts_with(b"-") && word.contains(&b'k'))
-}
-
-/// Whether one of the names is in these bytes.
-fn has_names(bytes: &[u8], names: &[&str]) -> bool {
-    (0..bytes.len()).any(|from| {
-        let rest = bytes.get(from..).unwrap_or(&[]);
-        names.iter().any(|name| begins_with_name(rest, name))
+/// Whether one of the names, which have spaces between, is in these bytes.
+fn has_names(bytes: &[u8], names: &str) -> bool {
+    names.split(' ').any(|name| {
+        let mut starts = 0..bytes.len();
+        starts.any(|from| begins_with_name(rest(bytes, from), name))
     })
 }
 
@@ -88,14 +71,9 @@ fn begins_with_name(bytes: &[u8], name: &str) -> bool {
 impl Names<'_> {
     /// Notes what `set` and `shopt` set by these operands. What isn't known may be any option.
     pub fn note_options(&mut self, operands: &[ShellWord]) {
-        for word in operands {
-            if word.is("--") {
-                return;
-            }
-            if is_keyword_option(&word.units) {
-                self.settings.has_keywords = true;
-            }
-        }
+        let mut options = operands.split(|word| word.is("--"));
+        let mut options = options.next().unwrap_or(operands).iter();
+        self.settings.has_keywords |= options.any(|word| is_keyword_option(&word.units));
     }
 
     /// Notes that `hash` and `enable` put other programs in place of some: with an option `-p` or `-f`, or as `name=path`.
@@ -122,21 +100,14 @@ impl Names<'_> {
     /// Notes how make calls the shell, if the assignment says that.
     pub fn note_shell_flags(&mut self, assignment: &Assignment) {
         let value = assignment.value.as_slice();
-        let is_flags = assignment.name.as_slice() == b".SHELLFLAGS".as_slice();
-        let is_shell = assignment.name.as_slice() == b"SHELL".as_slice();
-        if (is_flags || is_shell) && (has_hole(value) || has_keywords(value)) {
-            self.settings.has_keywords = true;
-        }
+        let mut words = value.split(|unit| matches!(unit.byte(), Some(b' ' | b'\t')));
+        let is_shell = is_one_in(&assignment.name, ".SHELLFLAGS SHELL");
+        let has_keywords = has_hole(value) || words.any(is_keyword_option);
+        self.settings.has_keywords |= is_shell && has_keywords;
     }
 }
 
 /// Whether a word after `set`, `shopt` or the name of a shell may set the option `keyword`.
 pub(crate) fn is_keyword_option(units: &[Unit]) -> bool {
     begins_open(units) || is_text(units, "keyword") || has_letter(units, "k")
-}
-
-/// Whether a word among the units may set it.
-fn has_keywords(units: &[Unit]) -> bool {
-    let mut words = units.split(|unit| matches!(unit.byte(), Some(b' ' | b'\t')));
-    words.any(is_keyword_option)
 }

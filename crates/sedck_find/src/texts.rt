@@ -6,9 +6,11 @@ use crate::parts::{Part, parts_of};
 use crate::programs::Program;
 use crate::replaced::with_holes;
 use crate::settings::is_keyword_option;
-use crate::units::{after, begins_open, bytes_of, has_letter, is_letters, last_part, rest};
+use crate::units::{
+    after, begins_open, bytes_of, has_letter, is_letters, is_word_in, last_part, rest, without,
+};
 use sedck_hosts::is_dollar_quoting;
-use sedck_origin::{Result, Text, Unit, begins_with, byte_at};
+use sedck_origin::{Result, Text, Unit, begins_with, byte_at, is_text};
 use sedck_shell::{Form, ShellCommand, ShellWord, read_shell};
 use std::alloc::Global;
 
@@ -40,13 +42,10 @@ struct Manner {
 
 impl Manner {
     /// The manner of another shell, which is called there, and may read `$'..'` or not.
-    fn other(self, reads_dollar_quotes: bool) -> Manner {
-        let mut form = self.form;
-        form.has_dollar_quotes = form.has_dollar_quotes && reads_dollar_quotes;
-        Manner {
-            form,
-            scope: Scope::Other,
-        }
+    fn other(mut self, reads_dollar_quotes: bool) -> Manner {
+        self.form.has_dollar_quotes &= reads_dollar_quotes;
+        self.scope = Scope::Other;
+        self
     }
 }
 
@@ -102,15 +101,13 @@ impl Texts<'_> {
 
     /// Reads the texts in what was read, and those in them.
     pub fn read_inner(&mut self) -> Result<()> {
-        for _ in 0..LEVELS {
+        for level in 0..=LEVELS {
             let texts = std::mem::replace(&mut self.inner, Vec::new(self.names.alloc));
-            for text in &texts {
-                self.read_as(Text::Units(&text.units), text.manner, false)?;
-            }
-        }
-        for text in &self.inner {
-            if let Some(first) = text.units.first() {
-                self.unread.push(first.start())?;
+            for Inner { units, manner } in &texts {
+                match level {
+                    LEVELS => self.miss(units)?,
+                    _ => self.read_as(Text::Units(units), *manner, false)?,
+                }
             }
         }
         Ok(())
@@ -131,22 +128,19 @@ impl Texts<'_> {
     /// Notes the text that a part of a command has for a shell. A here-document or a here-string that `.` reads isn't understood, and none that
     /// a shell reads by a name.
     fn note_part(&mut self, part: &Part, command: &ShellCommand, manner: Manner) -> Result<()> {
-        let Some((name, words)) = part.words(&command.words) else {
-            return Ok(());
-        };
         match part.program {
             Program::Shell => {
-                let path = bytes_of(self.names.alloc, last_part(&name.units))?;
+                let path = bytes_of(self.names.alloc, last_part(&part.name.units))?;
                 let other = manner.other(path.is_some_and(|path| is_dollar_quoting(&path)));
-                self.note_shell(words, part, command, other)
+                self.note_shell(part, command, other)
             }
-            Program::Again => self.note_again(words, name.is("trap"), manner),
-            Program::User => match user_text(words) {
-                Some(text) => self.note_other(text, part, command, manner.other(false)),
+            Program::Again => self.note_again(part, manner),
+            Program::User => match user_text(part.others) {
+                Some(text) => self.note_other(text, part, manner.other(false)),
                 None => Ok(()),
             },
             Program::Sourcing if is_fed(command) => {
-                let first = command.words.first().unwrap_or(name);
+                let first = part.before.first().unwrap_or(part.name);
                 Ok(self.unread.push(first.start)?)
             }
             _ => Ok(()),
@@ -154,17 +148,12 @@ impl Texts<'_> {
     }
 
     /// Notes the text that a shell is called with, which it reads in this manner.
-    fn note_shell(
-        &mut self,
-        words: &[ShellWord],
-        part: &Part,
-        command: &ShellCommand,
-        other: Manner,
-    ) -> Result<()> {
-        let is_keyword = words.iter().any(|word| is_keyword_option(&word.units));
-        self.names.settings.has_keywords |= is_keyword;
-        match (shell_text(words), &command.here, &command.here_string) {
-            (Input::Word(units), _, _) => self.note_other(units, part, command, other),
+    fn note_shell(&mut self, part: &Part, command: &ShellCommand, other: Manner) -> Result<()> {
+        let mut words = part.others.iter();
+        let has_keywords = words.any(|word| is_keyword_option(&word.units));
+        self.names.settings.has_keywords |= has_keywords;
+        match (shell_text(part.others), &command.here, &command.here_string) {
+            (Input::Word(units), _, _) => self.note_other(units, part, other),
             (Input::Standard, Some(units), _) => self.note_text(units, other),
             (Input::Standard, _, Some(word)) => self.note_text(&word.units, other),
             (Input::File(path), _, _) if is_device(path) && is_fed(command) => self.miss(path),
@@ -174,15 +163,9 @@ impl Texts<'_> {
 
     /// Notes a text in the words of a command that another shell reads in this manner. What runs that shell may put names or lines into it,
     /// before the shell reads it.
-    fn note_other(
-        &mut self,
-        text: &[Unit],
-        part: &Part,
-        command: &ShellCommand,
-        other: Manner,
-    ) -> Result<()> {
+    fn note_other(&mut self, text: &[Unit], part: &Part, other: Manner) -> Result<()> {
         let alloc = self.names.alloc;
-        let Some(replaced) = part.replaced.texts(alloc, &command.words)? else {
+        let Some(replaced) = part.run.replaced.texts(alloc)? else {
             return self.miss(text);
         };
         let mut units = Vec::from_slice(alloc, text)?;
@@ -201,20 +184,17 @@ impl Texts<'_> {
     }
 
     /// Notes the text of `eval`, or of `trap`, which has other operands after it.
-    fn note_again(&mut self, words: &[ShellWord], is_trap: bool, manner: Manner) -> Result<()> {
-        let form = manner.form;
+    fn note_again(&mut self, part: &Part, manner: Manner) -> Result<()> {
         let text = manner.scope.text();
         let scope = text.map_or(Scope::Other, |text| Scope::Again(text));
-        let again = Manner { form, scope };
-        let has_end = words.first().is_some_and(|first| first.is("--"));
-        let words = words.get(usize::from(has_end)..).unwrap_or(&[]);
-        match words.first() {
-            Some(first) if is_trap && words.len() > 1 => self.note_text(&first.units, again),
-            Some(_) if !is_trap => {
+        let again = Manner { scope, ..manner };
+        match without(part.others, "--") {
+            [first, _, ..] if part.name.is("trap") => self.note_text(&first.units, again),
+            _ if part.name.is("trap") => Ok(()),
+            words => {
                 let text = joined(self.names.alloc, words)?;
                 self.note_text(&text, again)
             }
-            _ => Ok(()),
         }
     }
 
@@ -234,13 +214,8 @@ fn may_call(words: &[ShellWord]) -> bool {
     words.iter().any(|word| {
         let next = rest(&word.units, 1);
         let is_open = begins_open(&word.units) && (next.is_empty() || begins_open(next));
-        is_open || has_sed(&word.units)
+        is_open || word.units.windows(3).any(|part| is_text(part, "sed"))
     })
-}
-
-/// Whether `sed` is among the units.
-fn has_sed(units: &[Unit]) -> bool {
-    (0..units.len()).any(|index| begins_with(rest(units, index), "sed"))
 }
 
 /// Whether a shell may read commands from a here-document or a here-string of this command.
@@ -281,51 +256,45 @@ fn shell_text(words: &[ShellWord]) -> Input<'_> {
     let mut is_command = false;
     let mut is_standard = false;
     for word in words {
+        let units = word.units.as_slice();
         if arguments > 0 {
             arguments = arguments.saturating_sub(1);
-        } else if matches!(byte_at(&word.units, 0), Some(b'-' | b'+')) {
-            is_command = is_command || has_letter(&word.units, "c");
-            is_standard = is_standard || has_letter(&word.units, "s");
-            arguments = arguments_of(word);
+        } else if matches!(byte_at(units, 0), Some(b'-' | b'+')) {
+            is_command = is_command || has_letter(units, "c");
+            is_standard = is_standard || has_letter(units, "s");
+            arguments = arguments_of(units);
         } else if is_command {
-            return Input::Word(&word.units);
-        } else if is_standard {
-            return Input::Standard;
+            return Input::Word(units);
+        } else if !is_standard {
+            return Input::File(units);
         } else {
-            return Input::File(&word.units);
+            break;
         }
     }
     Input::Standard
 }
 
 /// How many of the next words are arguments of the option: one for each `o` and `O`.
-fn arguments_of(word: &ShellWord) -> usize {
-    if byte_at(&word.units, 1) == Some(b'-') {
-        return usize::from(word.is("--rcfile") || word.is("--init-file"));
+fn arguments_of(option: &[Unit]) -> usize {
+    let takes_word = |unit: &&Unit| matches!(unit.byte(), Some(b'o' | b'O'));
+    match byte_at(option, 1) {
+        Some(b'-') => usize::from(is_word_in(option, "--rcfile --init-file")),
+        _ => option.iter().filter(takes_word).count(),
     }
-    let letters = word
-        .units
-        .iter()
-        .filter(|unit| matches!(unit.byte(), Some(b'o' | b'O')));
-    letters.count()
 }
 
 /// The text that `su` with these words after its name hands to a shell.
 fn user_text(words: &[ShellWord]) -> Option<&[Unit]> {
     for (index, word) in words.iter().enumerate() {
-        let next = words.get(index.saturating_add(1));
-        let next = next.map(|next| next.units.as_slice());
-        if word.is("--command") {
-            return next;
-        }
-        if begins_with(&word.units, COMMAND) {
-            return word.units.get(COMMAND.len()..);
-        }
-        match after(&word.units, b'c') {
-            Some(text) if is_letters(&word.units) => {
-                return if text.is_empty() { next } else { Some(text) };
-            }
-            _ => {}
+        let units = word.units.as_slice();
+        let letters = after(units, b'c').filter(|_| is_letters(units));
+        if word.is("--command") || letters.is_some_and(|text| text.is_empty()) {
+            let next = words.get(index.saturating_add(1))?;
+            return Some(&next.units);
+        } else if letters.is_some() {
+            return letters;
+        } else if begins_with(units, COMMAND) {
+            return units.get(COMMAND.len()..);
         }
     }
     None

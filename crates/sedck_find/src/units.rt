@@ -1,32 +1,31 @@
 //! Units of words.
 
-use sedck_origin::{Hole, Result, Unit, byte_at, is_name_byte, name_length};
+use sedck_origin::{Hole, Result, Unit, byte_at, is_name_byte, is_text, name_length};
+use sedck_shell::ShellWord;
 use std::alloc::Global;
+
+/// The bytes of the units before the first hole.
+pub(crate) fn known_bytes(alloc: Global, units: &[Unit]) -> Result<Vec<u8>> {
+    units.iter().map_while(|unit| unit.byte()).collect(alloc)
+}
 
 /// The bytes of the units, if none is a hole.
 pub(crate) fn bytes_of(alloc: Global, units: &[Unit]) -> Result<Option<Vec<u8>>> {
     let bytes = known_bytes(alloc, units)?;
-    if bytes.len() < units.len() {
-        return Ok(None);
-    }
-    Ok(Some(bytes))
+    Ok((bytes.len() == units.len()).then_some(bytes))
 }
 
-/// The bytes of the units before the first hole.
-pub(crate) fn known_bytes(alloc: Global, units: &[Unit]) -> Result<Vec<u8>> {
-    let mut bytes = Vec::new(alloc);
-    for unit in units {
-        match unit.byte() {
-            Some(byte) => bytes.push(byte)?,
-            None => break,
-        }
-    }
-    Ok(bytes)
+/// Those from this number on.
+pub(crate) fn rest<T>(items: &[T], from: usize) -> &[T] {
+    items.get(from..).unwrap_or(&[])
 }
 
-/// The units from this number on.
-pub(crate) fn rest(units: &[Unit], from: usize) -> &[Unit] {
-    units.get(from..).unwrap_or(&[])
+/// The words without this one before them.
+pub(crate) fn without<'a>(words: &'a [ShellWord], option: &str) -> &'a [ShellWord] {
+    match words {
+        [first, others @ ..] if first.is(option) => others,
+        _ => words,
+    }
 }
 
 /// The units after the first one that is this byte, if one is.
@@ -37,8 +36,14 @@ pub(crate) fn after(units: &[Unit], byte: u8) -> Option<&[Unit]> {
 
 /// The units after the last `/`.
 pub(crate) fn last_part(units: &[Unit]) -> &[Unit] {
-    let slash = units.iter().rposition(|unit| unit.byte() == Some(b'/'));
-    rest(units, slash.map_or(0, |slash| slash.saturating_add(1)))
+    let mut parts = units.rsplit(|unit| unit.byte() == Some(b'/'));
+    parts.next().unwrap_or(units)
+}
+
+/// The units before the first hole.
+pub(crate) fn known_part(units: &[Unit]) -> &[Unit] {
+    let mut parts = units.split(|unit| unit.byte().is_none());
+    parts.next().unwrap_or(units)
 }
 
 /// The name of a variable at the beginning; nothing where there is none.
@@ -49,10 +54,18 @@ pub(crate) fn variable_of(units: &[Unit]) -> &[Unit] {
     }
 }
 
+/// The hole that the unit is, if it is one.
+pub(crate) fn hole_of(unit: &Unit) -> Option<Hole> {
+    match *unit {
+        Unit::Hole(hole) => Some(hole),
+        _ => None,
+    }
+}
+
 /// The hole that the units are, if they are one alone.
 pub(crate) fn lone_hole(units: &[Unit]) -> Option<Hole> {
-    match units.first() {
-        Some(Unit::Hole(hole)) if units.len() == 1 => Some(*hole),
+    match units {
+        [unit] => hole_of(unit),
         _ => None,
     }
 }
@@ -77,25 +90,21 @@ pub(crate) fn is_letters(units: &[Unit]) -> bool {
     is_option(units) && byte_at(units, 1) != Some(b'-')
 }
 
+/// The number of the first unit that is one of these bytes.
+pub(crate) fn place_of(units: &[Unit], bytes: &str) -> Option<usize> {
+    let bytes = bytes.as_bytes();
+    let mut known = units.iter().map(|unit| unit.byte());
+    known.position(|byte| byte.is_some_and(|byte| bytes.contains(&byte)))
+}
+
 /// Whether the units have one of these bytes.
 pub(crate) fn has_any(units: &[Unit], bytes: &str) -> bool {
-    let mut known = units.iter().filter_map(|unit| unit.byte());
-    known.any(|byte| bytes.as_bytes().contains(&byte))
+    place_of(units, bytes).is_some()
 }
 
 /// Whether the units are letters of options, of which one is this one.
 pub(crate) fn has_letter(units: &[Unit], letter: &str) -> bool {
     is_letters(units) && has_any(units, letter)
-}
-
-/// Whether the last unit is this byte.
-pub(crate) fn ends_with(units: &[Unit], byte: u8) -> bool {
-    units.last().is_some_and(|unit| unit.byte() == Some(byte))
-}
-
-/// Whether the name is one of the words in these lists, which have spaces between.
-pub(crate) fn is_one_among(name: &[u8], lists: &[&str]) -> bool {
-    lists.iter().any(|words| is_one_in(name, words))
 }
 
 /// Whether the name is one of these words, which have spaces between.
@@ -104,14 +113,9 @@ pub(crate) fn is_one_in(name: &[u8], words: &str) -> bool {
     words.any(|word| word == name)
 }
 
-/// What the rows have the name for, each of which has words with spaces between.
-pub(crate) fn meant_by<T: Copy>(rows: &[(T, &str)], name: &[u8]) -> Option<T> {
-    for (meant, words) in rows {
-        if is_one_in(name, words) {
-            return Some(*meant);
-        }
-    }
-    None
+/// Whether the units are one of these words, which have spaces between.
+pub(crate) fn is_word_in(units: &[Unit], words: &str) -> bool {
+    words.split(' ').any(|word| is_text(units, word))
 }
 
 /// Whether a name in the text may begin at the index: no byte of one is before it.

@@ -3,8 +3,8 @@
 use crate::found::{Followed, OpenHole};
 use crate::names::{Names, Point};
 use crate::programs::is_sed_variable;
-use crate::units::lone_hole;
-use crate::values::{BLANKS, SPECIAL, Value};
+use crate::units::{has_any, hole_of};
+use crate::values::{SPECIAL, Value, is_blank};
 use sedck_origin::{Hole, Origin, Result, Traced, Unit, Way, hole_name};
 use sedck_shell::{Pattern, ShellWord};
 use std::alloc::Global;
@@ -58,10 +58,9 @@ impl CallWord {
         let mut are_there = true;
         for index in 0..self.traced.bytes.len() {
             let end = index.saturating_add(text.len());
-            let is_there = self.traced.bytes.get(index..end) == Some(text);
-            if is_there && index >= resume && !text.is_empty() {
+            if index >= resume && self.traced.bytes.get(index..end) == Some(text) {
                 resume = end;
-                are_there = self.open_between(index, end) && are_there;
+                are_there &= self.open_between(index, end);
             }
         }
         are_there
@@ -147,13 +146,10 @@ impl Filler<'_> {
 
     /// Whether the units begin with the path of a process, as `<(..)` makes it.
     fn is_process(&self, units: &[Unit]) -> bool {
-        match units.first() {
-            Some(Unit::Hole(hole)) => {
-                let written = self.names.written_hole(*hole);
-                written.starts_with(b"<(") || written.starts_with(b">(")
-            }
-            _ => false,
-        }
+        units.first().and_then(hole_of).is_some_and(|hole| {
+            let written = self.names.written_hole(hole);
+            matches!(written, [b'<' | b'>', b'(', ..])
+        })
     }
 
     /// Units with the values that are known. A word of one unit alone vanishes if that is nothing and isn't quoted.
@@ -167,7 +163,7 @@ impl Filler<'_> {
                 Unit::Hole(hole) => match self.names.value_of(hole, self.point) {
                     Some(value) if self.fits(value, hole.way, is_alone) => {
                         self.follow(hole, value)?;
-                        add_value(&mut traced, value)?;
+                        add_value(&mut traced, value.units, value.is_given)?;
                     }
                     _ => add(&mut traced, b'x', Origin::Hole(hole))?,
                 },
@@ -181,21 +177,22 @@ impl Filler<'_> {
         let start = value.start();
         let is_near = start <= self.reach;
         self.reach = self.reach.saturating_sub(start);
-        let vanishes = way.is_split() && is_alone && value.len() == 0;
-        is_near && self.spend(value.len()) && !vanishes && value.is_kept(way)
+        let vanishes = way.is_split() && is_alone && value.units.is_empty();
+        is_near && self.spend(value.units.len()) && !vanishes && value.is_kept(way)
     }
 
     /// Whether the value of the hole is known and is no command: nothing, or what only tells make how to run the one after it.
-    pub fn is_nothing(&mut self, units: &[Unit]) -> Result<bool> {
-        let Some(hole) = lone_hole(units) else {
+    pub fn is_nothing(&mut self, hole: Hole) -> Result<bool> {
+        let Some(value) = self.names.value_of(hole, self.point) else {
             return Ok(false);
         };
-        let names = self.names;
-        let signs = if names.is_make() { "@-+ \t" } else { " \t" };
-        let Some(value) = names.value_of(hole, self.point) else {
-            return Ok(false);
+        let signs = if self.names.is_make() {
+            "@-+ \t"
+        } else {
+            " \t"
         };
-        let is_nothing = value.len() <= SIGNS && !value.has_other(signs.as_bytes());
+        let mut units = value.units.iter();
+        let is_nothing = value.units.len() <= SIGNS && units.all(|unit| has_any(&[*unit], signs));
         if is_nothing {
             self.follow(hole, value)?;
         }
@@ -219,14 +216,21 @@ impl Filler<'_> {
     /// The words of the value after its first one: options, if the value is the name of a sed with options. None where that isn't known.
     pub fn options(&mut self, hole: Hole) -> Result<Option<Vec<CallWord>>> {
         let alloc = self.names.alloc;
+        let mut options = Vec::new(alloc);
         if let Some(value) = self.names.value_of(hole, self.point) {
             if !hole.way.is_split() {
-                return Ok(Some(Vec::new(alloc)));
+                return Ok(Some(options));
             }
             self.follow(hole, value)?;
-            let fits = self.spend(value.len().saturating_mul(WORD));
-            if fits && value.is_kept(Way::MadeQuoted) && !value.has_any(SPECIAL) {
-                return Ok(Some(split_words(alloc, value, hole)?));
+            let fits = self.spend(value.units.len().saturating_mul(WORD));
+            if fits && value.is_kept(Way::MadeQuoted) && !has_any(value.units, SPECIAL) {
+                let words = value.units.split(is_blank).filter(|word| !word.is_empty());
+                for word in words.skip(1) {
+                    let mut traced = empty(alloc);
+                    add_value(&mut traced, word, value.is_given)?;
+                    options.push(CallWord::of(traced, hole))?;
+                }
+                return Ok(Some(options));
             }
         } else {
             let may_be_sed = |name: &[u8]| self.names.may_be_sed(name) && !is_sed_variable(name);
@@ -237,7 +241,6 @@ impl Filler<'_> {
         let mut traced = empty(alloc);
         let way = Way::Several;
         add(&mut traced, b'x', Origin::Hole(Hole { way, ..hole }))?;
-        let mut options = Vec::new(alloc);
         options.push(CallWord::of(traced, hole))?;
         Ok(Some(options))
     }
@@ -252,36 +255,17 @@ pub(crate) const STANDARD: &str = "- /dev/stdin";
 /// The most bytes that the words of a call have.
 pub(crate) const LONGEST: usize = 1_048_576;
 
+/// How many bytes a byte of options counts for, each of which may be a word.
+const WORD: usize = 4;
+
 /// Adds the bytes of a value.
-fn add_value(traced: &mut Traced, value: Value<'_>) -> Result<()> {
-    for index in 0..value.len() {
-        if let Some((byte, origin)) = value.get(index) {
-            add(traced, byte, origin)?;
+fn add_value(traced: &mut Traced, units: &[Unit], is_given: bool) -> Result<()> {
+    for unit in units {
+        match *unit {
+            Unit::Byte(byte, _) if is_given => add(traced, byte, Origin::Given)?,
+            Unit::Byte(byte, offset) => add(traced, byte, Origin::Value(offset))?,
+            _ => {}
         }
     }
     Ok(())
 }
-
-/// The words of the value after its first one.
-fn split_words(alloc: Global, value: Value<'_>, hole: Hole) -> Result<Vec<CallWord>> {
-    let mut words = Vec::new(alloc);
-    let mut traced = empty(alloc);
-    let mut is_name = true;
-    for index in 0..value.len().saturating_add(1) {
-        match value.get(index) {
-            Some((byte, origin)) if !BLANKS.contains(&byte) => add(&mut traced, byte, origin)?,
-            _ if traced.bytes.is_empty() => {}
-            _ => {
-                let traced = std::mem::replace(&mut traced, empty(alloc));
-                if !is_name {
-                    words.push(CallWord::of(traced, hole))?;
-                }
-                is_name = false;
-            }
-        }
-    }
-    Ok(words)
-}
-
-/// How many bytes a byte of options counts for, each of which may be a word.
-const WORD: usize = 4;
