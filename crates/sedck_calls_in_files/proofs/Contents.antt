@@ -1,5 +1,5 @@
 -- What two reads of a file gave, one after the other, and the status of what was read.
-use Rattle.std.proofs.Common.{◌≡◌, ◌∙◌, ◌+◌, ◌≤◌, ℕ, Bool, true, false, inl, inr, IsTrue, List, ◌++◌, length, Option, Some, None, Result, IfOk, IfSome, codes, sym, ap, subst, length-append, arith}
+use Rattle.std.proofs.Common.{◌≡◌, ◌∙◌, ◌+◌, ◌≤◌, ℕ, Bool, true, false, inl, inr, IsTrue, List, ◌++◌, length, Option, Some, None, Result, Ok, Err, IfOk, IfSome, codes, refl, sym, ap, subst, length-append, arith}
 use Rattle.std.proofs.lemmas.List.{length-take, take_all}
 use Rattle.std.proofs.lemmas.Bool.{true≢false}
 use Rattle.std.specs.Io.KnownBytes.{Consumes}
@@ -8,14 +8,12 @@ use Rattle.sedck_engines.specs.Inputs.{IsRead}
 use Rattle.sedck_engines.specs.Opened.{Known}
 use Rattle.sedck_errors.specs.declared.denied.Denied.{Denied}
 use Rattle.sedck_explanation.specs.Called.{known_bytes}
-use Rattle.sedck_explanation.specs.declared.parts.Unexplained.{Unexplained}
 use Rattle.sedck_answer.specs.declared.status.Status.{Status}
-use Rattle.sedck_explanation.proofs.Answering.{on_ok}
 use Rattle.sedck_explanation.proofs.KnownBytes.{file_bytes}
 use Rattle.sedck_calls_in_files.specs.Scanned.{Holds, TextStatus, PathStatus}
-use Rattle.sedck_calls_in_files.specs.Private.Contents.{IsContents, ContentsStatus, SourceStatus}
+use Rattle.sedck_calls_in_files.specs.Private.Contents.{IsContents, IsHeldAt, ContentsStatus}
 use Rattle.sedck_calls_in_files.specs.declared.reading.Contents.{Contents}
-use Rattle.sedck_calls_in_files.specs.declared.reading.Contents.TheVariants.{Text, Other, TooLong, Unreadable}
+use Rattle.sedck_calls_in_files.specs.declared.reading.Contents.TheVariants.{Text, Other, TooLong, Unopened, Unreadable}
 
 -- where it is no longer than what is read, all of it was read
 all_read : (left mid : Option (List ℕ)) (head rest : List ℕ) → Consumes left mid head → IsRead 16384 left head → IsRead 4177921 mid rest
@@ -38,33 +36,45 @@ text_read (Some bytes) mid head rest added text taken is_head is_rest is same wi
     let whole : text ≡ head ++ rest = is ∙ ap (λ r. head ++ r) same in
     whole ∙ all_read (Some bytes) mid head rest taken is_head is_rest (subst (λ t. length t ≤ 4194304) whole within)
 
--- the status of what was read of a source
-pub source_status : (left : Option (List ℕ)) (failed : Bool) (found : List ℕ → Option Holds) (denied : Denied) (c : Contents) (status : Status)
-    → IsContents true left failed c → ContentsStatus found denied c status → SourceStatus left failed found denied status
-source_status None failed found denied (Text kind text) status is has = inr (inr tt)
-source_status (Some bytes) failed found denied (Text kind text) status is has =
-    inr (inr (subst (λ t. TextStatus (found t) denied t status) is has))
-source_status left failed found denied Other status is has = absurd (true≢false is)
-source_status left failed found denied TooLong status is has = inl has
-source_status left failed found denied Unreadable status is has = inl has
+-- what is held at a path: nothing is known of standard input
+pub held_input : (k : Known) (path : List ℕ) (left : Option (List ℕ)) (failed : Bool) (c : Contents) → bytes_eq path (codes "-") ≡ true
+    → IsContents true left failed c → IsHeldAt k path c
+held_input k path left failed (Text kind text) is held = rw is tt
+held_input k path left failed Other is held = absurd (true≢false held)
+held_input k path left failed TooLong is held = tt
+held_input k path left failed Unopened is held = absurd held
+held_input k path left failed Unreadable is held = inr (rw is refl)
 
--- the same at a path: of an open file what is known of its path
-path_status : (k : Known) (left : Option (List ℕ)) (failed : Bool) (found : List ℕ → List ℕ → Option Holds) (denied : Denied)
-    (path : List ℕ) (status : Status) → IfSome (known_bytes k path) (λ bytes. left ≡ Some bytes) → (IsTrue failed → k.may_fail)
-    → SourceStatus left failed (found path) denied status → PathStatus k found denied path status
-path_status k left failed found denied path status same fails (inl is) = inl is
-path_status k left failed found denied path status same fails (inr (inl is)) = inr (inl (fails is))
-path_status k left failed found denied path status same fails (inr (inr has)) = inr (inr (of_known (known_bytes k path) left same has))
+-- and of an open file what is known of its path
+pub held_file : (k : Known) (path : List ℕ) (left : Option (List ℕ)) (failed : Bool) (c : Contents) → bytes_eq path (codes "-") ≡ false
+    → IfSome (k.bytes_at path) (λ bytes. left ≡ Some bytes) → (IsTrue failed → k.may_fail) → IsContents true left failed c → IsHeldAt k path c
+held_file k path left failed (Text kind text) is same fails held = of_known (known_bytes k path) left (file_bytes k path left is same) held
   where
-    of_known : (known left : Option (List ℕ)) → IfSome known (λ bytes. left ≡ Some bytes) → IfSome left (λ bytes. TextStatus (found path bytes) denied bytes status)
-        → IfSome known (λ bytes. TextStatus (found path bytes) denied bytes status)
-    of_known None left same has = tt
-    of_known (Some bytes) left same has = subst (λ l. IfSome l (λ bytes. TextStatus (found path bytes) denied bytes status)) same has
+    of_known : (known left : Option (List ℕ)) → IfSome known (λ bytes. left ≡ Some bytes) → IfSome left (λ bytes. text.items ≡ bytes)
+        → IfSome known (λ bytes. text.items ≡ bytes)
+    of_known None left same held = tt
+    of_known (Some bytes) left same held = subst (λ l. IfSome l (λ bytes. text.items ≡ bytes)) same held
+held_file k path left failed Other is same fails held = absurd (true≢false held)
+held_file k path left failed TooLong is same fails held = tt
+held_file k path left failed Unopened is same fails held = absurd held
+held_file k path left failed Unreadable is same fails held = inl (fails held)
 
-pub open_status : (k : Known) (left : Option (List ℕ)) (failed : Bool) (found : List ℕ → List ℕ → Option Holds) (denied : Denied)
-    (path : List ℕ) (is_input : Bool) (r : Result Status Unexplained) → is_input ≡ bytes_eq path (codes "-") → is_input ≡ false
-    → IfSome (k.bytes_at path) (λ bytes. left ≡ Some bytes) → (IsTrue failed → k.may_fail) → IfOk r (SourceStatus left failed (found path) denied)
-    → IfOk r (PathStatus k found denied path)
-open_status k left failed found denied path is_input r is other same fails has =
-    on_ok (SourceStatus left failed (found path) denied) (PathStatus k found denied path) r
-    (λ status one. path_status k left failed found denied path status (file_bytes k path left (sym is ∙ other) same) fails one) has
+-- the status of what is at a path
+pub held_status : (k : Known) (found : List ℕ → List ℕ → Option Holds) (denied : Denied) (path : List ℕ) (c : Contents) (status : Status)
+    → IsHeldAt k path c → ContentsStatus (found path) denied c status → PathStatus k found denied path status
+held_status k found denied path (Text kind text) status held has = inr (inr (of_known (known_bytes k path) held))
+  where
+    of_known : (known : Option (List ℕ)) → IfSome known (λ bytes. text.items ≡ bytes) → IfSome known (λ bytes. TextStatus (found path bytes) denied bytes status)
+    of_known None held = tt
+    of_known (Some bytes) held = subst (λ text. TextStatus (found path text) denied text status) held has
+held_status k found denied path Other status held has = absurd held
+held_status k found denied path TooLong status held has = inl has
+held_status k found denied path Unopened status held has = inl has
+held_status k found denied path Unreadable status held has = inl has
+
+-- of a folder it may be any
+pub folder_status : {E : Type 0} (k : Known) (found : List ℕ → List ℕ → Option Holds) (denied : Denied) (path : List ℕ) (r : Result Status E)
+    → IsHeldAt k path Unreadable → IfOk r (PathStatus k found denied path)
+folder_status k found denied path (Ok status) (inl fails) = inr (inl fails)
+folder_status k found denied path (Ok status) (inr none) = inr (inr (rw none tt))
+folder_status k found denied path (Err why) held = tt

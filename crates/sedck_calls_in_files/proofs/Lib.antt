@@ -1,5 +1,6 @@
 mod Lists
 mod Yes
 mod Said
+mod Delivered
 pub mod Worst
 mod Contents

@@ -8,6 +8,7 @@
 mod answers;
 mod assumed;
 mod conditions;
+mod delivery;
 mod errors;
 mod file;
 mod finder;
@@ -21,6 +22,7 @@ mod request;
 mod tracing;
 mod walk;
 
+pub use delivery::{Named, Reporter, deliver};
 pub use errors::{NOT_UTF_8, Unread, end, ended, out_of_memory, unwritten, why_unread};
 pub use file::{explain_calls, explain_text};
 pub use finder::{AsTheShell, Finder};

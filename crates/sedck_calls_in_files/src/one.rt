@@ -1,28 +1,24 @@
 //! One call of sed in a file, whose script is written in its plain spelling.
 
-ghost use Rattle.std.specs.Prelude.{◌≡◌, ◌≢◌, Contains, IfOk, IfSome};
-ghost use Rattle.std.specs.Io.KnownBytes.{Keeps, Appends};
-ghost use Rattle.sedck_explanation.specs.Called.{known_bytes};
-ghost use Rattle.sedck_answer.specs.declared.explanation.Explanation.{Explanation};
-ghost use Rattle.sedck_formats.specs.Plain.{IsPlainReport};
-ghost use Rattle.sedck_calls_in_files.specs.Judged.{IsSaidOfFound};
+ghost use Rattle.std.specs.Prelude.{◌≡◌, ◌≢◌, Contains, None, IfSome};
+ghost use Rattle.std.specs.Io.KnownBytes.{Keeps};
 ghost use Rattle.sedck_calls_in_files.specs.Scanned.{SpellsOne};
-ghost use Rattle.sedck_calls_in_files.specs.Private.Contents.{IsTextOf};
 ghost use Rattle.sedck_calls_in_files.specs.Private.Spelling.{SpellsCall, SpellsIn};
 
 use crate::answers::call_report;
+use crate::delivery::{Named, Reporter, deliver};
 use crate::errors::{Unread, end, out_of_memory, unwritten, why_unread};
 use crate::file::call_position;
 use crate::finder::Finder;
 use crate::judging::explain_found;
-use crate::reading::{Contents, contents_of};
+use crate::reading::Contents;
 use crate::request::{File, FileScan};
-use crate::walk::{TOO_LONG, Walk};
-use sedck_cert::streams::{FromRead, Sink, write_all};
-use sedck_engines::Opener;
-use sedck_explanation::{Position, Status, position_at};
+use crate::walk::{TOO_LONG, Walk, contents_at};
+use sedck_cert::streams::Sink;
+use sedck_engines::{Opener, RunFault};
+use sedck_explanation::{Explanation, Position, Status, position_at};
 use sedck_find::FoundCall;
-use sedck_formats::{Names, plain_report, shown_path};
+use sedck_formats::PartName;
 use sedck_plain::Comments;
 use std::alloc::{AllocError, Global};
 use std::io::Input;
@@ -58,7 +54,7 @@ pub fn spell_call<R: Input + AllocGlobal, O: Opener, F: Finder, W: Sink, E: Sink
     let Ok(contents) = contents_at(walk, path) else {
         return out_of_memory(err);
     };
-    match &contents {
+    let reason = match &contents {
         Contents::Text(kind, text) => {
             let asked = FileScan {
                 alloc,
@@ -69,44 +65,12 @@ pub fn spell_call<R: Input + AllocGlobal, O: Opener, F: Finder, W: Sink, E: Sink
                     text,
                 },
             };
-            spell_in(&asked, walk.finder, at, out, err)
+            return spell_in(&asked, walk.finder, at, out, err);
         }
-        Contents::TooLong => unread(path, TOO_LONG, err),
-        Contents::Other | Contents::Unreadable => {
-            unread(path, why_unread(walk.files, path), err)
-        }
-    }
-}
-
-/// Reports that the file can't be read, and why.
-fn unread<E: Sink>(name: &str, reason: Option<&'static str>, err: &mut E) -> Status
-    ensures { result ≡ Status.Failed }
-{
-    Unread { name, reason }.end(err)
-}
-
-/// What the file at the path holds, which is given.
-fn contents_at<R: Input + AllocGlobal, O: Opener, F>(
-    walk: &Walk<R, O, F>,
-    path: &str,
-) -> Result<Contents, AllocError>
-    ensures { IfOk result (IsTextOf (known_bytes (O.known walk.now.files.now) path.now)) }
-{
-    let alloc = walk.rt.alloc();
-    let kind = walk.scan.kind;
-    if path == "-" {
-        return contents_of(
-            alloc,
-            path,
-            kind,
-            true,
-            &mut FromRead::new(walk.rt.reader()),
-        );
-    }
-    match walk.files.open(path) {
-        Ok(mut file) => contents_of(alloc, path, kind, true, &mut file),
-        Err(_) => Ok(Contents::Unreadable),
-    }
+        Contents::TooLong => TOO_LONG,
+        _ => why_unread(walk.files, path),
+    };
+    Unread { name: path, reason }.end(err)
 }
 
 /// The same for the file with this text.
@@ -166,51 +130,55 @@ fn spell_one<W: Sink, E: Sink>(
     out: &mut W,
     err: &mut E,
 ) -> Status
-    ensures known { result ≢ Status.Misused }
     ensures spelled { result ≢ Status.Failed
         → SpellsCall asked.now.scan.now.denied asked.now.file.text.now call.now
         (record { before = W.taken out.old; after = W.taken out.new }) result }
+    ensures refused { result ≡ Status.Misused → Keeps (W.taken out.old) (W.taken out.new) }
     ensures silent { result ≡ Status.Accepted → Keeps (E.taken err.old) (E.taken err.new) }
 {
-    match report_of(asked, call) {
-        Ok((report, status)) => sent(&report, status, out, err),
+    let FileScan { alloc, scan, file } = asked;
+    let position = position_at(file.text, call.start);
+    let Ok(explanation) = explain_found(*alloc, file.text, position, call, scan.denied) else {
+        return out_of_memory(err);
+    };
+    let reporter = OneCall {
+        asked,
+        position,
+        call,
+    };
+    let named = Named {
+        alloc: *alloc,
+        reporter: &reporter,
+        name: file.path,
+        parts: &[],
+        plain: Some(Comments::LeftOut),
+    };
+    match deliver(&named, &explanation, out, err) {
+        Ok(status) => status,
+        Err(RunFault::Write) => unwritten(err),
         Err(_) => out_of_memory(err),
     }
 }
 
-/// What is written of the call, and the exit status.
-fn report_of(asked: &FileScan, call: &FoundCall) -> Result<(Vec<u8>, Status), AllocError>
-    ensures { IfOk result (λ made. (e : Explanation)
-        × IsSaidOfFound asked.now.file.text.now asked.now.scan.now.denied call.now e
-        × IsPlainReport e made.0.items made.1) }
-{
-    let alloc = asked.alloc;
-    let text = asked.file.text;
-    let position = position_at(text, call.start);
-    let explanation = explain_found(alloc, text, position, call, asked.scan.denied)?;
-    let report = call_report(asked, position, call, &explanation)?;
-    let shown = shown_path(alloc, asked.file.path)?;
-    let names = Names::of_file(shown.as_str());
-    plain_report(alloc, names, &explanation, Comments::LeftOut, report)
+/// A call of a file.
+#[derive(Clone, Copy)]
+struct OneCall<'a> {
+    asked: &'a FileScan<'a>,
+    position: Position,
+    call: &'a FoundCall,
 }
 
-/// Writes what is to be written with this status, and answers the exit status.
-fn sent<W: Sink, E: Sink>(report: &[u8], status: Status, out: &mut W, err: &mut E) -> Status
-    ensures known { result ≢ Status.Misused }
-    ensures same { result ≢ Status.Failed → result ≡ status }
-    ensures written { result ≡ Status.Accepted → Appends (W.taken out.old) (W.taken out.new) report.now }
-    ensures kept { result ≢ Status.Failed → result ≢ Status.Accepted → Keeps (W.taken out.old) (W.taken out.new) }
-    ensures silent { result ≡ Status.Accepted → Keeps (E.taken err.old) (E.taken err.new) }
-{
-    match status {
-        Status::Accepted => match write_all(out, report) {
-            Ok(()) => Status::Accepted,
-            Err(_) => unwritten(err),
-        },
-        Status::Misused => end(err, report, Status::Failed),
-        _ => {
-            let _ = write_all(err, report);
-            status
-        }
+impl Reporter for OneCall<'_> {
+    // What is said of a call in a file isn't known word by word.
+    ghost reported = { λ _ _ _. None };
+
+    fn report(
+        &self,
+        _alloc: Global,
+        _name: &str,
+        _parts: &[PartName],
+        explanation: &Explanation,
+    ) -> Result<Vec<u8>, AllocError> {
+        call_report(self.asked, self.position, self.call, explanation)
     }
 }

@@ -22,6 +22,7 @@ pub(crate) enum Contents {
     /// What calls aren't looked for in.
     Other,
     TooLong,
+    Unopened,
     Unreadable,
 }
 

@@ -3,7 +3,7 @@
 ghost use Rattle.std.specs.Prelude.{◌≡◌, ◌≢◌, map, IfOk};
 ghost use Rattle.std.specs.Io.KnownBytes.{Keeps};
 ghost use Rattle.sedck_calls_in_files.specs.Scanned.{PathStatus, IsWorstOf};
-ghost use Rattle.sedck_calls_in_files.specs.Private.Contents.{ContentsStatus, SourceStatus};
+ghost use Rattle.sedck_calls_in_files.specs.Private.Contents.{ContentsStatus, IsHeldAt};
 
 use crate::answers::{path_report, write_report};
 use crate::assumed::assumed_texts;
@@ -12,8 +12,8 @@ use crate::file::explain_text;
 use crate::finder::Finder;
 use crate::reading::{Contents, contents_of};
 use crate::request::{File, FileScan, Look, Scan};
-use sedck_cert::streams::{Failed, FromRead, Sink, Source, write_all};
-use sedck_engines::{Input as InputOf, Opener, read_up_to};
+use sedck_cert::streams::{Failed, FromRead, Sink, write_all};
+use sedck_engines::{Opener, read_script};
 use sedck_explanation::{Status, Unexplained, explain};
 use sedck_formats::{Counts, assumed_line, json_counts, json_unreadable};
 use std::alloc::{AllocError, Global};
@@ -21,21 +21,19 @@ use std::fs;
 use std::fs::Files;
 use std::io::{Error, ErrorKind, Input};
 
-/// The most bytes of a script that are read: one more than scripts may have.
-const LONGEST_SCRIPT: usize = 1_048_577;
-
 /// Why a file that is too long can't be read.
 pub(crate) const TOO_LONG: Option<&'static str> = Some("it has more than 4,194,304 bytes");
 
 /// Folders of version control, which aren't walked.
 static HIDDEN: [&'static str; 5] = [".git", ".hg", ".svn", ".bzr", "_darcs"];
 
-/// What is known so far.
+/// What is known so far, and where the reports go.
 #[derive(Drop)]
-struct Pass {
+struct Pass<'a, W> {
     counts: Counts,
     /// What can't be read, and why.
     unread: Vec<String>,
+    out: &'a mut W,
 }
 
 /// What the files and folders are visited with.
@@ -69,8 +67,9 @@ pub fn scan_files<
     let mut pass = Pass {
         counts: Counts::NONE,
         unread: Vec::new(walk.rt.alloc()),
+        out,
     };
-    match walk.visit_all(&mut pass, out) {
+    match walk.visit_all(&mut pass) {
         Ok(status) if pass.unread.is_empty() => status_of(status),
         Ok(_) => {
             let _ = write_unread(err, &pass.unread);
@@ -93,53 +92,29 @@ fn status_of(status: Status) -> Status
 
 impl<R: Files + Input + AllocGlobal + Clone + Drop, O: Opener, F: Finder> Walk<'_, '_, R, O, F> {
     /// Visits all that is given, and writes how many calls there are. Answers the status that tells most.
-    fn visit_all<W: Sink>(&self, pass: &mut Pass, out: &mut W) -> Result<Status, Unexplained>
+    fn visit_all<W: Sink>(&self, pass: &mut Pass<W>) -> Result<Status, Unexplained>
         ensures { IfOk result (IsWorstOf (PathStatus (O.known self.now.files.now) (F.found self.now.finder.now) self.now.scan.now.denied) Status.Accepted
             (map (λ path. path.now) self.now.scan.now.paths.now)) }
     {
         let mut status = Status::Accepted;
         for path in self.scan.paths {
-            let one = self.visit_path(path, pass, out)?;
+            let one = self.visit_path(path, pass)?;
             status = status.worse(one);
         }
-        write_counts(self.rt.alloc(), self.scan, pass.counts, status, out)?;
+        write_counts(self.rt.alloc(), self.scan, pass.counts, status, pass.out)?;
         Ok(status)
     }
 
     /// Visits a file that is given, or a folder with all that is below it: the status that tells most, `Failed` where something
     /// can't be read. The path `-` is standard input.
-    fn visit_path<W: Sink>(
-        &self,
-        path: &str,
-        pass: &mut Pass,
-        out: &mut W,
-    ) -> Result<Status, Unexplained>
+    fn visit_path<W: Sink>(&self, path: &str, pass: &mut Pass<W>) -> Result<Status, Unexplained>
         ensures { IfOk result (PathStatus (O.known self.now.files.now) (F.found self.now.finder.now) self.now.scan.now.denied path.now) }
     {
-        if path == "-" {
-            return self.visit_source(path, &mut FromRead::new(self.rt.reader()), pass, out);
-        }
-        match self.files.open(path) {
-            Ok(mut file) => self.visit_source(path, &mut file, pass, out),
-            Err(_) => self.skip(path, pass, out),
-        }
-    }
-
-    /// Visits what is open at a path that is given: a file, or a folder, of which nothing can be read.
-    fn visit_source<S: Source, W: Sink>(
-        &self,
-        path: &str,
-        source: &mut S,
-        pass: &mut Pass,
-        out: &mut W,
-    ) -> Result<Status, Unexplained>
-        ensures { IfOk result (SourceStatus (S.left source.old) (S.has_failed source.new) (F.found self.now.finder.now path.now) self.now.scan.now.denied) }
-    {
-        let contents = contents_of(self.rt.alloc(), path, self.scan.kind, true, source)?;
+        let contents = contents_at(self, path)?;
         if matches!(&contents, Contents::Unreadable) && path != "-" && self.is_folder(path) {
-            return self.visit_folder(path, pass, out);
+            return self.visit_folder(path, pass);
         }
-        self.explain(path, &contents, pass, out)
+        self.explain(path, &contents, pass)
     }
 
     /// Explains the calls of a file that holds this.
@@ -147,8 +122,7 @@ impl<R: Files + Input + AllocGlobal + Clone + Drop, O: Opener, F: Finder> Walk<'
         &self,
         path: &str,
         contents: &Contents,
-        pass: &mut Pass,
-        out: &mut W,
+        pass: &mut Pass<W>,
     ) -> Result<Status, Unexplained>
         ensures { IfOk result (ContentsStatus (F.found self.now.finder.now path.now) self.now.scan.now.denied contents.now) }
     {
@@ -163,11 +137,11 @@ impl<R: Files + Input + AllocGlobal + Clone + Drop, O: Opener, F: Finder> Walk<'
                         text,
                     },
                 };
-                explain_text(&asked, self.finder, &mut pass.counts, out)
+                explain_text(&asked, self.finder, &mut pass.counts, pass.out)
             }
             Contents::Other => Ok(Status::Accepted),
-            Contents::TooLong => self.report_unread(path, TOO_LONG, pass, out),
-            Contents::Unreadable => self.skip(path, pass, out),
+            Contents::TooLong => self.report_unread(path, TOO_LONG, pass),
+            Contents::Unopened | Contents::Unreadable => self.skip(path, pass),
         }
     }
 
@@ -183,16 +157,15 @@ impl<R: Files + Input + AllocGlobal + Clone + Drop, O: Opener, F: Finder> Walk<'
     fn visit_folder<W: Sink>(
         &self,
         folder: &str,
-        pass: &mut Pass,
-        out: &mut W,
+        pass: &mut Pass<W>,
     ) -> Result<Status, Unexplained> {
         let mut pending = Vec::new(self.rt.alloc());
-        let mut status = self.enter(folder, &mut pending, pass, out)?;
+        let mut status = self.enter(folder, &mut pending, pass)?;
         for _ in 0..u64::MAX {
             let Some(next) = pending.pop() else {
                 break;
             };
-            let one = self.visit_entry(next.as_str(), &mut pending, pass, out)?;
+            let one = self.visit_entry(next.as_str(), &mut pending, pass)?;
             status = status.worse(one);
         }
         Ok(status)
@@ -203,76 +176,47 @@ impl<R: Files + Input + AllocGlobal + Clone + Drop, O: Opener, F: Finder> Walk<'
         &self,
         path: &str,
         pending: &mut Vec<String>,
-        pass: &mut Pass,
-        out: &mut W,
+        pass: &mut Pass<W>,
     ) -> Result<Status, Unexplained> {
         let Ok(metadata) = fs::symlink_metadata(self.rt, path) else {
-            return self.skip(path, pass, out);
+            return self.skip(path, pass);
         };
         if metadata.is_dir() {
-            return self.enter(path, pending, pass, out);
+            return self.enter(path, pending, pass);
         }
         if !metadata.is_file() {
             return Ok(Status::Accepted);
         }
         let Ok(mut file) = self.files.open(path) else {
-            return self.skip(path, pass, out);
+            return self.skip(path, pass);
         };
-        if path.ends_with(".sed") {
-            return self.visit_script(path, &mut file, pass, out);
-        }
-        let contents = contents_of(self.rt.alloc(), path, None, false, &mut file)?;
-        self.explain(path, &contents, pass, out)
-    }
-
-    /// Visits a file below a folder that has the name of a script. One whose first line names a shell or make has calls.
-    fn visit_script<S: Source, W: Sink>(
-        &self,
-        path: &str,
-        source: &mut S,
-        pass: &mut Pass,
-        out: &mut W,
-    ) -> Result<Status, Unexplained> {
-        match contents_of(self.rt.alloc(), "", None, false, source)? {
-            Contents::Other => match self.files.open(path) {
-                Ok(mut file) => self.explain_script(path, &mut file, pass, out),
-                Err(_) => self.skip(path, pass, out),
-            },
-            contents => self.explain(path, &contents, pass, out),
+        // A file with the name of a script has calls only where its first line names a shell or make.
+        let is_script = path.ends_with(".sed");
+        let named = if is_script { "" } else { path };
+        match contents_of(self.rt.alloc(), named, None, false, &mut file)? {
+            Contents::Other if is_script => self.explain_script(path, pass),
+            contents => self.explain(path, &contents, pass),
         }
     }
 
-    /// Explains a script below a folder.
-    fn explain_script<S: Source, W: Sink>(
+    /// Explains the script at the path, which is below a folder.
+    fn explain_script<W: Sink>(
         &self,
         path: &str,
-        source: &mut S,
-        pass: &mut Pass,
-        out: &mut W,
-    ) -> Result<Status, Unexplained> {
-        match read_up_to(self.rt.alloc(), source, LONGEST_SCRIPT, InputOf::Script) {
-            Ok(text) => self.explain_whole(path, &text, pass, out),
-            Err(_) => self.skip(path, pass, out),
-        }
-    }
-
-    /// Explains the script at the path, which has this text.
-    fn explain_whole<W: Sink>(
-        &self,
-        path: &str,
-        text: &[u8],
-        pass: &mut Pass,
-        out: &mut W,
+        pass: &mut Pass<W>,
     ) -> Result<Status, Unexplained> {
         let alloc = self.rt.alloc();
-        let explanation = explain(alloc, Some(path.as_bytes()), text, None, self.scan.denied)?;
+        let Ok(mut file) = self.files.open(path) else {
+            return self.skip(path, pass);
+        };
+        let Ok(text) = read_script(alloc, &mut file) else {
+            return self.skip(path, pass);
+        };
+        let explanation = explain(alloc, Some(path.as_bytes()), &text, None, self.scan.denied)?;
         pass.counts.scripts = pass.counts.scripts.saturating_add(1);
-        let status = explanation.status;
-        write_report(
-            out,
-            path_report(alloc, self.scan, path, &explanation, false),
-        )?;
-        Ok(status)
+        let report = path_report(alloc, self.scan, path, &explanation, false);
+        write_report(pass.out, report)?;
+        Ok(explanation.status)
     }
 
     /// Adds the entries of the folder to what is pending, unless not all of their names can be read.
@@ -280,32 +224,31 @@ impl<R: Files + Input + AllocGlobal + Clone + Drop, O: Opener, F: Finder> Walk<'
         &self,
         folder: &str,
         pending: &mut Vec<String>,
-        pass: &mut Pass,
-        out: &mut W,
+        pass: &mut Pass<W>,
     ) -> Result<Status, Unexplained> {
         if add_entries(self.rt, folder, pending)? {
             return Ok(Status::Accepted);
         }
-        self.skip(folder, pass, out)
+        self.skip(folder, pass)
     }
 
     /// Keeps that the file or folder can't be read.
-    fn skip<W: Sink>(&self, path: &str, pass: &mut Pass, out: &mut W) -> Result<Status, Unexplained>
+    fn skip<W: Sink>(&self, path: &str, pass: &mut Pass<W>) -> Result<Status, Unexplained>
         ensures { IfOk result (λ status. status ≡ Status.Failed) }
     {
         let reason = match why_unread(self.files, path) {
             Some("it is a directory") => Some("not all of its names can be read"),
             other => other,
         };
-        self.report_unread(path, reason, pass, out)
+        self.report_unread(path, reason, pass)
     }
+
     /// Keeps that a file can't be read, and reports it where each has an object.
     fn report_unread<W: Sink>(
         &self,
         path: &str,
         reason: Option<&'static str>,
-        pass: &mut Pass,
-        out: &mut W,
+        pass: &mut Pass<W>,
     ) -> Result<Status, Unexplained>
         ensures { IfOk result (λ status. status ≡ Status.Failed) }
     {
@@ -313,10 +256,31 @@ impl<R: Files + Input + AllocGlobal + Clone + Drop, O: Opener, F: Finder> Walk<'
         let message = Unread { name: path, reason }.words(alloc)?;
         pass.counts.unreadable = pass.counts.unreadable.saturating_add(1);
         if self.scan.look == Look::Json {
-            write_report(out, json_unreadable(alloc, path, message.as_str()))?;
+            write_report(pass.out, json_unreadable(alloc, path, message.as_str()))?;
         }
-        keep(&mut pass.unread, message)?;
+        if pass.unread.push(message).is_err() {
+            return Err(Unexplained::OutOfMemory);
+        }
         Ok(Status::Failed)
+    }
+}
+
+/// What the file at the path holds, which is given; `-` is standard input.
+pub(crate) fn contents_at<R: Input + AllocGlobal, O: Opener, F>(
+    walk: &Walk<R, O, F>,
+    path: &str,
+) -> Result<Contents, AllocError>
+    ensures { IfOk result (IsHeldAt (O.known walk.now.files.now) path.now) }
+{
+    let alloc = walk.rt.alloc();
+    let kind = walk.scan.kind;
+    if path == "-" {
+        let mut input = FromRead::new(walk.rt.reader());
+        return contents_of(alloc, path, kind, true, &mut input);
+    }
+    match walk.files.open(path) {
+        Ok(mut file) => contents_of(alloc, path, kind, true, &mut file),
+        Err(_) => Ok(Contents::Unopened),
     }
 }
 
@@ -383,11 +347,6 @@ fn joined(alloc: Global, folder: &str, name: &str) -> Result<String, AllocError>
         return format!(in alloc; "{folder}{name}");
     }
     format!(in alloc; "{folder}/{name}")
-}
-
-/// Keeps the words.
-fn keep(unread: &mut Vec<String>, words: String) -> Result<(), AllocError> {
-    Ok(unread.push(words)?)
 }
 
 /// Writes a line for each that can't be read.

@@ -11,12 +11,12 @@ use Rattle.sedck_calls_in_files.specs.Scanned.{Holds, IsWorstOf}
 use Rattle.sedck_explain_cli.specs.CallStatus.{HasCallStatus}
 use Rattle.sedck_explain_cli.specs.Readings.{texts_of}
 use Rattle.sedck_explain_cli.specs.Requests.{scripts_of, is_plain, IsRequest}
-use Rattle.sedck_explain_cli.specs.Spelled.{IsIn, SpellsScript, SpellsFound, SpellsCall}
+use Rattle.sedck_explain_cli.specs.Spelled.{IsIn, IsPlainly, SpellsScript, SpellsFound, SpellsCall}
 use Rattle.sedck_explain_cli.proofs.Spelled.{found_status}
 use Rattle.sedck_explain_cli.specs.declared.request.Request.{Request}
 use Rattle.sedck_explain_cli.specs.declared.words.Words.{Words}
 use Rattle.sedck_explain_cli.specs.Statuses.{StatusAt}
-use Rattle.sedck_explain_cli.specs.Answers.{call_of, asks_for_help, IsStatusOfCall, HasStatusFor, IsAnswered, SpellsGiven, SpellsFor, IsWritten}
+use Rattle.sedck_explain_cli.specs.Answers.{call_of, asks_for_help, HasStatusFor, IsAnswered, SpellsGiven, SpellsFor, IsWritten}
 
 -- ---- By what is asked for
 
@@ -31,9 +31,15 @@ pub plain_found : (k : Known) (found : List ℕ → List ℕ → Option Holds) (
 plain_found k found request call out status plain calls has =
     let one = found_status k found request.denied (scripts_of request) out status has in rw (plain, calls) one
 
-pub given_status : (plain : Bool) (k : Known) (denied : Denied) (call : Option (List (List ℕ))) (words : List (List ℕ)) (status : Status) → call ≡ Some words
-    → IsIn plain (HasCallStatus k denied words) status → IsIn plain (IsStatusOfCall k denied call) status
-given_status plain k denied call words status is has = rw is has
+pub plain_scripts : (k : Known) (found : List ℕ → List ℕ → Option Holds) (request : Request) (call : Option (List (List ℕ))) (status : Status)
+    → is_plain request.format ≡ true → request.calls ≡ false → request.sed ≡ false
+    → IsPlainly (IsWorstOf (StatusAt k request) Accepted (scripts_of request)) status → HasStatusFor k found request call status
+plain_scripts k found request call status plain calls sed has = rw (plain, calls, sed) has
+
+pub call_status : (k : Known) (found : List ℕ → List ℕ → Option Holds) (request : Request) (call : Option (List (List ℕ))) (words : List (List ℕ))
+    (status : Status) → request.calls ≡ false → request.sed ≡ true → call ≡ Some words
+    → IsIn (is_plain request.format) (HasCallStatus k request.denied words) status → HasStatusFor k found request call status
+call_status k found request call words status calls sed is has = rw (calls, sed, is) has
 
 -- ---- What is written
 
@@ -41,9 +47,10 @@ pub found_spelled : (k : Known) (found : List ℕ → List ℕ → Option Holds)
     → request.calls ≡ true → SpellsFound k found request.denied (scripts_of request) out status → SpellsFor k found request call out status
 found_spelled k found request call out status calls spells = rw calls spells
 
-pub call_spelled : (k : Known) (found : List ℕ → List ℕ → Option Holds) (request : Request) (call : Option (List (List ℕ))) (out : Output) (status : Status)
-    → request.calls ≡ false → request.sed ≡ true → SpellsGiven k request.denied call out status → SpellsFor k found request call out status
-call_spelled k found request call out status calls sed spells = rw (calls, sed) spells
+pub call_spelled : (k : Known) (found : List ℕ → List ℕ → Option Holds) (request : Request) (call : Option (List (List ℕ))) (words : List (List ℕ))
+    (out : Output) (status : Status) → request.calls ≡ false → request.sed ≡ true → call ≡ Some words → SpellsCall k request.denied words out status
+    → SpellsFor k found request call out status
+call_spelled k found request call words out status calls sed is spells = rw (calls, sed, is) spells
 
 -- the last of three, where neither of the others is chosen
 last_of : (A B C : Type 0) (first second : Bool) → first ≡ false → second ≡ false → C → MatchBool first A (MatchBool second B C)
@@ -54,10 +61,6 @@ pub script_spelled : (k : Known) (found : List ℕ → List ℕ → Option Holds
 script_spelled k found request call out status calls sed spells =
     last_of (SpellsFound k found request.denied (scripts_of request) out status) (SpellsGiven k request.denied call out status)
     (SpellsScript k request (scripts_of request) out status) request.calls request.sed calls sed spells
-
-pub given_spelled : (k : Known) (denied : Denied) (call : Option (List (List ℕ))) (words : List (List ℕ)) (out : Output) (status : Status) → call ≡ Some words
-    → SpellsCall k denied words out status → SpellsGiven k denied call out status
-given_spelled k denied call words out status is spells = rw is spells
 
 -- ---- By the words
 

@@ -1,6 +1,6 @@
-mod Writing
 mod CallStatuses
 mod Readings
 mod Greatest
+mod Reasons
 mod Spelled
 mod Answered

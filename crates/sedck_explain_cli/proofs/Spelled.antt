@@ -1,7 +1,6 @@
--- From what is written in the format `sed` to what is promised of it.
-use Rattle.std.proofs.Common.{◌≡◌, ◌∙◌, ℕ, Bool, true, false, List, [], ◌∷◌, Option, Result, Ok, Err, IfOk, IfSome, inl, inr, refl, sym, subst}
-use Rattle.std.specs.Prelude.{◌⊎◌}
-use Rattle.std.specs.Io.KnownBytes.{Keeps as KeepsBytes}
+-- From what is written to what is promised of it.
+use Rattle.std.proofs.Common.{◌≡◌, ◌∙◌, ℕ, Bool, true, false, List, [], ◌∷◌, Option, None, Result, IfOk, IfSome, inl, inr, refl, sym, subst}
+use Rattle.std.proofs.lemmas.Bool.{false≢true}
 use Rattle.sedck_report.specs.declared.finding.Finding.{Finding}
 use Rattle.sedck_errors.specs.declared.denied.Denied.{Denied}
 use Rattle.sedck_engines.specs.Inputs.{IsRead}
@@ -20,21 +19,45 @@ use Rattle.sedck_answer.specs.declared.explanation.Explanation.{Explanation}
 use Rattle.sedck_answer.specs.declared.status.Status.TheVariants as exit
 use Rattle.sedck_plain.specs.WrittenLists.{HaveSameLists}
 use Rattle.sedck_formats.specs.Plain.{Output, IsPlainStatus, IsPlainOutput, Writes}
+use Rattle.sedck_calls_in_files.specs.Delivered.{IsDelivered}
 use Rattle.sedck_calls_in_files.specs.Scanned.{Holds, IsWorstOf}
+use Rattle.sedck_call.specs.Scripts.{joined_texts}
 use Rattle.sedck_explain_cli.specs.Answers.{HasOneStatus}
+use Rattle.sedck_explain_cli.specs.CallStatus.{HasCallStatus}
+use Rattle.sedck_explain_cli.specs.Explained.{IsExplained}
+use Rattle.sedck_explain_cli.specs.Private.Said.{IsExplainedAt, IsSaid}
 use Rattle.sedck_explain_cli.specs.Requests.{certificate_of}
 use Rattle.sedck_explain_cli.specs.Statuses.{IsGiven, StatusAt}
 use Rattle.sedck_explain_cli.specs.declared.request.Request.{Request}
 use Rattle.sedck_explain_cli.proofs.Greatest.{yes_gives_way}
-use Rattle.sedck_explain_cli.specs.Private.Shown.{IsShown}
-use Rattle.sedck_explain_cli.specs.Spelled.{IsPlainly, IsIn, Copies, WritesSame, IsSpelled, SpellsAt, SpellsFound, CopiesCall, SpellsCall}
+use Rattle.sedck_explain_cli.specs.Spelled.{IsPlainly, IsIn, Copies, WritesSame, SpellsAt, SpellsFound, CopiesCall, IsAnsweredCall}
 
 -- ---- The status
 
 -- what is written with that of a yes is accepted
-pub judged_yes : (judged status : Status) → IsPlainStatus judged status → status ≡ exit.Accepted → judged ≡ exit.Accepted
+judged_yes : (judged status : Status) → IsPlainStatus judged status → status ≡ exit.Accepted → judged ≡ exit.Accepted
 judged_yes judged status (inl same) accepted = sym same ∙ accepted
 judged_yes judged status (inr both) accepted = both.0
+
+of_answer : (judged status : Status) → IsPlainStatus judged status → IsOfAnswer judged → IsOfAnswer status
+of_answer judged status (inl same) few = subst IsOfAnswer (sym same) few
+of_answer judged status (inr both) few = subst IsOfAnswer (sym both.1) ((λ e. cc e), (λ e. cc e), (λ e. cc e))
+
+-- in one format or another
+delivered_yes : (plain : Bool) (known : Option (List ℕ)) (e : Explanation) (out err : Output) (status : Status) → IsDelivered plain known e out err status
+    → status ≡ exit.Accepted → e.status ≡ exit.Accepted
+delivered_yes true known e out err status d accepted = judged_yes e.status status d.is_status accepted
+delivered_yes false known e out err status d accepted = sym d.is_status ∙ accepted
+
+delivered_status : (plain : Bool) (known : Option (List ℕ)) (Has : Status → Type 0) (e : Explanation) (out err : Output) (status : Status)
+    → IsDelivered plain known e out err status → Has e.status → IsIn plain Has status
+delivered_status true known Has e out err status d has = (e.status, has, d.is_status)
+delivered_status false known Has e out err status d has = subst Has (sym d.is_status) has
+
+pub delivered_few : (plain : Bool) (known : Option (List ℕ)) (e : Explanation) (out err : Output) (status : Status) → IsDelivered plain known e out err status
+    → IsOfAnswer e.status → IsOfAnswer status
+delivered_few true known e out err status d few = of_answer e.status status d.is_status few
+delivered_few false known e out err status d few = subst IsOfAnswer (sym d.is_status) few
 
 -- ---- The script
 
@@ -55,105 +78,116 @@ copied text e out kept writes =
     let lists = subst (λ source. HaveSameLists source written.0) kept.source written.2 in
     (written.0, record { program = kept.script; spelled = kept.spelled.spells; only = kept.spelled.only; same = written.1; lists = lists }, written.3)
 
-pub copied_yes : (text : List ℕ) (given : Option (List ℕ)) (denied : Denied) (e : Explanation) (out : Output) → IsExplanation text given denied e
+copied_yes : (text : List ℕ) (given : Option (List ℕ)) (denied : Denied) (e : Explanation) (out : Output) → IsExplanation text given denied e
     → e.status ≡ exit.Accepted → IfSome e.script (Writes out e.source.now) → Copies text out
 copied_yes text given denied e out is accepted writes =
     copied text e out (kept_script text denied e.findings.items (expressions_of e.script) e e.answer is.is_status is.keeps accepted) writes
 
 -- ---- What is written
 
-pub writes_same : (text : List ℕ) (given : Option (List ℕ)) (denied : Denied) (e : Explanation) (out : Output) (status : Status)
+writes_same : (text : List ℕ) (given : Option (List ℕ)) (denied : Denied) (e : Explanation) (out : Output) (status : Status)
     → IsExplanation text given denied e → IsPlainStatus e.status status → IsPlainOutput e out status → WritesSame text out status
 writes_same text given denied e out status is same writes = record {
   spelled = λ accepted. copied_yes text given denied e out is (judged_yes e.status status same accepted) (writes.spelled accepted);
   kept = writes.kept;
 }
 
-pub of_answer : (judged status : Status) → IsPlainStatus judged status → IsOfAnswer judged → IsOfAnswer status
-of_answer judged status (inl same) few = subst IsOfAnswer (sym same) few
-of_answer judged status (inr both) few = subst IsOfAnswer (sym both.1) ((λ e. cc e), (λ e. cc e), (λ e. cc e))
-
--- ---- In one format or another
-
--- the status of what is shown, by what is known of the one that is judged
-shown_status : (plain : Bool) (Has : Status → Type 0) (e : Explanation) (out err : Output) (status : Status) → IsShown plain e out err status → Has e.status
-    → IsIn plain Has status
-shown_status true Has e out err status s has = (e.status, has, s.is_status)
-shown_status false Has e out err status s has = subst Has (sym s.is_status) has
-
-yes_shown : (plain : Bool) (e : Explanation) (out err : Output) (status : Status) → IsShown plain e out err status → status ≡ exit.Accepted → e.status ≡ exit.Accepted
-yes_shown true e out err status s accepted = judged_yes e.status status s.is_status accepted
-yes_shown false e out err status s accepted = sym s.is_status ∙ accepted
-
-pub all_shown : {E : Type 0} (plain : Bool) (Has : Status → Type 0) (e : Explanation) (out err : Output) (r : Result Status E)
-    → IfOk r (IsShown plain e out err) → Has e.status → IfOk r (IsIn plain Has)
-all_shown plain Has e out err (Ok status) s has = shown_status plain Has e out err status s has
-all_shown plain Has e out err (Err why) s has = tt
-
-pub shown_yes : {E : Type 0} (plain : Bool) (P : Type 0) (e : Explanation) (out err : Output) (r : Result Status E)
-    → IfOk r (IsShown plain e out err) → (e.status ≡ exit.Accepted → P) → IfOk r (λ status. status ≡ exit.Accepted → P)
-shown_yes plain P e out err (Ok status) s holds = λ accepted. holds (yes_shown plain e out err status s accepted)
-shown_yes plain P e out err (Err why) s holds = tt
-
-pub shown_spells : {E : Type 0} (plain : Bool) (k : Known) (denied : Denied) (words : List (List ℕ)) (e : Explanation) (out err : Output) (r : Result Status E)
-    → IfOk r (IsShown plain e out err) → (e.status ≡ exit.Accepted → IfSome e.script (Writes out e.source.now) → CopiesCall k denied words out)
-    → IfOk r (λ status. plain ≡ true → SpellsCall k denied words out status)
-shown_spells plain k denied words e out err (Ok status) s copies = λ is. record {
-  spelled = λ accepted. copies (yes_shown plain e out err status s accepted) ((s.writes is).spelled accepted);
-  kept = (s.writes is).kept;
+-- of a script
+pub explained : (plain : Bool) (known : Explanation → Option (List ℕ)) (text : List ℕ) (given : Option (List ℕ)) (denied : Denied) (e : Explanation)
+    (out err : Output) (status : Status) → IsExplanation text given denied e → IsDelivered plain (known e) e out err status
+    → IsExplained plain known text given denied out err status
+explained true known text given denied e out err status is d = record {
+  explanation = e;
+  is_explanation = is;
+  is_status = d.is_status;
+  reported = d.reported;
+  writes = λ plainly. writes_same text given denied e out status is d.is_status (d.writes plainly);
+  silent = d.silent;
 }
-shown_spells plain k denied words e out err (Err why) s copies = tt
+explained false known text given denied e out err status is d = record {
+  explanation = e;
+  is_explanation = is;
+  is_status = d.is_status;
+  reported = d.reported;
+  writes = λ plainly. absurd (false≢true plainly);
+  silent = d.silent;
+}
 
-pub shown_silent : {E : Type 0} (plain : Bool) (e : Explanation) (out err : Output) (r : Result Status E) → IfOk r (IsShown plain e out err)
-    → IfOk r (λ status. (plain ≡ false) ⊎ (status ≡ exit.Accepted) → KeepsBytes err.before err.after)
-shown_silent plain e out err (Ok status) s = s.silent
-shown_silent plain e out err (Err why) s = tt
-
--- ---- With one status or another
-
--- what is refused is no yes
-pub never_yes : {P : Type 0} (status : Status) → status ≡ exit.Refused → status ≡ exit.Accepted → P
-never_yes status refused accepted = let same : exit.Refused ≡ exit.Accepted = sym refused ∙ accepted in cc same
-
-pub shown_few : {E : Type 0} (plain : Bool) (e : Explanation) (out err : Output) (r : Result Status E) → IfOk r (IsShown plain e out err) → IsOfAnswer e.status
-    → IfOk r IsOfAnswer
-shown_few true e out err (Ok status) s few = of_answer e.status status s.is_status few
-shown_few false e out err (Ok status) s few = subst IsOfAnswer (sym s.is_status) few
-shown_few plain e out err (Err why) s few = tt
+-- and of a call
+pub answered_call : (plain : Bool) (known : Option (List ℕ)) (k : Known) (denied : Denied) (words : List (List ℕ)) (e : Explanation) (out err : Output)
+    (status : Status) → IsSaid k denied words e → IsDelivered plain known e out err status → IsAnsweredCall plain k denied words out err status
+answered_call plain known k denied words e out err status said d =
+    let is_yes : status ≡ exit.Accepted → e.status ≡ exit.Accepted = delivered_yes plain known e out err status d in
+    record {
+      few = delivered_few plain known e out err status d said.few;
+      has_status = delivered_status plain known (HasCallStatus k denied words) e out err status d said.has_status;
+      spelled = λ plainly. record {
+        spelled = λ accepted. copied_call (is_yes accepted) ((d.writes plainly).spelled accepted);
+        kept = (d.writes plainly).kept;
+      };
+      silent = d.silent;
+      yes = λ accepted. (said.yes (is_yes accepted)).0;
+    }
+  where
+    copied_call : e.status ≡ exit.Accepted → IfSome e.script (Writes out e.source.now) → CopiesCall k denied words out
+    copied_call accepted writes =
+        let yes = said.yes accepted in
+        (yes.0, copied_yes (joined_texts yes.0.parts) None denied e out yes.1 accepted writes)
 
 -- ---- Scripts
 
--- what is spelled of the script at a path
-pub path_spelled : (k : Known) (request : Request) (path text : List ℕ) (given : Option (List ℕ)) (out : Output) (r : Result Status RunFault)
-    → IsRead 1048577 (known_bytes k path) text → IsGiven k (certificate_of request) given → IfOk r (IsSpelled text given request.denied out)
-    → IfOk r (SpellsAt k request path out)
-path_spelled k request path text given out r is_text is_given spelled =
-    on_ok (IsSpelled text given request.denied out) (SpellsAt k request path out) r
-    (λ status s. record { text = text; is_text = is_text; given = given; is_given = is_given; is_spelled = s }) spelled
+-- of the script at a path
+pub explained_at : (k : Known) (request : Request) (path text : List ℕ) (given : Option (List ℕ)) (plain : Bool) (known : Explanation → Option (List ℕ))
+    (out err : Output) (r : Result Status RunFault) → IsRead 1048577 (known_bytes k path) text → IsGiven k (certificate_of request) given
+    → IfOk r (IsExplained plain known text given request.denied out err) → IfOk r (IsExplainedAt k request path plain out err)
+explained_at k request path text given plain known out err r is_text is_given is =
+    on_ok (IsExplained plain known text given request.denied out err) (IsExplainedAt k request path plain out err) r
+    (λ status e. record { text = text; is_text = is_text; given = given; is_given = is_given; known = known; is_explained = e }) is
 
--- its status
-spelled_status : (k : Known) (request : Request) (path : List ℕ) (out : Output) (status : Status) → SpellsAt k request path out status
+-- of one that is reported
+pub report_status : (k : Known) (request : Request) (path : List ℕ) (out err : Output) (status : Status) → IsExplainedAt k request path false out err status
+    → StatusAt k request path status
+report_status k request path out err status s = record {
+  text = s.text;
+  is_text = s.is_text;
+  given = s.given;
+  is_given = s.is_given;
+  explanation = s.is_explained.explanation;
+  is_explanation = s.is_explained.is_explanation;
+  is_status = s.is_explained.is_status;
+}
+
+-- of one that is spelled plainly
+pub plain_status : (k : Known) (request : Request) (path : List ℕ) (out err : Output) (status : Status) → IsExplainedAt k request path true out err status
     → IsPlainly (StatusAt k request path) status
-spelled_status k request path out status s = (
-  s.is_spelled.explanation.status,
+plain_status k request path out err status s = (
+  s.is_explained.explanation.status,
   record {
     text = s.text;
     is_text = s.is_text;
     given = s.given;
     is_given = s.is_given;
-    explanation = s.is_spelled.explanation;
-    is_explanation = s.is_spelled.is_explanation;
+    explanation = s.is_explained.explanation;
+    is_explanation = s.is_explained.is_explanation;
     is_status = refl;
   },
-  s.is_spelled.is_status,
+  s.is_explained.is_status,
 )
 
-pub path_status : (k : Known) (request : Request) (path text : List ℕ) (given : Option (List ℕ)) (out : Output) (r : Result Status RunFault)
-    → IsRead 1048577 (known_bytes k path) text → IsGiven k (certificate_of request) given → IfOk r (IsSpelled text given request.denied out)
-    → IfOk r (IsPlainly (StatusAt k request path))
-path_status k request path text given out r is_text is_given spelled =
-    on_ok (SpellsAt k request path out) (IsPlainly (StatusAt k request path)) r (spelled_status k request path out)
-    (path_spelled k request path text given out r is_text is_given spelled)
+pub plain_spelled : (k : Known) (request : Request) (path : List ℕ) (out err : Output) (status : Status) → IsExplainedAt k request path true out err status
+    → SpellsAt k request path out status
+plain_spelled k request path out err status s = record {
+  text = s.text;
+  is_text = s.is_text;
+  given = s.given;
+  is_given = s.is_given;
+  is_spelled = record {
+    explanation = s.is_explained.explanation;
+    is_explanation = s.is_explained.is_explanation;
+    is_status = s.is_explained.is_status;
+    writes = s.is_explained.writes refl;
+  };
+}
 
 -- and of the only one
 pub one_greatest : (Has : List ℕ → Status → Type 0) (paths : List (List ℕ)) (path : List ℕ) (status : Status) → paths ≡ path ∷ [] → IsPlainly (Has path) status

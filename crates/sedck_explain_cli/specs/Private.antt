@@ -1,3 +1,3 @@
 -- What contracts inside the crate and proofs cite.
 pub mod Readings
-pub mod Shown
+pub mod Said

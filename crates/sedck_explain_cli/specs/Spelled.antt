@@ -1,5 +1,5 @@
 -- What is written in the format `sed`, and its exit status, this project's own.
-use Rattle.std.specs.Prelude.{◌≡◌, ◌≢◌, ℕ, Bool, MatchBool, List, [], ◌∷◌, Option}
+use Rattle.std.specs.Prelude.{◌≡◌, ◌≢◌, ◌⊎◌, ℕ, Bool, true, false, MatchBool, List, [], ◌∷◌, Option}
 use Rattle.std.specs.Io.KnownBytes.{Keeps, Appends}
 use Rattle.sedck_plain.specs.Plain.{SpellSame}
 use Rattle.sedck_call.specs.Scripts.{joined_texts}
@@ -8,11 +8,13 @@ use Rattle.sedck_engines.specs.Opened.{Known}
 use Rattle.sedck_errors.specs.declared.denied.Denied.{Denied}
 use Rattle.sedck_explanation.specs.Called.{IsAcceptedCall, known_bytes}
 use Rattle.sedck_explanation.specs.Explanations.{IsExplanation}
+use Rattle.sedck_answer.specs.Status.{IsOfAnswer}
 use Rattle.sedck_answer.specs.declared.explanation.Explanation.{Explanation}
 use Rattle.sedck_answer.specs.declared.status.Status.{Status}
 use Rattle.sedck_answer.specs.declared.status.Status.TheVariants.{Accepted}
 use Rattle.sedck_formats.specs.Plain.{Output, IsPlainStatus}
 use Rattle.sedck_calls_in_files.specs.Scanned.{Holds, SpellsOne}
+use Rattle.sedck_explain_cli.specs.CallStatus.{HasCallStatus}
 use Rattle.sedck_explain_cli.specs.Requests.{certificate_of}
 use Rattle.sedck_explain_cli.specs.Statuses.{IsGiven}
 use Rattle.sedck_explain_cli.specs.declared.request.Request.{Request}
@@ -67,3 +69,12 @@ CopiesCall k denied words out = (yes : IsAcceptedCall k denied words) × Copies 
 pub record SpellsCall (k : Known) (denied : Denied) (words : List (List ℕ)) (out : Output) (status : Status) : Type 0 where
   pub spelled : status ≡ Accepted → CopiesCall k denied words out
   pub kept : status ≢ Accepted → Keeps out.before out.after
+
+-- What holds of the call with these words where it is explained, in the format `sed` or in another one: its status is one of an answer,
+-- that of the call; in that format what its script spells is written, and only then anything is on standard error; and what a yes says.
+pub record IsAnsweredCall (plain : Bool) (k : Known) (denied : Denied) (words : List (List ℕ)) (out err : Output) (status : Status) : Type 0 where
+  pub few : IsOfAnswer status
+  pub has_status : IsIn plain (HasCallStatus k denied words) status
+  pub spelled : plain ≡ true → SpellsCall k denied words out status
+  pub silent : (plain ≡ false) ⊎ (status ≡ Accepted) → Keeps err.before err.after
+  pub yes : status ≡ Accepted → IsAcceptedCall k denied words

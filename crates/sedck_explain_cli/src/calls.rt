@@ -1,30 +1,33 @@
 //! A call of sed, explained by its words.
 
-ghost use Rattle.std.specs.Prelude.{◌≡◌, ◌≢◌, ◌⊎◌, true, false, map, IfOk, OnOk};
-ghost use Rattle.std.specs.Io.KnownBytes.{Keeps};
-ghost use Rattle.sedck_explanation.specs.Called.{IsAcceptedCall};
-ghost use Rattle.sedck_answer.specs.Status.{IsOfAnswer};
-ghost use Rattle.sedck_explain_cli.specs.CallStatus.{HasCallStatus};
-ghost use Rattle.sedck_explain_cli.specs.Private.Shown.{IsShown};
+ghost use Rattle.std.specs.Prelude.{◌≡◌, ◌≢◌, map, IfOk, OnOk};
+ghost use Rattle.sedck_explain_cli.specs.Private.Said.{IsSaid};
 ghost use Rattle.sedck_explain_cli.specs.Requests.{is_plain};
-ghost use Rattle.sedck_explain_cli.specs.Spelled.{IsIn, SpellsCall};
+ghost use Rattle.sedck_explain_cli.specs.Spelled.{IsAnsweredCall};
 
 use crate::format::Style;
-use crate::plain::sent;
 use crate::session::Session;
-use sedck_call::{CallFault, Origin, Piece, call_of, joined};
-use sedck_cert::streams::{Sink, write_all};
-use sedck_engines::Opener;
+use sedck_call::{Call, CallFault, Origin, Piece, call_of, joined};
+use sedck_calls_in_files::{Named, deliver};
+use sedck_cert::streams::Sink;
+use sedck_engines::{Opener, RunFault};
 use sedck_explanation::{
-    Explanation, Status, Unexplained, explain_called, foreign_findings, has_foreign, not_judged,
-    parts_of, position_at, refusal_of,
+    Explanation, Finding, Status, Unexplained, explain_called, foreign_findings, has_foreign,
+    not_judged, parts_of, position_at, refusal_of,
 };
-use sedck_formats::{Names, PartName, plain_report};
+use sedck_formats::PartName;
 use sedck_plain::Comments;
 use std::alloc::{AllocError, AllocGlobal, Global};
 use std::io::Input;
 
-/// Writes the report on the call of sed with these words after its name, and answers its exit status.
+/// What is said of a call, and the names of its script's parts.
+#[derive(Drop)]
+struct Said<'a> {
+    parts: Vec<PartName>,
+    explanation: Explanation<'a>,
+}
+
+/// Writes what is said of the call of sed with these words after its name, and answers its exit status.
 ///
 /// It is accepted only where its script, its parts joined, is accepted, and its options let sed read it as the model does.
 pub fn explain_words<R: Input + AllocGlobal, O: Opener, F, W: Sink, E: Sink>(
@@ -33,68 +36,83 @@ pub fn explain_words<R: Input + AllocGlobal, O: Opener, F, W: Sink, E: Sink>(
     out: &mut W,
     err: &mut E,
 ) -> Result<Status, Unexplained>
-    ensures few { IfOk result IsOfAnswer }
-    ensures status { IfOk result (IsIn (is_plain session.now.request.now.format) (HasCallStatus (O.known session.now.files.now) session.now.request.now.denied (map (λ word. word.now) words.now))) }
-    ensures spelled { IfOk result (λ status. is_plain session.now.request.now.format ≡ true → SpellsCall (O.known session.now.files.now) session.now.request.now.denied (map (λ word. word.now) words.now) (record { before = W.taken out.old; after = W.taken out.new }) status) }
-    ensures silent { IfOk result (λ status. (is_plain session.now.request.now.format ≡ false) ⊎ (status ≡ Status.Accepted) → Keeps (E.taken err.old) (E.taken err.new)) }
-    ensures yes { IfOk result (λ status. status ≡ Status.Accepted → IsAcceptedCall (O.known session.now.files.now) session.now.request.now.denied (map (λ word. word.now) words.now)) }
+    ensures { IfOk result (IsAnsweredCall (is_plain session.now.request.now.format) (O.known session.now.files.now) session.now.request.now.denied
+        (map (λ word. word.now) words.now) (record { before = W.taken out.old; after = W.taken out.new })
+        (record { before = E.taken err.old; after = E.taken err.new })) }
 {
     let alloc = session.alloc();
     let call = match call_of(alloc, words) {
         Ok(call) => call,
         Err(fault) => {
-            let explanation = refused(alloc, words, fault)?;
-            return shown(session, &[], &explanation, out, err);
+            let refusal = refused(alloc, words, fault)?;
+            return shown(session, words, &refusal, out, err);
         }
     };
     if has_foreign(&call.given) {
-        let explanation = not_judged(alloc, &[], foreign_findings(alloc, words, &call.given)?);
-        return shown(session, &[], &explanation, out, err);
+        let refusal = foreign(alloc, words, &call)?;
+        return shown(session, words, &refusal, out, err);
     }
-    let parts = parts_of(alloc, session.files, session.rt, words, &call.pieces)?;
-    let text = joined(alloc, &parts)?;
+    let read = parts_of(alloc, session.files, session.rt, words, &call.pieces)?;
+    let text = joined(alloc, &read)?;
     let explanation = explain_called(alloc, &text, words, &call, session.request.denied)?;
-    let names = part_names(alloc, session.style(), words, &call.pieces, &parts)?;
-    shown(session, &names, &explanation, out, err)
+    let parts = part_names(alloc, session.style(), words, &call.pieces, &read)?;
+    shown(session, words, &Said { parts, explanation }, out, err)
 }
 
 /// What is said of words that no sed takes.
-fn refused(
-    alloc: Global,
-    words: &[&[u8]],
-    fault: CallFault,
-) -> Result<Explanation<'static>, Unexplained>
-    ensures status { IfOk result (λ e. e.status ≡ Status.Refused) }
+fn refused(alloc: Global, words: &[&[u8]], fault: CallFault) -> Result<Said<'static>, Unexplained>
+    ensures status { IfOk result (λ said. said.explanation.status ≡ Status.Refused) }
     ensures refused { OnOk result (fault ≢ CallFault.OutOfMemory) }
 {
     if matches!(fault, CallFault::OutOfMemory) {
         return Err(Unexplained::OutOfMemory);
     }
-    Ok(not_judged(alloc, &[], refusal_of(alloc, words, fault)?))
+    Ok(unjudged(alloc, refusal_of(alloc, words, fault)?))
 }
 
-/// Writes the report on the explanation of a call whose script has these parts, or in the format `sed` the script, and answers the exit
-/// status.
-fn shown<R: AllocGlobal, O, F, W: Sink, E: Sink>(
+/// What is said of a call with an option of another language.
+fn foreign(alloc: Global, words: &[&[u8]], call: &Call) -> Result<Said<'static>, AllocError>
+    ensures { IfOk result (λ said. said.explanation.status ≡ Status.Refused) }
+{
+    Ok(unjudged(alloc, foreign_findings(alloc, words, &call.given)?))
+}
+
+/// That a call isn't judged, for these reasons.
+fn unjudged(alloc: Global, findings: Vec<Finding>) -> Said<'static>
+    ensures { result.explanation.status ≡ Status.Refused }
+{
+    Said {
+        parts: Vec::new(alloc),
+        explanation: not_judged(alloc, &[], findings),
+    }
+}
+
+/// Writes what is said of the call with these words, and answers the exit status.
+fn shown<R: AllocGlobal, O: Opener, F, W: Sink, E: Sink>(
     session: &Session<R, O, F>,
-    parts: &[PartName],
-    explanation: &Explanation,
+    words: &[&[u8]],
+    said: &Said,
     out: &mut W,
     err: &mut E,
 ) -> Result<Status, Unexplained>
-    ensures { IfOk result (IsShown (is_plain session.now.request.now.format) explanation.now (record { before = W.taken out.old; after = W.taken out.new }) (record { before = E.taken err.old; after = E.taken err.new })) }
+    requires { IsSaid (O.known session.now.files.now) session.now.request.now.denied (map (λ word. word.now) words.now) said.now.explanation }
+    ensures { IfOk result (IsAnsweredCall (is_plain session.now.request.now.format) (O.known session.now.files.now) session.now.request.now.denied
+        (map (λ word. word.now) words.now) (record { before = W.taken out.old; after = W.taken out.new })
+        (record { before = E.taken err.old; after = E.taken err.new })) }
 {
-    let names = Names::of_call("sed", parts);
-    let made = session
-        .style()
-        .rendered(session.alloc(), names, names, explanation)?;
-    if session.request.format.is_plain() {
-        let bare = Comments::LeftOut;
-        let (made, status) = plain_report(session.alloc(), names, explanation, bare, made)?;
-        return Ok(sent(out, err, &made, status)?);
+    let style = session.style();
+    let named = Named {
+        alloc: session.alloc(),
+        reporter: &style,
+        name: "sed",
+        parts: &said.parts,
+        plain: session.request.format.plain(Comments::LeftOut),
+    };
+    match deliver(&named, &said.explanation, out, err) {
+        Ok(status) => Ok(status),
+        Err(RunFault::Write) => Err(Unexplained::Write),
+        Err(_) => Err(Unexplained::OutOfMemory),
     }
-    write_all(out, &made)?;
-    Ok(explanation.status)
 }
 
 /// The names of the parts, each with the script's line with which its part begins.

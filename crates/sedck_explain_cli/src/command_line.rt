@@ -1,38 +1,45 @@
 //! The program `sedck-explain` for its arguments.
 
-ghost use Rattle.std.specs.Prelude.{◌≡◌, ◌≢◌, ◌⊎◌, ◌++◌, true, false, codes, map, None, IfOk, OnOk};
+ghost use Rattle.std.specs.Prelude.{◌≡◌, ◌≢◌, ◌⊎◌, ◌∷◌, [], true, false, codes, map, None, IfSome};
 ghost use Rattle.std.specs.Io.KnownBytes.{Keeps, Appends};
-ghost use Rattle.sedck_explanation.specs.Called.{IsAcceptedCall};
-ghost use Rattle.sedck_answer.specs.Status.{IsOfAnswer};
 ghost use Rattle.sedck_engines.specs.Opened.{unknown};
-ghost use Rattle.sedck_explain_cli.specs.CallStatus.{HasCallStatus};
 ghost use Rattle.sedck_calls_in_files.specs.Lines.{error_line};
 ghost use Rattle.sedck_calls_in_files.specs.Scanned.{IsWorstOf};
-ghost use Rattle.sedck_explain_cli.specs.Requests.{certificate_of, scripts_of, is_plain};
-ghost use Rattle.sedck_explain_cli.specs.Spelled.{IsIn, SpellsCall};
-ghost use Rattle.sedck_explain_cli.specs.Statuses.{HasStatus, StatusAt};
-ghost use Rattle.sedck_explain_cli.specs.Answers.{call_of, asks_for_help, asks_for_plain, is_help as is_help_text, IsStatusOfCall, HasStatusFor, IsAnswered, SpellsGiven, SpellsFor, IsWritten};
+ghost use Rattle.sedck_explain_cli.specs.Requests.{scripts_of, is_plain};
+ghost use Rattle.sedck_explain_cli.specs.Spelled.{IsPlainly, SpellsScript, IsAnsweredCall};
+ghost use Rattle.sedck_explain_cli.specs.Statuses.{StatusAt};
+ghost use Rattle.sedck_explain_cli.specs.Answers.{call_of, asks_for_help, asks_for_plain, is_help as is_help_text, HasStatusFor, IsAnswered, SpellsFor, IsWritten};
 
 use crate::calls::explain_words;
-use crate::explaining::{Named, explain_alone, explain_with};
+use crate::explaining::explain_path;
 use crate::format::Format;
-use crate::plain::spell_script;
 use crate::request::{Request, request_of};
 use crate::scanning::{explain_files, spell_found};
 use crate::session::Session;
-use crate::unexplained::{is_followed, report_unexplained};
+use crate::unexplained::{misused, report_fault, report_unexplained};
 use crate::words::Words;
 use clap::Error;
 use clap::error::ErrorKind;
-use sedck_calls_in_files::{AsTheShell, Finder, end, out_of_memory, slices_of, unwritten};
-use sedck_cert::streams::{FromRead, Sink, Source, write_all};
-use sedck_engines::{FromFiles, Input as InputOf, Opener, RunFault};
-use sedck_explanation::{Denied, Status, Unexplained};
-use sedck_formats::{ScriptCounts, json_unreadable, sarif_unreadable};
+use sedck_calls_in_files::{AsTheShell, Finder, out_of_memory, slices_of, unwritten};
+use sedck_cert::streams::{Sink, write_all};
+use sedck_engines::{FromFiles, Opener};
+use sedck_explanation::{Denied, Status};
+use sedck_formats::ScriptCounts;
 use sedck_plain::Comments;
-use std::alloc::{AllocError, Global};
+use std::alloc::Global;
 use std::fs::Files;
 use std::io::{Input, Write};
+
+/// What the program works with.
+#[derive(Drop)]
+pub struct System<'a, R, O, F> {
+    /// Memory, standard input and the folders of the system.
+    pub rt: &'a R,
+    /// What opens files.
+    pub files: &'a O,
+    /// What finds calls of sed in a file.
+    pub finder: &'a F,
+}
 
 /// The whole program for the arguments after its name, and its exit status: of the scripts' statuses the one that tells most.
 ///
@@ -48,57 +55,52 @@ pub fn program<R: Files + Input + AllocGlobal + Clone + Drop, W: Sink, E: Sink>(
 ) -> Status
     ensures answered { result ≢ Status.Misused → result ≢ Status.Failed → IsAnswered unknown (λ _ _. None) words.now result }
     ensures refused { result ≡ Status.Misused → Keeps (W.taken out.old) (W.taken out.new) }
-    ensures silent { result ≢ Status.Misused → result ≢ Status.Failed → (asks_for_plain words.now ≡ false) ⊎ (result ≡ Status.Accepted) → Keeps (E.taken err.old) (E.taken err.new) }
+    ensures silent { result ≢ Status.Misused → result ≢ Status.Failed
+        → (asks_for_plain words.now ≡ false) ⊎ (result ≡ Status.Accepted) → Keeps (E.taken err.old) (E.taken err.new) }
 {
-    program_over(
+    let files = FromFiles::new(rt);
+    let system = System {
         rt,
-        &FromFiles::new(rt),
-        &AsTheShell,
-        words,
-        colour,
-        out,
-        err,
-    )
+        files: &files,
+        finder: &AsTheShell,
+    };
+    program_over(&system, words, colour, out, err)
 }
 
 /// The whole program over files that an opener opens, in which a finder finds calls of sed; folders are those of the system.
 pub fn program_over<
-    'a,
     R: Files + Input + AllocGlobal + Clone + Drop,
     O: Opener,
     F: Finder,
     W: Sink,
     E: Sink,
->(
-    rt: &'a R,
-    files: &'a O,
-    finder: &'a F,
-    words: &Words,
-    colour: bool,
-    out: &mut W,
-    err: &mut E,
-) -> Status
+>(system: &System<R, O, F>, words: &Words, colour: bool, out: &mut W, err: &mut E) -> Status
     // The status of what the words ask for, of the bytes of the files at the paths that they name.
-    ensures answered { result ≢ Status.Misused → result ≢ Status.Failed → IsAnswered (O.known files.now) (F.found finder.now) words.now result }
+    ensures answered { result ≢ Status.Misused → result ≢ Status.Failed
+        → IsAnswered (O.known system.now.files.now) (F.found system.now.finder.now) words.now result }
     // In the format `sed` a text that spells the program of the script that was read is written, and nothing else; or nothing.
-    ensures spelled { result ≢ Status.Misused → result ≢ Status.Failed → IsWritten (O.known files.now) (F.found finder.now) words.now (record { before = W.taken out.old; after = W.taken out.new }) result }
+    ensures spelled { result ≢ Status.Misused → result ≢ Status.Failed
+        → IsWritten (O.known system.now.files.now) (F.found system.now.finder.now) words.now
+        (record { before = W.taken out.old; after = W.taken out.new }) result }
     // Invalid arguments write nothing to the output.
     ensures refused { result ≡ Status.Misused → Keeps (W.taken out.old) (W.taken out.new) }
     // Only what has no plain spelling, or isn't accepted, is reported there, where a plain spelling is asked for.
-    ensures silent { result ≢ Status.Misused → result ≢ Status.Failed → (asks_for_plain words.now ≡ false) ⊎ (result ≡ Status.Accepted) → Keeps (E.taken err.old) (E.taken err.new) }
+    ensures silent { result ≢ Status.Misused → result ≢ Status.Failed
+        → (asks_for_plain words.now ≡ false) ⊎ (result ≡ Status.Accepted) → Keeps (E.taken err.old) (E.taken err.new) }
 {
-    match request_of(rt.alloc(), &words.own) {
+    let alloc = system.rt.alloc();
+    match request_of(alloc, &words.own) {
         Ok(request) => {
             let session = Session {
-                rt,
-                files,
-                finder,
+                rt: system.rt,
+                files: system.files,
+                finder: system.finder,
                 request: &request,
                 colour,
             };
             answer(&session, words, out, err)
         }
-        Err(error) => refuse_words(rt.alloc(), &words.own, error, out, err),
+        Err(error) => refuse_words(alloc, &words.own, error, out, err),
     }
 }
 
@@ -109,101 +111,65 @@ fn answer<R: Files + Input + AllocGlobal + Clone + Drop, O: Opener, F: Finder, W
     out: &mut W,
     err: &mut E,
 ) -> Status
-    ensures status { result ≢ Status.Misused → result ≢ Status.Failed → HasStatusFor (O.known session.now.files.now) (F.found session.now.finder.now) session.now.request.now (call_of words.now) result }
-    ensures spelled { result ≢ Status.Misused → result ≢ Status.Failed → is_plain session.now.request.now.format ≡ true → SpellsFor (O.known session.now.files.now) (F.found session.now.finder.now) session.now.request.now (call_of words.now) (record { before = W.taken out.old; after = W.taken out.new }) result }
+    ensures status { result ≢ Status.Misused → result ≢ Status.Failed
+        → HasStatusFor (O.known session.now.files.now) (F.found session.now.finder.now) session.now.request.now (call_of words.now) result }
+    ensures spelled { result ≢ Status.Misused → result ≢ Status.Failed → is_plain session.now.request.now.format ≡ true
+        → SpellsFor (O.known session.now.files.now) (F.found session.now.finder.now) session.now.request.now (call_of words.now)
+        (record { before = W.taken out.old; after = W.taken out.new }) result }
     ensures refused { result ≡ Status.Misused → Keeps (W.taken out.old) (W.taken out.new) }
-    ensures silent { result ≢ Status.Misused → result ≢ Status.Failed → (is_plain session.now.request.now.format ≡ false) ⊎ (result ≡ Status.Accepted) → Keeps (E.taken err.old) (E.taken err.new) }
+    ensures silent { result ≢ Status.Misused → result ≢ Status.Failed
+        → (is_plain session.now.request.now.format ≡ false) ⊎ (result ≡ Status.Accepted) → Keeps (E.taken err.old) (E.taken err.new) }
 {
     let request = session.request;
     if let Some(misplaced) = misplaced(request) {
-        return end(err, misplaced, Status::Misused);
+        return misused(err, misplaced.as_bytes());
     }
-    if request.format.is_plain() {
-        return answer_plainly(session, words, out, err);
-    }
+    let plain = request.format.is_plain();
     if request.calls {
+        if plain {
+            return spell_found(session, out, err);
+        }
         return explain_files(session, out, err);
     }
     if request.sed {
-        return explain_given(session, words, out, err);
+        let Some(call) = &words.call else {
+            return misused(err, b"--sed is followed by -- and the words of a call\n");
+        };
+        return explain_call(session, call, out, err);
     }
-    if request.scripts.len() > 1 {
-        if request.certificate.is_some() {
-            return end(err, b"--cert is for one script\n", Status::Misused);
-        }
-        if !request.format.takes_several() {
-            return end(err, b"this format is for one script\n", Status::Misused);
-        }
+    if plain {
+        return spell_script(session, out, err);
     }
     explain_all(session, out, err)
 }
 
-/// What is said of options that aren't for what is asked for.
-fn misplaced(request: &Request) -> Option<&'static [u8]> {
-    if !request.calls && (request.kind.is_some() || !request.assumed.is_empty()) {
-        return Some(b"--as, --assume and --assume-set are for --calls\n");
-    }
-    if !request.calls && request.mends {
-        return Some(b"--mend is for --calls\n");
-    }
-    if request.comments == Comments::LeftOut && !request.format.is_plain() {
-        return Some(b"--no-comments is for --format sed\n");
-    }
-    if request.at.is_some() && !(request.calls && request.format.is_plain()) {
-        return Some(b"--at is for --calls with --format sed\n");
-    }
-    None
-}
-
-/// Writes what is asked for in its plain spelling, and answers the exit status.
-fn answer_plainly<
-    R: Files + Input + AllocGlobal + Clone + Drop,
-    O: Opener,
-    F: Finder,
-    W: Sink,
-    E: Sink,
->(session: &Session<R, O, F>, words: &Words, out: &mut W, err: &mut E) -> Status
-    requires { is_plain session.now.request.now.format ≡ true }
-    ensures status { result ≢ Status.Misused → result ≢ Status.Failed → HasStatusFor (O.known session.now.files.now) (F.found session.now.finder.now) session.now.request.now (call_of words.now) result }
-    ensures spelled { result ≢ Status.Misused → result ≢ Status.Failed → SpellsFor (O.known session.now.files.now) (F.found session.now.finder.now) session.now.request.now (call_of words.now) (record { before = W.taken out.old; after = W.taken out.new }) result }
-    ensures refused { result ≡ Status.Misused → Keeps (W.taken out.old) (W.taken out.new) }
-    ensures silent { result ≡ Status.Accepted → Keeps (E.taken err.old) (E.taken err.new) }
-{
-    if session.request.calls {
-        spell_found(session, out, err)
-    } else if session.request.sed {
-        explain_given(session, words, out, err)
-    } else {
-        spell_script(session, out, err)
-    }
-}
-
-/// Explains the call of sed that is given, if one is.
-fn explain_given<R: Input + AllocGlobal, O: Opener, F, W: Sink, E: Sink>(
-    session: &Session<R, O, F>,
-    words: &Words,
-    out: &mut W,
-    err: &mut E,
-) -> Status
-    ensures status { result ≢ Status.Misused → result ≢ Status.Failed → IsIn (is_plain session.now.request.now.format) (IsStatusOfCall (O.known session.now.files.now) session.now.request.now.denied (call_of words.now)) result }
-    ensures spelled { result ≢ Status.Misused → result ≢ Status.Failed → is_plain session.now.request.now.format ≡ true → SpellsGiven (O.known session.now.files.now) session.now.request.now.denied (call_of words.now) (record { before = W.taken out.old; after = W.taken out.new }) result }
-    ensures refused { result ≡ Status.Misused → Keeps (W.taken out.old) (W.taken out.new) }
-    ensures silent { result ≢ Status.Misused → result ≢ Status.Failed → (is_plain session.now.request.now.format ≡ false) ⊎ (result ≡ Status.Accepted) → Keeps (E.taken err.old) (E.taken err.new) }
-{
-    if session.request.certificate.is_some() {
-        return end(err, b"--cert is for a script\n", Status::Misused);
-    }
-    if !session.request.scripts.is_empty() {
-        return end(err, b"--sed is for no script\n", Status::Misused);
-    }
-    let Some(call) = &words.call else {
-        return end(
-            err,
-            b"--sed is followed by -- and the words of a call\n",
-            Status::Misused,
-        );
+/// What is said of options, and of scripts, that aren't for what is asked for.
+fn misplaced(request: &Request) -> Option<&'static str> {
+    let Request { calls, sed, .. } = *request;
+    let plain = request.format.is_plain();
+    let certificate = request.certificate.is_some();
+    let scripts = request.scripts.len();
+    let said = match request {
+        _ if !calls && (request.kind.is_some() || !request.assumed.is_empty()) => {
+            "--as, --assume and --assume-set are for --calls\n"
+        }
+        _ if !calls && request.mends => "--mend is for --calls\n",
+        _ if request.comments == Comments::LeftOut && !plain => {
+            "--no-comments is for --format sed\n"
+        }
+        _ if request.at.is_some() && !(calls && plain) => {
+            "--at is for --calls with --format sed\n"
+        }
+        _ if calls && sed => "--calls and --sed are two things\n",
+        _ if (calls || sed) && certificate => "--cert is for a script\n",
+        _ if calls && scripts == 0 => "--calls is followed by files or folders\n",
+        _ if sed && scripts > 0 => "--sed is for no script\n",
+        _ if calls || plain || scripts < 2 => return None,
+        _ if certificate => "--cert is for one script\n",
+        _ if !request.format.takes_several() => "this format is for one script\n",
+        _ => return None,
     };
-    explain_call(session, call, out, err)
+    Some(said)
 }
 
 /// Explains the call of sed with these words after its name, and answers the exit status: `Failed` where a file of its script can't be
@@ -216,10 +182,10 @@ pub fn explain_call<R: Input + AllocGlobal, O: Opener, F, W: Sink, E: Sink>(
 ) -> Status
     ensures within { result ≢ Status.Unknown }
     ensures known { result ≢ Status.Misused }
-    ensures status { result ≢ Status.Failed → IsIn (is_plain session.now.request.now.format) (HasCallStatus (O.known session.now.files.now) session.now.request.now.denied (map (λ word. word.items) call.now)) result }
-    ensures spelled { result ≢ Status.Failed → is_plain session.now.request.now.format ≡ true → SpellsCall (O.known session.now.files.now) session.now.request.now.denied (map (λ word. word.items) call.now) (record { before = W.taken out.old; after = W.taken out.new }) result }
-    ensures yes { result ≡ Status.Accepted → IsAcceptedCall (O.known session.now.files.now) session.now.request.now.denied (map (λ word. word.items) call.now) }
-    ensures silent { result ≢ Status.Failed → (is_plain session.now.request.now.format ≡ false) ⊎ (result ≡ Status.Accepted) → Keeps (E.taken err.old) (E.taken err.new) }
+    ensures answered { result ≢ Status.Failed
+        → IsAnsweredCall (is_plain session.now.request.now.format) (O.known session.now.files.now) session.now.request.now.denied
+        (map (λ word. word.items) call.now) (record { before = W.taken out.old; after = W.taken out.new })
+        (record { before = E.taken err.old; after = E.taken err.new }) result }
 {
     let Ok(words) = slices_of(session.alloc(), call) else {
         return out_of_memory(err);
@@ -240,13 +206,14 @@ pub fn explain_all<R: Input + AllocGlobal, O: Opener, F, W: Sink, E: Sink>(
 ) -> Status
     ensures within { result ≢ Status.Unknown }
     ensures known { result ≢ Status.Misused }
-    ensures greatest { result ≢ Status.Failed → IsWorstOf (StatusAt (O.known session.now.files.now) session.now.request.now) Status.Accepted (scripts_of session.now.request.now) result }
+    ensures greatest { result ≢ Status.Failed
+        → IsWorstOf (StatusAt (O.known session.now.files.now) session.now.request.now) Status.Accepted (scripts_of session.now.request.now) result }
     ensures silent { result ≢ Status.Failed → Keeps (E.taken err.old) (E.taken err.new) }
 {
     let mut status = Status::Accepted;
     let mut counts = ScriptCounts::NONE;
     for path in &session.request.scripts {
-        match explain_path(session, path, out) {
+        match explain_path(session, path, None, out, err) {
             Ok(one) => {
                 status = status.worse(one);
                 counts.add(one);
@@ -254,7 +221,7 @@ pub fn explain_all<R: Input + AllocGlobal, O: Opener, F, W: Sink, E: Sink>(
             Err(fault) => {
                 status = Status::Failed;
                 counts.add(status);
-                if !is_followed(session, path, fault, out, err) {
+                if !report_fault(session, path, fault, out, err) {
                     return status;
                 }
             }
@@ -292,48 +259,43 @@ fn summed<R: AllocGlobal, O, F, W: Sink, E: Sink>(
     status
 }
 
-/// Explains the script at the path, with the certificate where one is given.
-fn explain_path<R: Input + AllocGlobal, O: Opener, F, W: Sink>(
+/// Writes the script of the request in its plain spelling, if it is accepted, and else a report on it to standard error. Answers the exit
+/// status: that of the script, but `Refused` where it is accepted and has no plain spelling; `Misused` where there are several; `Failed`
+/// where it can't be read, the write fails or memory runs out.
+pub fn spell_script<R: Input + AllocGlobal, O: Opener, F, W: Sink, E: Sink>(
     session: &Session<R, O, F>,
-    path: &str,
     out: &mut W,
-) -> Result<Status, RunFault>
-    ensures few { IfOk result IsOfAnswer }
-    ensures status { IfOk result (StatusAt (O.known session.now.files.now) session.now.request.now path.now) }
+    err: &mut E,
+) -> Status
+    ensures within { result ≢ Status.Unknown }
+    ensures status { result ≢ Status.Misused → result ≢ Status.Failed
+        → IsPlainly (IsWorstOf (StatusAt (O.known session.now.files.now) session.now.request.now) Status.Accepted
+        (scripts_of session.now.request.now)) result }
+    ensures spelled { result ≢ Status.Misused → result ≢ Status.Failed
+        → SpellsScript (O.known session.now.files.now) session.now.request.now (scripts_of session.now.request.now)
+        (record { before = W.taken out.old; after = W.taken out.new }) result }
+    ensures refused { result ≡ Status.Misused → Keeps (W.taken out.old) (W.taken out.new) }
+    ensures silent { result ≡ Status.Accepted → Keeps (E.taken err.old) (E.taken err.new) }
 {
-    if path == "-" {
-        let source = FromRead::new(session.rt.reader());
-        return explain_source(session, session.request.stdin_name, source, out);
-    }
-    match session.files.open(path) {
-        Ok(source) => explain_source(session, path, source, out),
-        Err(_) => Err(RunFault::Read(InputOf::Script)),
+    let Some(path) = only_script(session.request) else {
+        return misused(err, b"this format is for one script\n");
+    };
+    match explain_path(session, path, Some(session.request.comments), out, err) {
+        Ok(status) => status,
+        Err(fault) => {
+            let _ = report_fault(session, path, fault, out, err);
+            Status::Failed
+        }
     }
 }
 
-/// Explains the script of this source, which reports call by this name.
-fn explain_source<R: AllocGlobal, O: Opener, F, S: Source + Drop, W: Sink>(
-    session: &Session<R, O, F>,
-    name: &str,
-    mut script: S,
-    out: &mut W,
-) -> Result<Status, RunFault>
-    ensures few { IfOk result IsOfAnswer }
-    ensures status { IfOk result (HasStatus (O.known session.now.files.now) session.now.request.now.denied (certificate_of session.now.request.now) (S.left script)) }
+/// The path of the only script.
+fn only_script<'a>(request: &Request<'a>) -> Option<&'a str>
+    ensures { IfSome result (λ path. scripts_of request.now ≡ path.now ∷ []) }
 {
-    let style = session.style();
-    let named = Named {
-        alloc: session.alloc(),
-        reporter: &style,
-        name,
-        denied: session.request.denied,
-    };
-    let Some(certificate) = session.request.certificate else {
-        return explain_alone(&named, &mut script, out);
-    };
-    match session.files.open(certificate) {
-        Ok(mut certificate) => explain_with(&named, &mut script, &mut certificate, out),
-        Err(_) => Err(RunFault::Read(InputOf::Certificate)),
+    match request.scripts.as_slice() {
+        [path] => Some(*path),
+        _ => None,
     }
 }
 
@@ -350,15 +312,18 @@ fn refuse_words<W: Sink, E: Sink>(
     ensures refused { result ≡ Status.Misused → Keeps (W.taken out.old) (W.taken out.new) }
     ensures silent { result ≢ Status.Misused → result ≢ Status.Failed → Keeps (E.taken err.old) (E.taken err.new) }
 {
-    let Ok(text) = words_of(alloc, &error) else {
+    if error.kind() == ErrorKind::OutOfMemory {
+        return out_of_memory(err);
+    }
+    let Ok(text) = format!(in alloc; "{error}") else {
         return out_of_memory(err);
     };
     if error.use_stderr() {
-        return end(err, text.as_bytes(), Status::Misused);
+        return misused(err, text.as_bytes());
     }
     // Beside others such a word may be the name of a script.
     if !is_for_help(words) {
-        return end(err, b"--help and --version stand alone\n", Status::Misused);
+        return misused(err, b"--help and --version stand alone\n");
     }
     match write_all(out, text.as_bytes()) {
         Ok(()) => Status::Accepted,
@@ -383,19 +348,12 @@ fn is_help(word: &str) -> bool
     word == "-h" || word == "-V" || word == "--help" || word == "--version"
 }
 
-/// The text of an error of `clap`.
-fn words_of(alloc: Global, error: &Error) -> Result<String, AllocError> {
-    if error.kind() == ErrorKind::OutOfMemory {
-        return Err(AllocError);
-    }
-    format!(in alloc; "{error}")
-}
-
 /// The status once the report is flushed. A report that can't be flushed isn't written: then the status is `Failed`, with a line that
 /// says so.
 pub fn flushed<W: Write + Drop, E: Sink>(status: Status, mut out: W, err: &mut E) -> Status
     ensures within { (result ≡ status) ⊎ (result ≡ Status.Failed) }
-    ensures reported { result ≢ status → E.has_failed err.new ≡ false → Appends (E.taken err.old) (E.taken err.new) (error_line (codes "cannot write")) }
+    ensures reported { result ≢ status → E.has_failed err.new ≡ false
+        → Appends (E.taken err.old) (E.taken err.new) (error_line (codes "cannot write")) }
     ensures silent { result ≢ Status.Failed → Keeps (E.taken err.old) (E.taken err.new) }
 {
     match out.flush() {

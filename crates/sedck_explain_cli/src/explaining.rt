@@ -1,115 +1,127 @@
-//! From sources to a report on a sink.
+//! A script, from the files of the request to what is written of it.
 
-ghost use Rattle.std.specs.Prelude.{◌≡◌, ◌≢◌, true, false, ℕ, List, Option, Some, None, IsTrue, IfOk, IfErr, IfSome, OnOk};
+ghost use Rattle.std.specs.Prelude.{◌≡◌, ◌≢◌, ◌⊎◌, is_some, IsTrue, IfOk, IfErr};
 ghost use Rattle.std.specs.Option.{option_map};
-ghost use Rattle.std.specs.Io.KnownBytes.{Keeps, Appends};
+ghost use Rattle.std.specs.Io.KnownBytes.{Keeps};
 ghost use Rattle.sedck_answer.specs.Status.{IsOfAnswer};
-ghost use Rattle.sedck_answer.specs.declared.explanation.Explanation.{Explanation};
+ghost use Rattle.sedck_engines.specs.Inputs.{IsRead};
 ghost use Rattle.sedck_engines.specs.declared.answer.RunFault.TheVariants as fault;
-ghost use Rattle.sedck_explain_cli.specs.Explained.{IsReport, IsExplained, IsExplainedWith, IsReason};
+ghost use Rattle.sedck_explanation.specs.Called.{known_bytes};
+ghost use Rattle.sedck_explain_cli.specs.Explained.{IsExplained, IsReason, IsReasonOf};
+ghost use Rattle.sedck_explain_cli.specs.Private.Said.{IsExplainedAt};
+ghost use Rattle.sedck_explain_cli.specs.Requests.{certificate_of};
+ghost use Rattle.sedck_explain_cli.specs.Statuses.{IsGiven};
 
-use sedck_cert::streams::{Sink, Source, write_all};
-use sedck_engines::{RunFault, read_certificate, read_script};
-use sedck_explanation::{Denied, Explanation, Status, explain};
-use std::alloc::{AllocError, Global};
+use crate::session::Session;
+use sedck_calls_in_files::{Named, Reporter, deliver};
+use sedck_cert::streams::{FromRead, Sink, Source};
+use sedck_engines::{Input as InputOf, Opener, RunFault, read_certificate, read_script};
+use sedck_explanation::{Denied, Status, explain};
+use sedck_plain::Comments;
+use std::io::Input;
 
-/// What makes a report of an explanation.
-pub trait Reporter {
-    /// The report on the script with this name, where it is known.
-    ghost reported: { Self → List ℕ → Explanation → Option (List ℕ) };
-
-    /// The report on the script with this name.
-    fn report(
-        &self,
-        alloc: Global,
-        name: &str,
-        explanation: &Explanation,
-    ) -> Result<Vec<u8>, AllocError>
-        ensures { IfOk result (λ report. IfSome (reported self.now name.now explanation.now) (λ known. report.items ≡ known)) };
-}
-
-/// A script by its name, and how it is reported.
+/// What is read of a script, and of its certificate, if one is given.
 #[derive(Drop)]
-pub struct Named<'a, F> {
-    pub alloc: Global,
-    pub reporter: &'a F,
-    /// The name of the script in reports.
-    pub name: &'a str,
-    pub denied: Denied,
+pub struct Inputs {
+    pub text: Vec<u8>,
+    pub certificate: Option<Vec<u8>>,
 }
 
-/// Reads a script, writes the report on it, and answers its exit status, which is `Rejected` where the script is accepted and has
-/// what is denied.
-pub fn explain_alone<F: Reporter, R: Source, W: Sink>(
-    named: &Named<F>,
-    script: &mut R,
+/// Explains the script at the path, with the certificate where one is given, and writes what is said of it.
+pub(crate) fn explain_path<R: Input + AllocGlobal, O: Opener, F, W: Sink, E: Sink>(
+    session: &Session<R, O, F>,
+    path: &str,
+    plain: Option<Comments>,
     out: &mut W,
+    err: &mut E,
 ) -> Result<Status, RunFault>
-    ensures status { IfOk result (IsExplained (F.reported named.now.reporter.now named.now.name.now) named.now.denied (R.left script.old) (record { before = W.taken out.old; after = W.taken out.new })) }
     ensures few { IfOk result IsOfAnswer }
-    ensures reason { IfErr result (IsReason (R.has_failed script.new) false (W.has_failed out.new)) }
+    ensures explained { IfOk result (IsExplainedAt (O.known session.now.files.now) session.now.request.now path.now (is_some plain)
+        (record { before = W.taken out.old; after = W.taken out.new })
+        (record { before = E.taken err.old; after = E.taken err.new })) }
+{
+    let inputs = inputs_of(session, path)?;
+    let style = session.style();
+    let named = Named {
+        alloc: session.alloc(),
+        reporter: &style,
+        name: session.request.name_of(path),
+        parts: &[],
+        plain,
+    };
+    explain_inputs(&named, &inputs, session.request.denied, out, err)
+}
+
+/// Reads the script at the path, and the certificate, if one is given. Both are open before one is read.
+pub fn inputs_of<R: Input + AllocGlobal, O: Opener, F>(
+    session: &Session<R, O, F>,
+    path: &str,
+) -> Result<Inputs, RunFault>
+    ensures text { IfOk result (λ inputs. IsRead 1048577 (known_bytes (O.known session.now.files.now) path.now) inputs.text.items) }
+    ensures given { IfOk result (λ inputs. IsGiven (O.known session.now.files.now) (certificate_of session.now.request.now)
+        (option_map (λ bytes. bytes.items) inputs.certificate)) }
+    ensures reason { IfErr result (IsReason (O.known session.now.files.now) (certificate_of session.now.request.now) path.now) }
+{
+    if path == "-" {
+        return read_inputs(session, &mut FromRead::new(session.rt.reader()));
+    }
+    match session.files.open(path) {
+        Ok(mut script) => read_inputs(session, &mut script),
+        Err(_) => Err(RunFault::Read(InputOf::Script)),
+    }
+}
+
+/// The same, where the script is open.
+fn read_inputs<R: AllocGlobal, O: Opener, F, S: Source>(
+    session: &Session<R, O, F>,
+    script: &mut S,
+) -> Result<Inputs, RunFault>
+    ensures text { IfOk result (λ inputs. IsRead 1048577 (S.left script.old) inputs.text.items) }
+    ensures given { IfOk result (λ inputs. IsGiven (O.known session.now.files.now) (certificate_of session.now.request.now)
+        (option_map (λ bytes. bytes.items) inputs.certificate)) }
+    ensures reason { IfErr result (IsReasonOf (O.known session.now.files.now) (certificate_of session.now.request.now) (IsTrue (S.has_failed script.new))) }
+{
+    let alloc = session.alloc();
+    let Some(path) = session.request.certificate else {
+        let text = read_script(alloc, script)?;
+        return Ok(Inputs {
+            text,
+            certificate: None,
+        });
+    };
+    let Ok(mut certificate) = session.files.open(path) else {
+        return Err(RunFault::Read(InputOf::Certificate));
+    };
+    let text = read_script(alloc, script)?;
+    let certificate = Some(read_certificate(alloc, &mut certificate)?);
+    Ok(Inputs { text, certificate })
+}
+
+/// Explains what was read, writes what is said of it, and answers the exit status: that of the explanation, which is `Rejected` where
+/// the script is accepted and has what is denied. Where a plain spelling is asked for, it is `Refused` for an accepted script without one.
+pub fn explain_inputs<F: Reporter, W: Sink, E: Sink>(
+    named: &Named<F>,
+    inputs: &Inputs,
+    denied: Denied,
+    out: &mut W,
+    err: &mut E,
+) -> Result<Status, RunFault>
+    ensures few { IfOk result IsOfAnswer }
+    ensures explained { IfOk result (IsExplained (is_some named.now.plain) (F.reported named.now.reporter.now named.now.name.now)
+        inputs.now.text.items (option_map (λ bytes. bytes.items) inputs.now.certificate) denied
+        (record { before = W.taken out.old; after = W.taken out.new })
+        (record { before = E.taken err.old; after = E.taken err.new })) }
+    ensures reason { IfErr result (λ why. why ≡ fault.OutOfMemory
+        ⊎ ((why ≡ fault.Write) × IsTrue (W.has_failed out.new))) }
     ensures kept { IfErr result (λ why. why ≢ fault.Write → Keeps (W.taken out.old) (W.taken out.new)) }
 {
-    let text = read_script(named.alloc, script)?;
-    let (report, status) = report_of(named, &text, None)?;
-    written(out, &report, status)
-}
-
-/// Reads a script and a certificate, writes the report on both, and answers its exit status.
-pub fn explain_with<F: Reporter, R: Source, C: Source, W: Sink>(
-    named: &Named<F>,
-    script: &mut R,
-    cert: &mut C,
-    out: &mut W,
-) -> Result<Status, RunFault>
-    ensures status { IfOk result (IsExplainedWith (F.reported named.now.reporter.now named.now.name.now) named.now.denied (R.left script.old) (C.left cert.old) (record { before = W.taken out.old; after = W.taken out.new })) }
-    ensures few { IfOk result IsOfAnswer }
-    ensures reason { IfErr result (IsReason (R.has_failed script.new) (C.has_failed cert.new) (W.has_failed out.new)) }
-    ensures kept { IfErr result (λ why. why ≢ fault.Write → Keeps (W.taken out.old) (W.taken out.new)) }
-{
-    let text = read_script(named.alloc, script)?;
-    let bytes = read_certificate(named.alloc, cert)?;
-    let (report, status) = report_of(named, &text, Some(&bytes))?;
-    written(out, &report, status)
-}
-
-/// The report on what was read, and its exit status.
-fn report_of<F: Reporter>(
-    named: &Named<F>,
-    text: &[u8],
-    certificate: Option<&[u8]>,
-) -> Result<(Vec<u8>, Status), AllocError>
-    ensures few { IfOk result (λ made. IsOfAnswer made.1) }
-    ensures report { IfOk result (λ made. IsReport (F.reported named.now.reporter.now named.now.name.now) text.now (option_map (λ bytes. bytes.now) certificate.entry) named.now.denied made.0.items made.1) }
-{
-    let Named {
-        alloc,
-        reporter,
-        name,
-        denied,
-    } = named;
-    let explanation = explain(*alloc, own_path(name), text, certificate, *denied)?;
-    let status = explanation.status;
-    Ok((reporter.report(*alloc, name, &explanation)?, status))
+    let certificate = inputs.certificate.as_deref();
+    let own = own_path(named.name);
+    let explanation = explain(named.alloc, own, &inputs.text, certificate, denied)?;
+    deliver(named, &explanation, out, err)
 }
 
 /// The path of the script's own file, unless the name is that of standard input.
-pub(crate) fn own_path(name: &str) -> Option<&[u8]> {
-    if name == "-" {
-        None
-    } else {
-        Some(name.as_bytes())
-    }
-}
-
-/// Writes the report, and answers the status.
-fn written<W: Sink>(out: &mut W, report: &[u8], status: Status) -> Result<Status, RunFault>
-    ensures status { IfOk result (λ answered. answered ≡ status) }
-    ensures whole { OnOk result (Appends (W.taken out.old) (W.taken out.new) report.now) }
-    ensures fault { IfErr result (λ why. (why ≡ fault.Write) × IsTrue (W.has_failed out.new)) }
-{
-    match write_all(out, report) {
-        Ok(()) => Ok(status),
-        Err(_) => Err(RunFault::Write),
-    }
+fn own_path(name: &str) -> Option<&[u8]> {
+    (name != "-").then_some(name.as_bytes())
 }

@@ -2,9 +2,11 @@
 
 ghost use Rattle.std.specs.Prelude.{None};
 
-use crate::explaining::Reporter;
+use sedck_calls_in_files::{Look, Reporter};
 use sedck_explanation::{Explanation, Level};
-use sedck_formats::{Names, gcc_report, json_report, sarif_report, shown_path, text_report};
+use sedck_formats::{
+    Names, PartName, gcc_report, json_report, sarif_report, shown_path, text_report,
+};
 use sedck_page::{dot_report, html_report};
 use sedck_plain::Comments;
 use std::alloc::{AllocError, Global};
@@ -32,7 +34,7 @@ pub enum Format {
 pub const NAMES: &[&str] = &["text", "gcc", "json", "sarif", "html", "dot", "sed"];
 
 impl Format {
-    ghost use Rattle.std.specs.Prelude.{◌≡◌, codes};
+    ghost use Rattle.std.specs.Prelude.{◌≡◌, is_some, codes};
     ghost use Rattle.std.specs.Str.{bytes_eq};
     ghost use Rattle.sedck_explain_cli.specs.Requests.{is_plain, is_some_plain};
 
@@ -59,11 +61,29 @@ impl Format {
         matches!(self, Format::Sed)
     }
 
+    /// Whether it is written so, and with these comments.
+    pub(crate) fn plain(self, comments: Comments) -> Option<Comments>
+        ensures { is_some result ≡ is_plain self }
+    {
+        if self.is_plain() {
+            Some(comments)
+        } else {
+            None
+        }
+    }
+
     /// Whether the report of several scripts is the reports of each, one after another.
     pub fn takes_several(self) -> bool {
+        self.look(false).is_some()
+    }
+
+    /// How the reports on calls in files look in it, where it takes several scripts.
+    pub(crate) fn look(self, colour: bool) -> Option<Look> {
         match self {
-            Format::Text | Format::Gcc | Format::Json => true,
-            Format::Sarif | Format::Html | Format::Dot | Format::Sed => false,
+            Format::Text => Some(Look::Text { colour }),
+            Format::Gcc => Some(Look::Gcc),
+            Format::Json => Some(Look::Json),
+            Format::Sarif | Format::Html | Format::Dot | Format::Sed => None,
         }
     }
 
@@ -86,8 +106,6 @@ pub struct Style {
     pub colour: bool,
     /// The least level of findings that are reported.
     pub least: Level,
-    /// Whether the plain spelling of a script has its comments.
-    pub comments: Comments,
 }
 
 impl Reporter for Style {
@@ -98,11 +116,21 @@ impl Reporter for Style {
         &self,
         alloc: Global,
         name: &str,
+        parts: &[PartName],
         explanation: &Explanation,
     ) -> Result<Vec<u8>, AllocError> {
-        let shown = shown_path(alloc, name)?;
-        let exact = Names::of_file(name);
-        self.rendered(alloc, exact, Names::of_file(shown.as_str()), explanation)
+        let path = shown_path(alloc, name)?;
+        let exact = Names::of_call(name, parts);
+        let shown = Names::of_call(path.as_str(), parts);
+        match self.format {
+            Format::Text => text_report(alloc, shown, explanation, self.least, self.colour),
+            Format::Sed => text_report(alloc, shown, explanation, self.least, false),
+            Format::Gcc => gcc_report(alloc, shown, explanation, self.least),
+            Format::Json => json_report(alloc, exact, explanation, self.least),
+            Format::Sarif => sarif_report(alloc, exact, explanation, self.least),
+            Format::Html => html_report(alloc, shown, explanation, self.least),
+            Format::Dot => dot_report(alloc, shown, explanation),
+        }
     }
 }
 
@@ -112,25 +140,6 @@ impl Style {
         match self.format {
             Format::Json | Format::Sarif => String::from_str(alloc, path),
             _ => shown_path(alloc, path),
-        }
-    }
-
-    /// The report in the format, with the exact names and those that can be shown.
-    pub(crate) fn rendered(
-        &self,
-        alloc: Global,
-        exact: Names,
-        shown: Names,
-        explanation: &Explanation,
-    ) -> Result<Vec<u8>, AllocError> {
-        match self.format {
-            Format::Text => text_report(alloc, shown, explanation, self.least, self.colour),
-            Format::Sed => text_report(alloc, shown, explanation, self.least, false),
-            Format::Gcc => gcc_report(alloc, shown, explanation, self.least),
-            Format::Json => json_report(alloc, exact, explanation, self.least),
-            Format::Sarif => sarif_report(alloc, exact, explanation, self.least),
-            Format::Html => html_report(alloc, shown, explanation, self.least),
-            Format::Dot => dot_report(alloc, shown, explanation),
         }
     }
 }

@@ -1,6 +1,6 @@
 //! The program `sedck-explain`, but for its streams: what its arguments ask for, read and explained, with the report written.
 //!
-//! `explain_alone` and `explain_with` explain a script, alone or with a certificate, `explain_all` several scripts, `explain_words` and
+//! `inputs_of` reads a script and its certificate, and `explain_inputs` explains them, `explain_all` several scripts, `explain_words` and
 //! `explain_call` a call of sed, and `program` does what the arguments ask for. Their exit status is proved to be that of what is said of
 //! what was read: of several scripts and of all calls in files the one that tells most.
 #![tactic(auto)]
@@ -9,7 +9,6 @@ mod calls;
 mod command_line;
 mod explaining;
 mod format;
-mod plain;
 mod policy;
 mod reading;
 mod request;
@@ -20,12 +19,13 @@ mod unexplained;
 mod words;
 
 pub use calls::explain_words;
-pub use command_line::{explain_all, explain_call, flushed, program, program_over};
-pub use explaining::{Named, Reporter, explain_alone, explain_with};
+pub use command_line::{
+    System, explain_all, explain_call, flushed, program, program_over, spell_script,
+};
+pub use explaining::{Inputs, explain_inputs, inputs_of};
 pub use format::{Format, NAMES, Style};
-pub use plain::{spell, spell_script};
 pub use request::{Request, request_of};
-pub use sedck_calls_in_files::{out_of_memory, unwritten};
+pub use sedck_calls_in_files::{Named, Reporter, deliver, out_of_memory, unwritten};
 pub use sedck_explanation::{Denied, Level, Status};
 pub use session::Session;
 pub use words::{Words, arguments};

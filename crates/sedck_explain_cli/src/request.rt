@@ -2,10 +2,10 @@
 
 ghost use Rattle.std.specs.Prelude.{◌≡◌, map, IfOk, option_map};
 ghost use Rattle.sedck_explain_cli.specs.Readings.{texts_of};
-ghost use Rattle.sedck_explain_cli.specs.Requests.{IsRequest, denied_by, warnings_by, is_denied_code, has_bytes, is_plain, is_some_plain, is_plain_name, paths_of};
+ghost use Rattle.sedck_explain_cli.specs.Requests.{IsRequest, denied_by, warnings_by, is_denied_code, has_bytes, is_plain, is_plain_name, paths_of};
 
-use crate::format::{Format, NAMES, Style};
-use crate::policy::{DENIALS, WARNINGS};
+use crate::format::{Format, NAMES};
+use crate::policy::{DENIALS, FIRST_CODE};
 use crate::reading::{Reading, is_among, read_words};
 use crate::sets::{AUTOCONF, SETS};
 use clap::{Arg, ArgAction, ArgMatches, Command, Error};
@@ -49,23 +49,9 @@ pub struct Request<'a> {
 }
 
 impl Request<'_> {
-    ghost use Rattle.std.specs.Prelude.{◌≡◌};
-
     /// The name in reports of the script at the path.
     pub(crate) fn name_of<'b>(&'b self, path: &'b str) -> &'b str {
         if path == "-" { self.stdin_name } else { path }
-    }
-
-    /// How reports look.
-    pub fn style(&self, colour: bool) -> Style
-        ensures { result.format ≡ self.now.format }
-    {
-        Style {
-            format: self.format,
-            colour,
-            least: self.least,
-            comments: self.comments,
-        }
     }
 }
 
@@ -109,16 +95,10 @@ fn format_of(name: Option<&str>) -> Format
     ensures { is_plain result ≡ is_plain_name (option_map (λ name. name.now) name.entry) }
 {
     match name {
-        Some(name) => format_or_text(Format::named(name)),
-        None => Format::Text,
-    }
-}
-
-fn format_or_text(format: Option<Format>) -> Format
-    ensures { is_plain result ≡ is_some_plain format }
-{
-    match format {
-        Some(format) => format,
+        Some(name) => match Format::named(name) {
+            Some(format) => format,
+            None => Format::Text,
+        },
         None => Format::Text,
     }
 }
@@ -176,7 +156,7 @@ fn number_of(word: &str) -> usize {
     word.parse::<usize>().unwrap_or(0)
 }
 
-/// The values of variables, and after them those of sets. What has no `=` is the name of a variable that isn't set.
+/// The values of variables, and after them those of sets.
 fn assumed_of<'a>(alloc: Global, matches: &ArgMatches<'a>) -> Result<Vec<Assumed<'a>>, AllocError> {
     let mut assumed = Vec::new(alloc);
     if let Some(words) = matches.get_strs("assume") {
@@ -198,17 +178,15 @@ fn add_set(assumed: &mut Vec<Assumed>) -> Result<(), AllocError> {
     Ok(())
 }
 
-/// What is assumed by the word.
+/// What is assumed by the word. What has no `=` is the name of a variable that isn't set.
 fn assumed_by(word: &str) -> Assumed<'_> {
-    match word.split_once('=') {
-        Some((name, value)) => Assumed {
-            name: name.as_bytes(),
-            value: Some(value.as_bytes()),
-        },
-        None => Assumed {
-            name: word.as_bytes(),
-            value: None,
-        },
+    let (name, value) = match word.split_once('=') {
+        Some((name, value)) => (name, Some(value.as_bytes())),
+        None => (word, None),
+    };
+    Assumed {
+        name: name.as_bytes(),
+        value,
     }
 }
 
@@ -294,8 +272,8 @@ enum Takes {
     Nothing,
     Value(&'static str),
     OneOf(&'static str, &'static [&'static str]),
-    /// Some of these, with commas between, each time that it is given.
-    SomeOf(&'static str, &'static [&'static str]),
+    /// Some denials, from the one at this place on, with commas between, each time that it is given.
+    Denials(&'static str, usize),
     /// A value each time that it is given.
     Each(&'static str),
 }
@@ -332,12 +310,12 @@ static CHOICES: [Choice; 15] = [
     },
     Choice {
         name: "deny",
-        takes: Takes::SomeOf("WHAT", DENIALS),
+        takes: Takes::Denials("WHAT", 0),
         help: "What makes an accepted script end with status 1; several have commas\nbetween, or an option each [reads, writes, warnings, unbounded,\ngrowing, slow, references]; or the code of a warning",
     },
     Choice {
         name: "allow",
-        takes: Takes::SomeOf("CODE", WARNINGS),
+        takes: Takes::Denials("CODE", FIRST_CODE),
         help: "Warnings that --deny leaves alone, by their codes; they are reported\nas ever",
     },
     Choice {
@@ -423,9 +401,9 @@ fn option<'a>(alloc: Global, choice: &Choice) -> Result<Arg<'a>, AllocError> {
             .value_name(value)
             .value_parser(names)
             .overrides_with(choice.name),
-        Takes::SomeOf(value, names) => Ok(
+        Takes::Denials(value, first) => Ok(
             arg.value_name(value)
-                .value_parser(names)
+                .value_parser(DENIALS.get(first..).unwrap_or(DENIALS))
                 .value_delimiter(',')
                 .action(ArgAction::Append),
         ),

@@ -29,6 +29,10 @@ impl<R: AllocGlobal, O, F> Session<'_, '_, '_, R, O, F> {
     pub(crate) fn style(&self) -> Style
         ensures { result.format ≡ self.now.request.now.format }
     {
-        self.request.style(self.colour)
+        Style {
+            format: self.request.format,
+            colour: self.colour,
+            least: self.request.least,
+        }
     }
 }

@@ -4,11 +4,18 @@ ghost use Rattle.std.specs.Prelude.{◌≡◌};
 
 use crate::format::Format;
 use crate::session::Session;
-use sedck_calls_in_files::{NOT_UTF_8, Unread, ended, out_of_memory, unwritten, why_unread};
+use sedck_calls_in_files::{NOT_UTF_8, Unread, end, ended, why_unread};
 use sedck_cert::streams::{Sink, write_all};
 use sedck_engines::{Input, Opener, RunFault};
 use sedck_explanation::{Status, Unexplained};
 use sedck_formats::{json_unreadable, sarif_unreadable};
+
+/// Reports what is wrong with the words of the command line, and answers the exit status.
+pub(crate) fn misused<E: Sink>(err: &mut E, words: &[u8]) -> Status
+    ensures { result ≡ Status.Misused }
+{
+    end(err, words, Status::Misused)
+}
 
 /// Reports why a call isn't explained, and answers the exit status.
 pub(crate) fn report_unexplained<R: AllocGlobal, O: Opener, F, W: Sink, E: Sink>(
@@ -30,43 +37,28 @@ pub(crate) fn report_unexplained<R: AllocGlobal, O: Opener, F, W: Sink, E: Sink>
     }
 }
 
-/// Reports why a script couldn't be explained. Whether the next one follows: after a failed write, or where memory runs out, none does.
-pub(crate) fn is_followed<R: AllocGlobal, O: Opener, F, W: Sink, E: Sink>(
+/// Reports why a script isn't explained. Whether the next one may follow: after a failed write, or where memory runs out, none does.
+pub(crate) fn report_fault<R: AllocGlobal, O: Opener, F, W: Sink, E: Sink>(
     session: &Session<R, O, F>,
     path: &str,
     fault: RunFault,
     out: &mut W,
     err: &mut E,
 ) -> bool {
-    let RunFault::Read(input) = fault else {
-        let _ = report_fault(session, path, fault, err);
-        return false;
+    let reported = match fault {
+        RunFault::Read(input) => {
+            let unread = unread_of(session, path, input);
+            report_unread(session, unread, session.request.name_of(path), out, err)
+        }
+        RunFault::Write => Err(Unexplained::Write),
+        // Texts that are refused are reported, so that memory is all that is left.
+        _ => Err(Unexplained::OutOfMemory),
     };
-    let unread = unread_of(session, path, input);
-    match report_unread(session, unread, session.request.name_of(path), out, err) {
+    match reported {
         Ok(()) => true,
         Err(fault) => {
             let _ = ended(err, fault);
             false
-        }
-    }
-}
-
-/// Reports why a script couldn't be explained, and answers the exit status. It takes no memory.
-pub(crate) fn report_fault<R, O: Opener, F, E: Sink>(
-    session: &Session<R, O, F>,
-    path: &str,
-    fault: RunFault,
-    err: &mut E,
-) -> Status
-    ensures { result ≡ Status.Failed }
-{
-    match fault {
-        RunFault::Read(input) => unread_of(session, path, input).end(err),
-        RunFault::Write => unwritten(err),
-        // Texts that are refused are reported, so that memory is all that is left.
-        RunFault::Script(_) | RunFault::Certificate(_) | RunFault::OutOfMemory => {
-            out_of_memory(err)
         }
     }
 }

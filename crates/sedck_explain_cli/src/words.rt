@@ -18,34 +18,22 @@ pub struct Words {
 /// The words after the program's name.
 pub fn arguments<R: Env + AllocGlobal>(rt: &R) -> Result<Words, AllocError> {
     let mut own = Vec::new(rt.alloc());
+    let mut call: Option<Vec<Vec<u8>>> = None;
     let mut is_call = false;
     for index in 1..usize::MAX {
         let Some(bytes) = argument(rt, index)? else {
             break;
         };
-        if is_call && bytes.as_slice() == b"--".as_slice() {
-            let call = Some(arguments_after(rt, index)?);
-            return Ok(Words { own, call });
+        if let Some(words) = &mut call {
+            words.push(bytes)?;
+        } else if is_call && bytes.as_slice() == b"--".as_slice() {
+            call = Some(Vec::new(rt.alloc()));
+        } else {
+            is_call = is_call || bytes.as_slice() == b"--sed".as_slice();
+            own.push(decoded(rt.alloc(), &bytes)?)?;
         }
-        is_call = is_call || bytes.as_slice() == b"--sed".as_slice();
-        own.push(decoded(rt.alloc(), &bytes)?)?;
     }
-    Ok(Words { own, call: None })
-}
-
-/// The words after that of this number, as they are.
-fn arguments_after<R: Env + AllocGlobal>(
-    rt: &R,
-    number: usize,
-) -> Result<Vec<Vec<u8>>, AllocError> {
-    let mut words = Vec::new(rt.alloc());
-    for index in number.saturating_add(1)..usize::MAX {
-        let Some(bytes) = argument(rt, index)? else {
-            break;
-        };
-        words.push(bytes)?;
-    }
-    Ok(words)
+    Ok(Words { own, call })
 }
 
 /// The bytes of a word, if there are so many words.

@@ -1,18 +1,22 @@
-use Rattle.std.proofs.Common.{◌≡◌, ◌≢◌, ◌∙◌, ◌+◌, map, take, sym, ap, subst}
+use Rattle.std.proofs.Common.{◌≡◌, ◌≢◌, ◌∙◌, ◌+◌, map, take, refl, sym, ap, subst, inl}
 use Rattle.std.specs.Io.KnownBytes.{Keeps}
+use Rattle.std.proofs.KnownBytes.{Keeps-trans}
 use Rattle.sedck_answer.specs.Status.{worse}
 use Rattle.sedck_answer.specs.declared.status.Status.TheVariants.{Accepted, Misused, Failed, Unknown}
 use Rattle.sedck_calls_in_files.specs.Scanned.{IsWorstOf}
 use Rattle.sedck_explain_cli.specs.Statuses.{StatusAt}
 use Rattle.sedck_explain_cli.proofs.Greatest.{worst_item, worse_has, failed_stays}
+use Rattle.sedck_explain_cli.proofs.Spelled.{report_status}
 use Rattle.sedck_explain_cli.proofs.command_line.explain_all.Goals as goal
-use Rattle.sedck_explain_cli.proofs.command_line.explain_all.Goals.{in-Ok, in-Err+else-not-is_followed}
+use Rattle.sedck_explain_cli.proofs.command_line.explain_all.Goals.{in-Ok, in-Err+else-not-report_fault}
 
 pub loop-path-preserved : goal.loop-path-preserved
 loop-path-preserved g c =
     let before = c.loop-path.invariant in
-    let paths = c.args.session.now.request.now.scripts.items in
-    let Has = StatusAt (g.O.Opener.known c.args.session.now.files.now) c.args.session.now.request.now in
+    let k = g.O.Opener.known c.args.session.now.files.now in
+    let request = c.args.session.now.request.now in
+    let paths = request.scripts.items in
+    let Has = StatusAt k request in
     elim c.match-explain_path.branch [
       | in-Ok w ↦
           let one = w.in-Ok.one in
@@ -26,10 +30,12 @@ loop-path-preserved g c =
                 (worse_has (λ s. s ≢ Misused) c.loop-path.status one before.known w.in-Ok.ensures.few.0);
             greatest = λ whole. subst (IsWorstOf Has Accepted (map (λ path. path.now) (take (c.loop-path.path-index + 1) paths))) (sym is)
                 (worst_item Has (λ path. path.now) c.deref-path-items.result.now paths c.loop-path.path-index c.loop-path.status one _
-                c.deref-path-items.ensures.value c.loop-path-test.true (before.greatest (not_failed whole)) w.in-Ok.ensures.status);
-            silent = λ whole. subst (λ err. Keeps (g.E.Sink.taken c.args.err.now) (g.E.Sink.taken err)) (sym w.err-is) (before.silent (not_failed whole));
+                c.deref-path-items.ensures.value c.loop-path-test.true (before.greatest (not_failed whole))
+                (report_status k request _ _ _ one w.in-Ok.ensures.explained));
+            silent = λ whole. subst (λ err. Keeps (g.E.Sink.taken c.args.err.now) (g.E.Sink.taken err)) (sym w.err-is)
+                (Keeps-trans _ _ _ (before.silent (not_failed whole)) (w.in-Ok.ensures.explained.is_explained.silent (inl refl)));
           }
-      | in-Err+else-not-is_followed w ↦ record {
+      | in-Err+else-not-report_fault w ↦ record {
         within = λ unknown. let clash : Failed ≡ Unknown = sym w.status-is ∙ unknown in cc clash;
         known = λ misused. let clash : Failed ≡ Misused = sym w.status-is ∙ misused in cc clash;
         greatest = λ whole. absurd {A = IsWorstOf Has Accepted (map (λ path. path.now) (take (c.loop-path.path-index + 1) paths)) c.match-explain_path.status} (whole w.status-is);

@@ -1,9 +1,8 @@
-use Rattle.sedck_calls_in_files.proofs.Contents.{open_status}
+use Rattle.sedck_explanation.proofs.Answering.{on_ok}
+use Rattle.sedck_calls_in_files.proofs.Contents.{held_status}
 use Rattle.sedck_calls_in_files.proofs.walk.Walk.visit_path.Goals as goal
 
-pub returns-in-Ok : goal.returns-in-Ok
-returns-in-Ok g c =
-    open_status (g.O.Opener.known c.args.self.now.files.now) (g.O.File.Source.left c.in-Ok.file)
-    (g.O.File.Source.has_failed c.visit_source-in-Ok.new.source) (g.F.Finder.found c.args.self.now.finder.now) c.args.self.now.scan.now.denied
-    c.args.path.now c.eq.result c.visit_source-in-Ok.result c.eq.ensures c.if-eq.false c.in-Ok.ensures.bytes
-    (c.open.ensures.failing c.visit_source-in-Ok.new.source) c.visit_source-in-Ok.ensures
+pub returns : goal.returns
+returns g c = on_ok _ _ c.explain.result
+    (λ status has. held_status (g.O.Opener.known c.args.self.now.files.now) (g.F.Finder.found c.args.self.now.finder.now) c.args.self.now.scan.now.denied
+    c.args.path.now c.in_ok-contents.contents status c.in_ok-contents.ensures has) c.explain.ensures
