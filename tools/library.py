@@ -6,6 +6,7 @@ here: `rt` takes none of these for its other commands without its own mark, so t
 mark that `rt` would give it. The functions for memory (library/heap.c) are compiled by CC, and added. The status is 0 only where the library
 is in place.
 """
+import functools
 import importlib.util
 import os
 import shlex
@@ -36,19 +37,28 @@ def of_toolchain(rt):
     return module
 
 
+def mark(rt: str, tree: Path, names: list[str]) -> None:
+    """Gives the libraries that `rt ci` has built in a tree the marks without which the other commands of `rt` take none of them."""
+    rtlib = of_toolchain(rt)
+    # A crate's mark is made of those below it: each is asked for many times.
+    rtlib.Crate.stamp = functools.cache(rtlib.Crate.stamp)
+    built = {}
+    for name in names:
+        here = tree / "crates" / name
+        # The file may be shared with another tree.
+        (here / "out" / "rlib" / "stamp").unlink(missing_ok=True)
+        (here / "out" / "rlib" / "stamp").write_text(rtlib.Crate(str(here), str(tree), built).stamp())
+
+
 def built_of_gate(rt):
     """Builds the library over the crates that the gate left; what is said where that fails, else nothing."""
     lacking = [name for name in below() if not (TOP / "crates" / name / "out" / "rlib").is_dir()]
     if lacking:
         return "library: the gate left no %s: run it first" % ", ".join(lacking)
-    rtlib = of_toolchain(rt)
     with prove.trees("prove-") as folder:
         room = folder / CRATE
         prove.fill(room, CRATE, below())
-        for name in below():
-            here = room / "crates" / name
-            (here / "out" / "rlib" / "stamp").unlink(missing_ok=True)
-            (here / "out" / "rlib" / "stamp").write_text(rtlib.Crate(str(here), str(room), {}).stamp())
+        mark(rt, room, below())
         status, printed = prove.called(shlex.split(rt) + ["lib"], room / "crates" / CRATE)
         if status:
             return "%slibrary: `rt lib` of %s ended with status %d" % (printed, CRATE, status)

@@ -9,9 +9,11 @@ refused. Tried are those of the crates that are behind, whose sum is another one
 crates that are named. With `--behind` nothing is tried: the crates that are behind are printed, and the status is 1 if there are any.
 
 What the crates need is proved first. Where `rt ci` takes names of crates it uses what the gate has kept on this machine; otherwise what is
-proved stays in the crates' folders, as for `make build`. Then as many crates are tried at a time as there are processors, each in a tree of
-its own, where the planted edits stand as those of the gate. The status is 0 only where each edit is refused, by more than a name that a
-proof has and the edit took away.
+proved stays in the crates' folders, as for `make build`. Then each crate is checked as it is, and each of its edits in a tree of its own over
+what that check kept: as many at a time as there are processors. All that `rt check` prints of an edit is kept in build/planted.
+
+An edit is refused only where something else is said of it than that a name is gone: a proof that cites a variable, a field or a call that the
+edit took away fails whatever the contract says. The status is 0 only where each edit is refused.
 """
 import hashlib
 import os
@@ -19,15 +21,20 @@ import re
 import shlex
 import shutil
 import sys
-from concurrent.futures import ThreadPoolExecutor, as_completed
+from concurrent.futures import FIRST_COMPLETED, ThreadPoolExecutor, wait
 from pathlib import Path
 
 import edits
+import library
 import prove
 
 TOP = Path(__file__).resolve().parent.parent
 LEDGER = TOP / "planted.sums"
-REFUSED = re.compile(r"^rt: must-fail \w+/(\S+)\.edit: refused, as it must be(?!.*names what the edit took away)", re.M)
+KEPT = TOP / "build" / "planted"
+# A line of `rt check` on a place of a file: an error, or a note that belongs to one.
+SAID = re.compile(r"(?:note: )?(?:\./)?\S+:\d+:\d+: ")
+# What it says of a proof that cites a name which the edit took away, and of the proofs that cite that one.
+NAME_IS_GONE = re.compile(r"(?:note: )?(?:\./)?proofs/.*(?:has no field|is not in scope|has no `|was not admitted|\(nearest: |which was rejected)")
 
 
 def planted(name: str) -> list[Path]:
@@ -75,58 +82,120 @@ def takes_names(rt):
     return re.search(r"\brt ci \[?NAME", prove.called(shlex.split(rt) + ["help"], TOP)[1]) is not None
 
 
-def in_tree(rt, verb, names, room, edits_of=()):
-    """What `rt` prints, and its status, of these crates in a tree with them and all that they need: with the planted edits of some."""
-    needs = prove.libraries()
-    prove.fill(room, names[-1], [name for name in prove.ordered(needs, names) if name != names[-1]])
-    for name in edits_of:
-        shutil.copytree(TOP / "crates" / name / "planted", room / "crates" / name / "must-fail")
-    try:
-        return prove.called(shlex.split(rt) + [verb] + names, room)
-    finally:
-        shutil.rmtree(room, ignore_errors=True)
-
-
-def proved(rt, verb, below, folder):
-    """Proves these crates; whether nothing failed."""
-    if verb == "must-fail":
-        return prove.Proving(rt, below, folder).run()
+def proved(rt, below, folder):
+    """Proves these crates; the tree in which their libraries are then, or nothing where that fails."""
+    if not takes_names(rt):
+        return TOP if prove.Proving(rt, below, folder).run() else None
+    tree = folder / "below"
+    prove.fill(tree, below[-1], below[:-1], None)
+    # `rt ci` runs at the top of a repository alone.
+    (tree / ".git").mkdir()
     os.environ["RT_JOBS"] = str(prove.lanes())
-    status, printed = in_tree(rt, verb, below, folder / "below")
+    status, printed = prove.called(shlex.split(rt) + ["ci"], tree)
     if status:
         print(printed, end="", flush=True)
-    return not status
+        return None
+    library.mark(rt, tree, below)
+    return tree
 
 
-def tried(rt, verb, name, room):
-    """Tries a crate's planted edits: what `rt` printed, and whether each was refused."""
-    status, printed = in_tree(rt, verb, [name], room, [name])
-    return printed, not status and sorted(REFUSED.findall(printed)) == sorted(edit.stem for edit in planted(name))
+def checked(rt, name, tree, room, kept=None, texts=None):
+    """What `rt check` ends with and prints of a crate in a tree of its own, over the libraries of another tree: with what an earlier check has
+    kept, and with other texts of some files."""
+    needs = prove.libraries()
+    prove.fill(room, name, [other for other in prove.ordered(needs, [name]) if other != name], tree)
+    crate = room / "crates" / name
+    if kept:
+        # What was proved is shared, since a check puts another file in the place of one that changes; all else is copied.
+        shutil.copytree(kept, crate / "out", symlinks=True, copy_function=lambda one, to: (os.link if one.endswith(".oantt") else shutil.copy2)(one, to))
+    for path, text in (texts or {}).items():
+        # The file is shared with the repository's.
+        (crate / path).unlink()
+        (crate / path).write_text(text)
+    return prove.called(shlex.split(rt) + ["check", "--jobs", "1"], crate)
+
+
+def verdict(status, printed):
+    """What a check of an edit came to: whether it was refused by more than a name that is gone, and what to say."""
+    said = [line for line in printed.splitlines() if SAID.match(line)]
+    said = [line for line in said if ": error" in line or line.startswith("note: ")] or said
+    if status == 0:
+        return False, "NOT REFUSED: the crate is proved with it"
+    if status != 1 or "logic=not-proved" not in printed:
+        return False, "NOT TRIED: `rt check` ended with status %d" % status
+    by_goal = [line for line in said if not NAME_IS_GONE.match(line)]
+    if said and not by_goal:
+        return False, "REFUSED ONLY SINCE A NAME IS GONE: " + said[0]
+    return True, "refused" + (": " + by_goal[0][:160] if by_goal else "")
+
+
+def tried(rt, name, edit, tree, folder):
+    """Tries one edit of a crate that was checked: whether it is refused, and what to say."""
+    room = folder / ("%s-%s" % (name, edit.stem))
+    texts = edits.edited(TOP / "crates" / name, edit)
+    try:
+        status, printed = checked(rt, name, tree, room, folder / name / "crates" / name / "out", texts)
+    finally:
+        shutil.rmtree(room, ignore_errors=True)
+    (KEPT / name).mkdir(parents=True, exist_ok=True)
+    (KEPT / name / (edit.stem + ".txt")).write_text(printed)
+    return verdict(status, printed)
+
+
+class Trying:
+    """Crates that are checked, and then their edits, as many at a time as there are processors."""
+
+    def __init__(self, rt, names, tree, folder):
+        self.rt, self.tree, self.folder = rt, tree, folder
+        # The sums are taken before, so that what is changed meanwhile counts as not tried.
+        self.sums = {name: sum_of(name) for name in names}
+        self.open = {name: {edit.stem for edit in planted(name)} for name in names}
+        self.failed = set()
+
+    def after_check(self, pool, name, result):
+        """The edits of a crate that was checked, by what tries them."""
+        status, printed = result
+        if status:
+            print("%splanted: %s isn't proved as it is" % (printed, name), flush=True)
+            self.failed.add(name)
+            return {}
+        return {pool.submit(tried, self.rt, name, edit, self.tree, self.folder): (name, edit.stem) for edit in planted(name)}
+
+    def after_edit(self, name, stem, result):
+        """Says what came of an edit; after the last one of a crate all of whose edits were refused, its sum is entered."""
+        is_refused, words = result
+        print("planted: %s/%s: %s" % (name, stem, words), flush=True)
+        self.open[name].discard(stem)
+        if not is_refused:
+            self.failed.add(name)
+        if not self.open[name]:
+            shutil.rmtree(self.folder / name, ignore_errors=True)
+            if name not in self.failed:
+                entered(name, self.sums[name])
+            print("planted: %s: %s" % (name, "NOT EACH WAS REFUSED" if name in self.failed else "each of %d was refused" % len(planted(name))), flush=True)
+
+    def run(self):
+        """Tries all; whether each edit was refused."""
+        largest = sorted(self.open, key=lambda name: -len(planted(name)) * prove.work_of(name))
+        with ThreadPoolExecutor(prove.lanes()) as pool:
+            running = {pool.submit(checked, self.rt, name, self.tree, self.folder / name): (name, None) for name in largest}
+            while running:
+                for future in wait(running, return_when=FIRST_COMPLETED).done:
+                    name, stem = running.pop(future)
+                    if stem is None:
+                        running |= self.after_check(pool, name, future.result())
+                    else:
+                        self.after_edit(name, stem, future.result())
+        return not self.failed
 
 
 def try_all(rt, names):
     """Tries the edits of these crates; whether each was refused."""
-    needs, failed = prove.libraries(), []
-    verb = "ci" if takes_names(rt) else "must-fail"
+    needs = prove.libraries()
     below = [name for name in prove.ordered(needs, names) if any(name in needs[other] for other in prove.ordered(needs, names))]
     with prove.trees("planted-") as folder:
-        if below and not proved(rt, verb, below, folder):
-            return False
-        # The sums are taken before, so that what is changed meanwhile counts as not tried.
-        sums = {name: sum_of(name) for name in names}
-        os.environ["RT_JOBS"] = "1"
-        largest = sorted(names, key=lambda name: -len(planted(name)) * prove.work_of(name))
-        with ThreadPoolExecutor(prove.lanes()) as pool:
-            running = {pool.submit(tried, rt, verb, name, folder / name): name for name in largest}
-            for future in as_completed(running):
-                name, (text, is_refused) = running[future], future.result()
-                print(text, end="", flush=True)
-                print("planted: %s: %s" % (name, "each of %d was refused" % len(planted(name)) if is_refused else "NOT EACH WAS REFUSED"), flush=True)
-                if is_refused:
-                    entered(name, sums[name])
-                else:
-                    failed.append(name)
-    return not failed
+        tree = proved(rt, below, folder) if below else TOP
+        return tree is not None and Trying(rt, names, tree, folder).run()
 
 
 def main():

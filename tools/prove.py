@@ -97,8 +97,8 @@ def held(folder):
         os.close(lock)
 
 
-def fill(room: Path, name: str, below: list[str]) -> None:
-    """Fills the tree in which a crate is proved, with it and the crates below it alone."""
+def fill(room: Path, name: str, below: list[str], built: Path | None = TOP) -> None:
+    """Fills the tree in which a crate is proved, with it and the crates below it alone; the libraries are those of the tree `built`, if any."""
     room.mkdir()
     shutil.copy(TOP / "HANDLES", room)
     rows = (TOP / "crates.txt").read_text().splitlines(True)
@@ -106,8 +106,8 @@ def fill(room: Path, name: str, below: list[str]) -> None:
     for other in below + [name]:
         for part in PARTS:
             share(TOP / "crates" / other / part, room / "crates" / other / part)
-    for other in below:
-        share(TOP / "crates" / other / "out" / "rlib", room / "crates" / other / "out" / "rlib")
+    for other in below if built else []:
+        share(built / "crates" / other / "out" / "rlib", room / "crates" / other / "out" / "rlib")
     share(TOP / "examples", room / "examples")
 
 
