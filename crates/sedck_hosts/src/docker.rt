@@ -1,9 +1,9 @@
 //! Dockerfiles: the commands of `RUN`, and those of `CMD`, `ENTRYPOINT` and `HEALTHCHECK`.
 
 use crate::host::Host;
-use crate::kind::{Kind, interpreter_kind, program_kind, split_last};
-use crate::parts::{Part, is_blank, lines_of};
-use sedck_origin::{Result, Unit, begins_with, is_among};
+use crate::kind::{Kind, interpreter_kind, program_kind, without_path};
+use crate::parts::{Part, is_blank};
+use sedck_origin::{Result, Unit, begins_with};
 use std::alloc::Global;
 
 /// A here-document of an instruction.
@@ -20,73 +20,64 @@ struct Here<'a> {
 #[derive(Drop)]
 struct Docker<'a> {
     alloc: Global,
-    file: &'a [u8],
     host: Host,
-    /// The instruction, or the text with a here-document.
-    units: Vec<Unit>,
-    /// Whether the next line continues the instruction.
-    is_continued: bool,
-    here: Option<Here<'a>>,
-    /// Whether the here-document is no shell text.
-    is_skipped: bool,
+    /// What isn't read yet, before a directive that changes how lines are continued.
+    rest: Part<'a>,
     /// Whether the commands are those of another shell.
     is_foreign: bool,
 }
 
 /// The shell text of a Dockerfile; none behind a directive that changes how lines are continued.
 pub(crate) fn host_of_docker(alloc: Global, file: &[u8]) -> Result<Host> {
+    let whole = Part::whole(file);
+    let unread = whole.after_lines(|line| !is_escape(line.bytes()));
     let mut docker = Docker {
         alloc,
-        file,
         host: Host::new(alloc),
-        units: Vec::new(alloc),
-        is_continued: false,
-        here: None,
-        is_skipped: false,
+        rest: whole.to(unread.start),
         is_foreign: false,
     };
-    let whole = Part::whole(file);
-    let lines = lines_of(alloc, file, false)?;
-    for line in &lines {
-        if is_escape(line.bytes()) {
-            docker.host.note_unread(whole.from(line.end))?;
-            return Ok(docker.host);
+    for _ in 0..file.len() {
+        if docker.rest.len() == 0 {
+            break;
         }
-        docker.read_line(*line)?;
+        docker.read_instruction()?;
     }
-    if docker.is_continued {
-        docker.end_instruction(whole)?;
-    }
+    docker.host.note(unread.mention_of_sed())?;
     Ok(docker.host)
 }
 
 impl<'a> Docker<'a> {
-    /// Reads a line.
-    fn read_line(&mut self, line: Part<'a>) -> Result<()> {
-        if let Some(here) = self.here {
-            return self.read_in_here(here, line);
+    /// Reads an instruction with the lines that continue it, among which comments and blank lines don't count. One that such a directive
+    /// cuts off isn't read.
+    fn read_instruction(&mut self) -> Result<()> {
+        let whole = Part::whole(self.rest.file);
+        let mut units = Vec::new(self.alloc);
+        let mut blanks = " \t";
+        for _ in 0..self.rest.len() {
+            let Some((line, rest)) = self.rest.split_line(false) else {
+                break;
+            };
+            self.rest = rest;
+            if line.is_ended() {
+                continue;
+            }
+            let joined = uncontinued(line);
+            joined.unwrap_or(line).after_any(blanks).push(&mut units)?;
+            if joined.is_none() {
+                return self.end_instruction(&units, line);
+            }
+            blanks = "";
         }
-        if line.is_ended() {
-            return Ok(());
+        if blanks.is_empty() && self.rest.end == whole.end {
+            return self.end_instruction(&units, whole);
         }
-        let (text, is_continued) = uncontinued(line);
-        let text = if self.is_continued {
-            text
-        } else {
-            text.after_blanks()
-        };
-        text.push(&mut self.units)?;
-        self.is_continued = is_continued;
-        if is_continued {
-            return Ok(());
-        }
-        self.end_instruction(line)
+        Ok(())
     }
 
     /// Ends an instruction, whose last line is given. Behind `ONBUILD` and `HEALTHCHECK` another one stands.
-    fn end_instruction(&mut self, line: Part<'a>) -> Result<()> {
-        let units = std::mem::replace(&mut self.units, Vec::new(self.alloc));
-        let mut rest: &[Unit] = &units;
+    fn end_instruction(&mut self, units: &[Unit], line: Part<'a>) -> Result<()> {
+        let mut rest = units;
         for _ in 0..3 {
             let Some(Unit::Byte(_, offset)) = rest.first() else {
                 break;
@@ -104,9 +95,10 @@ impl<'a> Docker<'a> {
             if is("SHELL") {
                 self.is_foreign = is_foreign(words);
             }
-            if is("COPY") || is("ADD") {
-                self.here = here_of(rest, line);
-                self.is_skipped = true;
+            if (is("COPY") || is("ADD"))
+                && let Some(here) = here_of(rest, line)
+            {
+                self.take_here(here, &mut Vec::new(self.alloc))?;
             }
             if !is("ONBUILD") && !is("HEALTHCHECK") {
                 break;
@@ -115,55 +107,44 @@ impl<'a> Docker<'a> {
         Ok(())
     }
 
-    /// Reads the command of `RUN`, behind whose last line a here-document may stand.
+    /// Reads the command of `RUN`, behind whose last line a here-document may stand. A text with one isn't shell text if another
+    /// interpreter's name is at its beginning.
     fn read_run(&mut self, command: &[Unit], line: Part<'a>) -> Result<()> {
-        self.here = here_of(command, line);
-        self.is_skipped = false;
-        match self.here {
-            None => self.add(command),
-            Some(here) if here.is_script => Ok(()),
-            Some(_) => {
-                self.units.extend_from_slice(command)?;
-                line.push_newline(&mut self.units)
-            }
-        }
-    }
-
-    /// Reads a line of a here-document.
-    fn read_in_here(&mut self, here: Here<'a>, line: Part<'a>) -> Result<()> {
-        let stripped = if here.is_stripped {
-            line.after_any("\t")
-        } else {
-            line
+        let Some(here) = here_of(command, line) else {
+            return self.add(command);
         };
-        let is_last = stripped.bytes() == here.delimiter;
-        if is_last {
-            self.here = None;
-        }
-        if self.is_skipped {
-            return Ok(());
-        }
+        let mut units = Vec::new(self.alloc);
         if !here.is_script {
-            line.push(&mut self.units)?;
-        } else if !is_last {
-            stripped.push(&mut self.units)?;
+            units.extend_from_slice(command)?;
+            line.push_newline(&mut units)?;
         }
-        if is_last {
-            return self.end_text();
+        if self.take_here(here, &mut units)? && !has_other_interpreter(line.file, &units) {
+            self.add(&units)?;
         }
-        line.push_newline(&mut self.units)
+        Ok(())
     }
 
-    /// Ends a text with a here-document; one with another interpreter's name at its beginning isn't shell text.
-    fn end_text(&mut self) -> Result<()> {
-        let units = std::mem::replace(&mut self.units, Vec::new(self.alloc));
-        if let Some(Unit::Byte(b'#', offset)) = units.first() {
-            let text = Part::whole(self.file).from(*offset);
-            if text.starts_with("#!") && interpreter_kind(text.bytes()) != Some(Kind::Shell) {
-                return Ok(());
+    /// Takes the lines of a here-document off what isn't read, and adds them; answers whether it is ended. The last line is added only
+    /// where the instruction is.
+    fn take_here(&mut self, here: Here<'a>, units: &mut Vec<Unit>) -> Result<bool> {
+        for _ in 0..self.rest.len() {
+            let Some((line, rest)) = self.rest.split_line(false) else {
+                break;
+            };
+            self.rest = rest;
+            let stripped = line.after_any(if here.is_stripped { "\t" } else { "" });
+            let text = if here.is_script { stripped } else { line };
+            if stripped.bytes() != here.delimiter {
+                text.push(units)?;
+                line.push_newline(units)?;
+                continue;
             }
+            if !here.is_script {
+                text.push(units)?;
+            }
+            return Ok(true);
         }
-        self.add(&units)
+        Ok(false)
     }
 
     /// Adds a command, unless another shell reads it.
@@ -171,9 +152,7 @@ impl<'a> Docker<'a> {
         if self.is_foreign {
             return Ok(());
         }
-        let mut units = Vec::new(self.alloc);
-        units.extend_from_slice(command)?;
-        self.host.add(units)
+        self.host.add(command.to_vec(self.alloc)?)
     }
 
     /// Reads a command that is a list of JSON's, and answers whether it is one: no shell reads that, so each of its strings is a word between
@@ -202,7 +181,7 @@ impl<'a> Docker<'a> {
             self.host.add(units)?;
         } else {
             let start = command.first().map_or(line.end, |unit| unit.start());
-            self.host.note_name(line.from(start))?;
+            self.host.note(line.from(start).name_of_sed())?;
         }
         Ok(true)
     }
@@ -210,8 +189,7 @@ impl<'a> Docker<'a> {
 
 /// The units without the word that begins them, and without the blanks behind it.
 fn after_first(units: &[Unit]) -> &[Unit] {
-    let blanks = until_blank(units, true);
-    until_blank(blanks, false)
+    until_blank(until_blank(units, true), false)
 }
 
 /// The units from the first on that is a blank, or that is none.
@@ -223,38 +201,39 @@ fn until_blank(units: &[Unit], is_blank: bool) -> &[Unit] {
 
 /// The units without the options before a command.
 fn after_options(units: &[Unit]) -> &[Unit] {
-    let mut rest = units;
-    for _ in 0..32 {
-        if !begins_with(rest, "--") {
-            break;
-        }
-        rest = after_first(rest);
-    }
-    rest
+    (0..32).fold(units, |rest, _| match begins_with(rest, "--") {
+        true => after_first(rest),
+        false => rest,
+    })
 }
 
 /// Whether the words of `SHELL` name another shell than one of POSIX's.
 fn is_foreign(words: Part) -> bool {
     let first = words.from_any("\"").skip(1);
     let behind = first.from_any("\"");
-    let (_, name) = split_last(first.before(behind), b'/');
+    let name = without_path(first.before(behind));
     behind.len() == 0 || program_kind(name) != Some(Kind::Shell)
+}
+
+/// Whether another interpreter than a shell is named at the beginning of a text.
+fn has_other_interpreter(file: &[u8], units: &[Unit]) -> bool {
+    units.first().is_some_and(|unit| {
+        let text = Part::whole(file).from(unit.start());
+        text.starts_with("#!") && interpreter_kind(text.bytes()) != Some(Kind::Shell)
+    })
 }
 
 /// The first here-document of an instruction with this last line. It is shell text by itself if nothing else stands in the instruction.
 fn here_of<'a>(units: &[Unit], line: Part<'a>) -> Option<Here<'a>> {
-    let mut before = b' ';
+    let mut before = None;
     for (index, unit) in units.iter().enumerate() {
-        let Unit::Byte(byte, offset) = *unit else {
-            continue;
-        };
-        if byte == b'<' && before != b'<' {
-            let found = here_at(line.from(offset), index == 0);
+        if unit.byte() == Some(b'<') && before != Some(b'<') {
+            let found = here_at(line.from(unit.start()), index == 0);
             if found.is_some() {
                 return found;
             }
         }
-        before = byte;
+        before = unit.byte();
     }
     None
 }
@@ -285,28 +264,17 @@ fn after_quote(part: Part) -> Part<'_> {
 
 /// Whether the line is a directive that has a backquote continue lines.
 fn is_escape(line: &[u8]) -> bool {
-    let mut rest: &[u8] = b"#escape=`";
-    for byte in line {
-        if is_blank(*byte) {
-            continue;
-        }
-        match rest {
-            [first, others @ ..] if byte.to_ascii_lowercase() == *first => rest = others,
-            _ => return false,
-        }
-    }
-    rest.is_empty()
+    let letters = line.iter().filter(|byte| !is_blank(**byte));
+    let letters = letters.map(|byte| byte.to_ascii_lowercase());
+    letters.eq(b"#escape=`".iter().copied())
 }
 
-/// The line without the backslash at its end that continues it, and whether there is one: blanks may follow it.
-fn uncontinued(line: Part) -> (Part<'_>, bool) {
+/// The line without the backslash at its end that continues it: blanks may follow it. None if there is none.
+fn uncontinued(line: Part) -> Option<Part<'_>> {
     let text = line.before_blanks();
     let before = text.before_last(b'\\');
-    if before.len() < text.len() && before.before_last(b'\\').len() == before.len() {
-        (before, true)
-    } else {
-        (line, false)
-    }
+    let is_quoted = before.before_last(b'\\').len() < before.len();
+    (before.len() < text.len() && !is_quoted).then_some(before)
 }
 
 /// Where in a list the next byte is.

@@ -3,10 +3,10 @@
 use crate::docker::host_of_docker;
 use crate::kind::Kind;
 use crate::make::host_of_make;
-use crate::parts::Part;
+use crate::parts::{Part, is_word_of};
 use crate::spec::host_of_spec;
 use crate::yaml::host_of_yaml;
-use sedck_origin::{Result, Unit, is_among, is_name_byte};
+use sedck_origin::{Result, Unit, is_name_byte};
 use std::alloc::Global;
 
 /// An assignment of make's, as `NAME = value`; its value is a text of shell if the name is used in a recipe.
@@ -43,27 +43,16 @@ impl Host {
 
     /// Adds a text, unless it has only blanks and newlines.
     pub(crate) fn add(&mut self, units: Vec<Unit>) -> Result<()> {
-        let is_blank = units.iter().all(|unit| matches!(
-            *unit,
-            Unit::Byte(b' ' | b'\t' | b'\n' | b'\r', _)
-        ));
-        if !is_blank {
+        let is_text = |unit: &Unit| !matches!(*unit, Unit::Byte(b' ' | b'\t' | b'\n' | b'\r', _));
+        if units.iter().any(is_text) {
             self.texts.push(units)?;
         }
         Ok(())
     }
 
-    /// Notes the first call of sed that seems to be in a part which isn't read.
-    pub(crate) fn note_unread(&mut self, part: Part) -> Result<()> {
-        if let Some(offset) = part.mention_of_sed() {
-            self.unread.push(offset)?;
-        }
-        Ok(())
-    }
-
-    /// Notes the first name of a sed in a part, whatever is behind it.
-    pub(crate) fn note_name(&mut self, part: Part) -> Result<()> {
-        if let Some(offset) = part.name_of_sed() {
+    /// Notes what may call sed at this offset, if there is one, and isn't understood.
+    pub(crate) fn note(&mut self, offset: Option<usize>) -> Result<()> {
+        if let Some(offset) = offset {
             self.unread.push(offset)?;
         }
         Ok(())
@@ -86,36 +75,26 @@ pub fn host_of(alloc: Global, kind: Kind, file: &[u8]) -> Result<Host> {
 }
 
 /// Bytes that Autoconf writes in place of one.
-static QUADRIGRAPHS: &'static [&'static str] = &[
-    "@<:@", "@{:@", "@:>@", "@:}@", "@%:@", "@S|@", "@&t@",
-];
+const QUADRIGRAPHS: &str = "@<:@ @{:@ @:>@ @:}@ @%:@ @S|@ @&t@";
 
 /// The shell text of a source of Autoconf.
 fn host_of_autoconf(alloc: Global, file: &[u8]) -> Result<Host> {
     let mut units = Vec::new(alloc);
-    let mut rest = Part::whole(file);
-    let mut before = b'\n';
-    for _ in 0..file.len() {
-        let is_comment = !is_name_byte(before)
-            && rest.starts_with("dnl")
-            && rest.skip(3).first().is_some_and(|next| !is_name_byte(next));
-        if is_comment {
-            rest = rest.from_any("\n");
-        }
-        let Some(byte) = rest.first() else {
-            break;
-        };
-        let behind = rest.skip(4);
-        let (unit, next) = if is_among(rest.before(behind), QUADRIGRAPHS) {
-            (Unit::made(rest.start, behind.start), behind)
-        } else {
-            (Unit::Byte(byte, rest.start), rest.skip(1))
-        };
-        units.push(unit)?;
-        before = byte;
-        rest = next;
-    }
+    Part::whole(file).push_units(&mut units, autoconf_unit)?;
     let mut host = Host::new(alloc);
     host.add(units)?;
     Ok(host)
+}
+
+/// The unit that begins the part of a source of Autoconf, perhaps behind a comment; none where no more is left.
+fn autoconf_unit(part: Part) -> Option<Unit> {
+    let is_dnl = !part.byte_before().is_some_and(is_name_byte)
+        && part.starts_with("dnl")
+        && part.skip(3).first().is_some_and(|next| !is_name_byte(next));
+    let rest = if is_dnl { part.from_any("\n") } else { part };
+    let behind = rest.skip(4);
+    if rest.begins_with(b'@') && is_word_of(rest.before(behind), QUADRIGRAPHS) {
+        return Some(Unit::made(rest.start, behind.start));
+    }
+    Some(Unit::Byte(rest.first()?, rest.start))
 }

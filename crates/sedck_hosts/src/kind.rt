@@ -1,7 +1,6 @@
 //! The kinds of files that have shell text.
 
-use crate::parts::{Part, is, starts_with};
-use sedck_origin::{is_among, named};
+use crate::parts::{Part, is, is_word_of, named};
 
 /// A kind of files that have shell text.
 #[derive(Clone, Copy, PartialEq, Eq)]
@@ -27,91 +26,67 @@ impl Kind {
     }
 }
 
-/// Names, with the kind that they mean.
-type Names = (Kind, &'static [&'static str]);
+/// Kinds with the names that mean them.
+type Names = &'static [(Kind, &'static str)];
 
 /// The names of kinds on the command line.
-static LANGUAGES: &'static [Names] = &[
-    (Kind::Shell, &["sh"]),
-    (Kind::Make, &["make"]),
-    (Kind::Docker, &["docker"]),
-    (Kind::Yaml, &["yaml"]),
-    (Kind::Spec, &["spec"]),
-    (Kind::Autoconf, &["m4"]),
-];
-
-/// Names of files that mean something only as they are.
-static WHOLE: &'static [Names] = &[
-    (Kind::Autoconf, &["configure.in"]),
-    (Kind::Shell, &["config.status", "config.status.in"]),
-];
-
-/// The names of folders, with names of files that mean something in them alone.
-static IN_FOLDERS: &'static [(&'static str, &'static str, Kind)] = &[
-    ("debian", "rules", Kind::Make),
-    ("debian", "config", Kind::Shell),
-    ("DEBIAN", "config", Kind::Shell),
+static LANGUAGES: Names = &[
+    (Kind::Shell, "sh"),
+    (Kind::Make, "make"),
+    (Kind::Docker, "docker"),
+    (Kind::Yaml, "yaml"),
+    (Kind::Spec, "spec"),
+    (Kind::Autoconf, "m4"),
 ];
 
 /// Names of files, or what is behind the last dot of one. The scripts are those of Debian's packages but for one.
-static NAMES: &'static [Names] = &[
-    (Kind::Shell, &["preinst", "postinst", "prerm", "postrm"]),
-    (Kind::Shell, &["configure"]),
-    (Kind::Make, &["Makefile", "makefile", "GNUmakefile"]),
-    (Kind::Make, &["Kbuild", "Make-in", "Makevars"]),
-    (Kind::Docker, &["Dockerfile", "dockerfile"]),
-    (Kind::Docker, &["Containerfile"]),
+static NAMES: Names = &[
+    (Kind::Shell, "preinst postinst prerm postrm configure"),
+    (Kind::Make, "Makefile makefile GNUmakefile Kbuild"),
+    (Kind::Make, "Make-in Makevars"),
+    (Kind::Docker, "Dockerfile dockerfile Containerfile"),
 ];
 
 /// What is behind the last dot of a name.
-static SUFFIXES: &'static [Names] = &[
-    (Kind::Shell, &["sh", "bash", "ksh", "dash"]),
-    (Kind::Make, &["mk", "mak", "make", "am"]),
-    (Kind::Yaml, &["yml", "yaml"]),
-    (Kind::Autoconf, &["ac", "m4"]),
-    (Kind::Spec, &["spec"]),
+static SUFFIXES: Names = &[
+    (Kind::Shell, "sh bash ksh dash"),
+    (Kind::Make, "mk mak make am"),
+    (Kind::Yaml, "yml yaml"),
+    (Kind::Autoconf, "ac m4"),
+    (Kind::Spec, "spec"),
 ];
 
 /// What may be before a dot, whatever is behind it.
-static STEMS: &'static [Names] = &[
-    (Kind::Make, &["Makefile", "makefile", "GNUmakefile"]),
-    (Kind::Make, &["Kbuild", "Makevars", "Rules"]),
-    (Kind::Docker, &["Dockerfile"]),
+static STEMS: Names = &[
+    (Kind::Make, "Makefile makefile GNUmakefile Kbuild"),
+    (Kind::Make, "Makevars Rules"),
+    (Kind::Docker, "Dockerfile"),
 ];
 
 /// What is behind the last dot of files in other languages, which no makefile has there: `Makefile.PL` is a script of Perl's.
-static OTHERS: &'static [&'static str] = &[
-    "PL", "pl", "pm", "py", "rb", "js", "ts", "java", "c", "h", "cc", "cpp", "hs", "html", "xml",
-    "json", "md",
-];
+const OTHERS: &str = "PL pl pm py rb js ts java c h cc cpp hs html xml json md";
 
 /// What may be before `.m4` in a source of Autoconf, behind another dot.
-static BEFORE_M4: &'static [&'static str] = &["ac", "in", "sh"];
+const BEFORE_M4: &str = "ac in sh";
 
 /// Names of programs. Shells are there also as they are named when a package is configured.
-static PROGRAMS: &'static [Names] = &[
-    (Kind::Shell, &["sh", "bash", "dash", "ksh", "ksh93"]),
-    (Kind::Shell, &["mksh", "zsh", "ash"]),
-    (Kind::Shell, &["@SHELL@", "@BASH@", "@POSIX_SHELL@", "@SH@"]),
-    (Kind::Make, &["make", "gmake", "bmake"]),
+static PROGRAMS: Names = &[
+    (Kind::Shell, "sh bash dash ksh ksh93 mksh zsh ash"),
+    (Kind::Shell, "@SHELL@ @BASH@ @POSIX_SHELL@ @SH@"),
+    (Kind::Make, "make gmake bmake"),
 ];
 
 /// Names of shells that read `$'..'`.
-static DOLLAR_QUOTING: &'static [&'static str] = &["bash", "@BASH@", "ksh", "ksh93", "mksh", "zsh"];
-
-/// Names of seds.
-static SEDS: &'static [&'static str] = &["sed", "gsed", "ssed"];
-
-/// Names of programs that run the one that is named next.
-static RUNNERS: &'static [&'static str] = &["env", "busybox"];
+const DOLLAR_QUOTING: &str = "bash @BASH@ ksh ksh93 mksh zsh";
 
 /// The kind of a file with this path and these bytes, where it is known by its name or its first line. A shell or make in the first line
 /// says more than the name of a script or a makefile.
 pub fn kind_of(path: &str, bytes: &[u8]) -> Option<Kind> {
     let (folders, name) = split_last(path.as_bytes(), b'/');
     let (_, folder) = split_last(folders, b'/');
-    match (named_kind(folder, name), interpreter_kind(bytes)) {
-        (Some(Kind::Shell), found) if starts_with(bytes, "#!") => found,
+    let named_kind = whole_kind(folder, name).or_else(|| part_kind(name));
+    match (named_kind, interpreter_kind(bytes)) {
+        (Some(Kind::Shell), found) if bytes.starts_with(b"#!") => found,
         (Some(Kind::Make), Some(found)) => Some(found),
         (Some(kind), _) => Some(kind),
         (None, found) => found,
@@ -121,26 +96,26 @@ pub fn kind_of(path: &str, bytes: &[u8]) -> Option<Kind> {
 /// Whether the shell that runs a file with this path and these bytes reads `$'..'`: by its first line, or by its name where it has none
 /// with an interpreter. A plain `sh` needn't read it.
 pub fn reads_dollar_quotes(path: &str, bytes: &[u8]) -> bool {
-    if starts_with(bytes, "#!") {
+    if bytes.starts_with(b"#!") {
         return interpreter(bytes).is_some_and(is_dollar_quoting);
     }
     let path = path.as_bytes();
-    let path = path.strip_suffix(".in".as_bytes()).unwrap_or(path);
-    path.ends_with(".bash".as_bytes()) || path.ends_with(".ksh".as_bytes())
+    let path = path.strip_suffix(b".in").unwrap_or(path);
+    path.ends_with(b".bash") || path.ends_with(b".ksh")
 }
 
 /// Whether the shell of this name reads `$'..'`.
 pub fn is_dollar_quoting(name: &[u8]) -> bool {
-    is_among(name, DOLLAR_QUOTING)
+    is_word_of(name, DOLLAR_QUOTING)
 }
 
 /// Whether the first line of a file with these bytes names a sed, whose script the file is then.
 pub fn is_run_by_sed(bytes: &[u8]) -> bool {
-    interpreter(bytes).is_some_and(|name| is_among(name, SEDS))
+    interpreter(bytes).is_some_and(|name| is_word_of(name, "sed gsed ssed"))
 }
 
 /// What is before the last such byte, and what is behind it; nothing and all if there is none.
-pub(crate) fn split_last(bytes: &[u8], byte: u8) -> (&[u8], &[u8]) {
+fn split_last(bytes: &[u8], byte: u8) -> (&[u8], &[u8]) {
     let Some(last) = bytes.iter().rposition(|other| *other == byte) else {
         return (&[], bytes);
     };
@@ -148,29 +123,26 @@ pub(crate) fn split_last(bytes: &[u8], byte: u8) -> (&[u8], &[u8]) {
     (bytes.get(..last).unwrap_or(&[]), behind)
 }
 
-/// The kind that a file with this name has in this folder alone.
-fn kind_in_folder(folder: &[u8], name: &[u8]) -> Option<Kind> {
-    if is(folder, "po") && starts_with(name, "Rules-") {
-        return Some(Kind::Make);
-    }
-    for (other, file, kind) in IN_FOLDERS {
-        if other.as_bytes() == folder && file.as_bytes() == name {
-            return Some(*kind);
-        }
-    }
-    None
+/// The name behind the path to it.
+pub(crate) fn without_path(path: &[u8]) -> &[u8] {
+    split_last(path, b'/').1
 }
 
-/// The kind by the file's name, from which `.in` is taken off, and by that of its folder.
-fn named_kind(folder: &[u8], name: &[u8]) -> Option<Kind> {
-    if let Some(kind) = named(WHOLE, name) {
-        return Some(kind);
+/// The kind that the whole name of a file means, perhaps in this folder alone.
+fn whole_kind(folder: &[u8], name: &[u8]) -> Option<Kind> {
+    match (folder, name) {
+        (_, b"configure.in") => Some(Kind::Autoconf),
+        (_, b"config.status" | b"config.status.in") => Some(Kind::Shell),
+        (b"debian", b"rules" | b"rules.in") => Some(Kind::Make),
+        (b"debian" | b"DEBIAN", b"config" | b"config.in") => Some(Kind::Shell),
+        (b"po", _) if name.starts_with(b"Rules-") => Some(Kind::Make),
+        _ => None,
     }
-    let name = name.strip_suffix(".in".as_bytes()).unwrap_or(name);
-    if let Some(kind) = kind_in_folder(folder, name) {
-        return Some(kind);
-    }
-    let (stem, last) = split_last(name, b'.');
+}
+
+/// The kind by a part of the file's name, from which `.in` is taken off.
+fn part_kind(name: &[u8]) -> Option<Kind> {
+    let (stem, last) = split_last(name.strip_suffix(b".in").unwrap_or(name), b'.');
     match named(NAMES, last) {
         None if !stem.is_empty() => dotted_kind(stem, last),
         found => found,
@@ -182,9 +154,9 @@ fn named_kind(folder: &[u8], name: &[u8]) -> Option<Kind> {
 fn dotted_kind(stem: &[u8], last: &[u8]) -> Option<Kind> {
     let (before, first) = split_last(stem, b'.');
     let is_lettered = matches!(first.first(), Some(byte) if byte.is_ascii_alphabetic());
-    let may_be_other = !before.is_empty() && is_lettered && !is_among(first, BEFORE_M4);
+    let may_be_other = !before.is_empty() && is_lettered && !is_word_of(first, BEFORE_M4);
     match named(STEMS, first) {
-        Some(Kind::Make) if is_among(last, OTHERS) => None,
+        Some(Kind::Make) if is_word_of(last, OTHERS) => None,
         Some(kind) if before.is_empty() => Some(kind),
         _ if may_be_other && is(last, "m4") => None,
         _ => named(SUFFIXES, last),
@@ -198,22 +170,16 @@ pub(crate) fn interpreter_kind(bytes: &[u8]) -> Option<Kind> {
 
 /// The name of the interpreter in the first line, without the path to it.
 fn interpreter(bytes: &[u8]) -> Option<&[u8]> {
-    let whole = Part::whole(bytes);
-    if !whole.starts_with("#!") {
-        return None;
-    }
-    let line = whole.skip(2);
-    let mut rest = line.to(line.from_any("\n\r").start).after_blanks();
-    for _ in 0..8 {
-        let (word, next) = rest.split_word();
-        let (_, name) = split_last(word, b'/');
-        let is_passed = is_among(name, RUNNERS) || starts_with(name, "-") || name.contains(&b'=');
-        if !is_passed {
-            return Some(name);
-        }
-        rest = next;
-    }
-    None
+    let rest = Part::whole(bytes.strip_prefix(b"#!")?);
+    let line = rest.to(rest.from_any("\n\r").start).after_blanks();
+    let (word, _) = line.after_words(7, is_passed).split_word();
+    Some(without_path(word))
+}
+
+/// Whether the word of a first line isn't the interpreter's: a program that runs the next one, an option, or an assignment.
+fn is_passed(word: &[u8]) -> bool {
+    let name = without_path(word);
+    is_word_of(name, "env busybox") || name.starts_with(b"-") || name.contains(&b'=')
 }
 
 /// The kind of what a program of this name reads.

@@ -1,9 +1,9 @@
 //! Makefiles: lines of recipes, `$(shell ..)`, and assignments (POSIX.1-2024 XCU make, and GNU make).
 
 use crate::host::{Assignment, Host};
-use crate::make_text::{MadeText, Reading, after_conditionals, read_make_text, reference_end};
-use crate::parts::{Part, is, is_in, lines_of};
-use sedck_origin::{Result, Unit, is_among, named};
+use crate::make_text::{Notes, Reading, after_conditionals, read_make_text, reference_end};
+use crate::parts::{Part, is, is_in, is_word_of, lines_of, named};
+use sedck_origin::{Result, Unit};
 use std::alloc::Global;
 
 /// The variable whose value begins the lines of recipes in place of a tab.
@@ -13,13 +13,10 @@ const PREFIX: &str = ".RECIPEPREFIX";
 const SET_MAKE: &str = "SET_MAKE";
 
 /// Words that may stand before an assignment.
-static MODIFIERS: &'static [&'static str] = &["export", "override", "private"];
+const MODIFIERS: &str = "export override private";
 
-/// Words that begin a line which is neither a rule nor an assignment.
-static DIRECTIVES: &'static [&'static str] = &[
-    "ifeq", "ifneq", "ifdef", "ifndef", "if", "else", "endif", "include", "-include", "sinclude",
-    "load", "-load", "vpath", "undefine", "unexport", "endef",
-];
+/// Other words that begin a line which is neither a rule nor an assignment.
+const DIRECTIVES: &str = "else vpath undefine unexport endef";
 
 /// What a directive does to the lines behind it.
 #[derive(Clone, Copy)]
@@ -35,21 +32,18 @@ enum Effect {
 }
 
 /// Directives of GNU make, and those of Automake.
-static EFFECTS: &'static [(Effect, &'static [&'static str])] = &[
-    (Effect::Begin, &["ifeq", "ifneq", "ifdef", "ifndef", "if"]),
-    (Effect::End, &["endif"]),
-    (Effect::Include, &["include", "-include", "sinclude"]),
-    (Effect::Include, &["load", "-load"]),
+static EFFECTS: &'static [(Effect, &'static str)] = &[
+    (Effect::Begin, "ifeq ifneq ifdef ifndef if"),
+    (Effect::End, "endif"),
+    (Effect::Include, "include -include sinclude load -load"),
 ];
 
 /// Directives of BSD's make, without the dot.
-static DOTTED: &'static [(Effect, &'static [&'static str])] = &[
-    (Effect::Begin, &["if", "ifdef", "ifndef"]),
-    (Effect::Begin, &["ifmake", "ifnmake"]),
-    (Effect::Loop, &["for"]),
-    (Effect::End, &["endif", "endfor"]),
-    (Effect::Include, &["include", "-include"]),
-    (Effect::Include, &["sinclude", "dinclude"]),
+static DOTTED: &'static [(Effect, &'static str)] = &[
+    (Effect::Begin, "if ifdef ifndef ifmake ifnmake"),
+    (Effect::Loop, "for"),
+    (Effect::End, "endif endfor"),
+    (Effect::Include, "include -include sinclude dinclude"),
 ];
 
 /// How an assignment sets its name.
@@ -66,14 +60,11 @@ enum Operator {
 }
 
 /// The operators of assignments.
-static OPERATORS: &'static [(&'static str, Operator)] = &[
-    ("=", Operator::Set),
-    (":=", Operator::Set),
-    ("::=", Operator::Set),
-    (":::=", Operator::Set),
-    ("?=", Operator::Conditional),
-    ("+=", Operator::Append),
-    ("!=", Operator::Shell),
+static OPERATORS: &'static [(Operator, &'static str)] = &[
+    (Operator::Set, "= := ::= :::="),
+    (Operator::Conditional, "?="),
+    (Operator::Append, "+="),
+    (Operator::Shell, "!="),
 ];
 
 /// An assignment of a line.
@@ -96,8 +87,6 @@ struct Make {
     defines: usize,
     /// How many conditions aren't ended.
     conditions: usize,
-    /// Whether Automake makes the line depend on a condition.
-    is_marked: bool,
     /// Whether lines of recipes may begin with another byte than a tab, from a line before on.
     is_prefixed: bool,
 }
@@ -110,10 +99,9 @@ pub(crate) fn host_of_make(alloc: Global, file: &[u8]) -> Result<Host> {
         is_in_rule: false,
         defines: 0,
         conditions: 0,
-        is_marked: false,
         is_prefixed: false,
     };
-    let lines = lines_of(alloc, file, true)?;
+    let lines = lines_of(alloc, Part::whole(file), true)?;
     for line in &lines {
         make.read_line(*line)?;
     }
@@ -124,7 +112,7 @@ impl Make {
     /// Reads a line with those that continue it.
     fn read_line(&mut self, whole: Part) -> Result<()> {
         let line = after_conditionals(whole);
-        self.is_marked = line.start > whole.start;
+        let is_certain = self.conditions == 0 && line.start == whole.start;
         let statement = after_modifiers(line);
         if self.defines > 0 {
             return self.read_in_define(line, statement);
@@ -133,11 +121,13 @@ impl Make {
         if has_tab && self.is_in_rule {
             return self.add(line, Reading::Recipe);
         }
-        if definition_at(statement).is_none() {
-            self.note_effect(statement);
-            if has_tab {
-                return self.add(line, Reading::Recipe);
-            }
+        if let Some(definition) = definition_at(statement) {
+            self.is_in_rule = false;
+            return self.define(statement, definition, is_certain);
+        }
+        self.note_effect(statement);
+        if has_tab {
+            return self.add(line, Reading::Recipe);
         }
         if statement.is_ended() {
             return Ok(());
@@ -161,22 +151,16 @@ impl Make {
     /// Reads a line between `define` and `endef`.
     fn read_in_define(&mut self, line: Part, statement: Part) -> Result<()> {
         let (word, _) = statement.split_word();
-        if is(word, "endef") {
-            self.defines = self.defines.saturating_sub(1);
-        } else if is(word, "define") {
-            self.defines = self.defines.saturating_add(1);
-        } else {
-            return self.add(line, Reading::Recipe);
+        match word {
+            b"endef" => self.defines = self.defines.saturating_sub(1),
+            b"define" => self.defines = self.defines.saturating_add(1),
+            _ => return self.add(line, Reading::Recipe),
         }
         Ok(())
     }
 
-    /// Reads a line that isn't one of a recipe.
+    /// Reads a line that is neither one of a recipe nor an assignment.
     fn read_statement(&mut self, line: Part) -> Result<()> {
-        if let Some(definition) = definition_at(line) {
-            self.is_in_rule = false;
-            return self.read_definition(line, definition);
-        }
         let (word, rest) = line.split_word();
         if is(word, "define") {
             self.is_in_rule = false;
@@ -188,7 +172,7 @@ impl Make {
             let (name, _) = rest.split_word();
             self.assign_unknown(name, line)?;
         }
-        if is_among(word, DIRECTIVES) {
+        if named(EFFECTS, word).is_some() || is_word_of(word, DIRECTIVES) {
             return self.add(line, Reading::Value);
         }
         self.read_rule(line)
@@ -218,65 +202,47 @@ impl Make {
     /// Adds a line of a recipe, and the arguments of `$(shell ..)` in a line.
     fn add(&mut self, line: Part, reading: Reading) -> Result<()> {
         let is_recipe = matches!(reading, Reading::Recipe);
-        let line = if is_recipe {
-            recipe_command(line)
-        } else {
-            line
-        };
-        let MadeText {
-            units,
-            arguments,
-            unread,
-            has_eval,
-        } = read_make_text(self.alloc, line, reading)?;
-        self.note(&unread, has_eval)?;
+        let part = if is_recipe { command_of(line) } else { line };
+        let (units, notes) = read_make_text(self.alloc, part, reading)?;
+        self.note(&notes)?;
         if is_recipe {
             self.host.add(units)?;
         }
-        for argument in &arguments {
-            let reading = Reading::Argument(argument.level);
-            let text = read_make_text(self.alloc, argument.part, reading)?;
-            self.note(&text.unread, text.has_eval)?;
-            self.host.add(text.units)?;
+        for (part, reading) in &notes.arguments {
+            let (units, notes) = read_make_text(self.alloc, *part, *reading)?;
+            self.note(&notes)?;
+            self.host.add(units)?;
         }
         Ok(())
     }
 
     /// Notes calls of sed that aren't read, and whether make reads more.
-    fn note(&mut self, unread: &[usize], has_eval: bool) -> Result<()> {
-        self.host.is_open |= has_eval;
-        Ok(self.host.unread.extend_from_slice(unread)?)
+    fn note(&mut self, notes: &Notes) -> Result<()> {
+        self.host.is_open |= notes.has_eval;
+        Ok(self.host.unread.extend_from_slice(&notes.unread)?)
     }
 
-    /// Reads an assignment. With `!=` its value is shell text; after `+=` and `!=` the value of the name isn't known.
-    fn read_definition(&mut self, line: Part, definition: Definition<'_>) -> Result<()> {
+    /// Reads an assignment. With `!=` its value is shell text; after `+=` and `!=` the value of the name isn't known. Behind one that changes
+    /// how recipes begin they aren't read.
+    fn define(&mut self, line: Part, definition: Definition, is_certain: bool) -> Result<()> {
         let (name, operator) = (definition.name.bytes(), definition.operator);
         let value = definition.value;
-        if is(name, PREFIX) && !value.is_ended() {
-            self.note_prefix(line)?;
+        if is(name, PREFIX) && !value.is_ended() && !self.is_prefixed {
+            self.is_prefixed = true;
+            let behind = line.between(line.end, line.file.len());
+            self.host.note(behind.mention_of_sed())?;
         }
         if matches!(operator, Operator::Append) || !is_known(name) {
             return self.add_unknown(line, definition);
         }
         self.add(line, Reading::Value)?;
-        let text = read_make_text(self.alloc, value, Reading::Value)?;
+        let (units, _) = read_make_text(self.alloc, value, Reading::Value)?;
         if matches!(operator, Operator::Shell) {
-            self.host.add(text.units)?;
+            self.host.add(units)?;
             return self.assign_unknown(name, line);
         }
         let is_set = matches!(operator, Operator::Set);
-        let is_certain = is_set && self.conditions == 0 && !self.is_marked;
-        self.assign(name, text.units, is_certain)
-    }
-
-    /// Notes the first call of sed behind the line that changes how recipes begin: they aren't read.
-    fn note_prefix(&mut self, line: Part) -> Result<()> {
-        if self.is_prefixed {
-            return Ok(());
-        }
-        self.is_prefixed = true;
-        self.host
-            .note_unread(line.between(line.end, line.file.len()))
+        self.assign(name, units, is_set && is_certain)
     }
 
     /// Adds an assignment to a name that isn't known, or of a value that is only a part or for some targets. It isn't read as a text.
@@ -300,8 +266,7 @@ impl Make {
             self.host.is_open = true;
             return Ok(());
         }
-        let mut name = Vec::new(self.alloc);
-        name.extend_from_slice(bytes)?;
+        let name = bytes.to_vec(self.alloc)?;
         self.host.assignments.push(Assignment {
             name,
             value,
@@ -318,15 +283,8 @@ fn is_known(name: &[u8]) -> bool {
 
 /// The line without blanks at its beginning, and without words that may stand before an assignment.
 fn after_modifiers(line: Part) -> Part<'_> {
-    let mut rest = line.after_blanks();
-    for _ in 0..4 {
-        let (word, next) = rest.split_word();
-        if !is_among(word, MODIFIERS) {
-            break;
-        }
-        rest = next;
-    }
-    rest
+    let words = line.after_blanks();
+    words.after_words(4, |word| is_word_of(word, MODIFIERS))
 }
 
 /// What the line does to those behind it, if it is a directive.
@@ -349,16 +307,14 @@ fn definition_at(whole: Part) -> Option<Definition<'_>> {
         return None;
     }
     let rest = whole.from(name.end).after_blanks();
-    for (written, operator) in OPERATORS {
-        if rest.starts_with(written) {
-            return Some(Definition {
-                name,
-                operator: *operator,
-                value: rest.skip(written.len()).after_blanks(),
-            });
-        }
-    }
-    None
+    let value = rest.from_any("=").skip(1);
+    let operator = named(OPERATORS, rest.before(value))?;
+    let value = value.after_blanks();
+    Some(Definition {
+        name,
+        operator,
+        value,
+    })
 }
 
 /// The part from the first of these bytes on that stands outside of references and behind no backslash.
@@ -376,15 +332,11 @@ fn until<'a>(part: Part<'a>, wanted: &str) -> Part<'a> {
 }
 
 /// The command of a recipe's line: what is behind blanks, `@`, `-` and `+`, but not behind the `@` of a name with two of them around it.
-fn recipe_command(line: Part) -> Part<'_> {
-    let mut rest = line;
-    for _ in 0..line.len() {
-        match rest.first() {
-            Some(b' ' | b'\t' | b'-' | b'+') => {}
-            Some(b'@') if rest.placeholder().is_none_or(|name| name.is_empty()) => {}
-            _ => break,
-        }
-        rest = rest.skip(1);
-    }
-    rest
+fn command_of(line: Part) -> Part<'_> {
+    let begins = |part: Part| match part.first() {
+        Some(b'@') => part.placeholder().is_some_and(|name| !name.is_empty()),
+        first => !matches!(first, Some(b' ' | b'\t' | b'-' | b'+')),
+    };
+    let start = (line.start..line.end).find(|offset| begins(line.from(*offset)));
+    line.from(start.unwrap_or(line.end))
 }

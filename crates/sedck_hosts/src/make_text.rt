@@ -1,7 +1,7 @@
 //! What make does to a part of a makefile before the shell sees it: references are replaced, `$$` is a dollar sign, and lines are joined.
 
-use crate::parts::{Brackets, Part, QUOTES, is, is_in};
-use sedck_origin::{Result, Unit, has_byte, named};
+use crate::parts::{Brackets, Part, QUOTES, is, named};
+use sedck_origin::{Result, Unit, has_byte};
 use std::alloc::Global;
 
 /// What a part of a makefile is.
@@ -17,20 +17,11 @@ pub(crate) enum Reading {
     Argument(usize),
 }
 
-/// The argument of `$(shell ..)`.
-#[derive(Clone, Copy)]
-pub(crate) struct Argument<'a> {
-    pub part: Part<'a>,
-    /// How many of these are around it, with its own.
-    pub level: usize,
-}
-
-/// A part of a makefile as the shell sees it.
+/// What is noted of a part of a makefile beside its units.
 #[derive(Drop)]
-pub(crate) struct MadeText<'a> {
-    pub units: Vec<Unit>,
-    /// The arguments of `$(shell ..)` in it.
-    pub arguments: Vec<Argument<'a>>,
+pub(crate) struct Notes<'a> {
+    /// The arguments of `$(shell ..)` in it, with how each is read.
+    pub arguments: Vec<(Part<'a>, Reading)>,
     /// The offsets of calls of sed in it that are neither in its units nor in those arguments.
     pub unread: Vec<usize>,
     /// Whether make reads what `$(eval ..)` makes.
@@ -45,16 +36,9 @@ struct Open {
     brackets: Brackets,
     /// Where the argument of `$(shell ..)` begins that is read as a text by itself.
     argument: Option<usize>,
-    /// What its arguments are, from the one on that is read.
-    function: Function,
-}
-
-/// What the arguments of a function are.
-#[derive(Clone, Copy)]
-struct Function {
-    /// How many of the first ones are no text that a shell may read.
+    /// How many of its arguments, from the one on that is read, are no text that a shell may read.
     quiet: usize,
-    /// Whether one of them takes the place of the call.
+    /// Whether one of its arguments takes the place of the call.
     is_choice: bool,
 }
 
@@ -63,17 +47,15 @@ const ALL: usize = 1_000_000_000;
 
 /// Functions by how many of their first arguments are no such text, and whether one of the arguments takes the place of the call. The
 /// last ones are for messages, lists of words and names of files.
-static FUNCTIONS: &'static [((usize, bool), &'static [&'static str])] = &[
-    ((1, false), &["call"]),
-    ((2, false), &["foreach", "let"]),
-    ((1, true), &["if"]),
-    ((0, true), &["or", "and"]),
-    ((ALL, false), &["error", "warning", "info", "file"]),
-    ((ALL, false), &["filter", "filter-out", "findstring"]),
-    ((ALL, false), &["sort", "word", "words", "wordlist"]),
-    ((ALL, false), &["firstword", "lastword", "addprefix"]),
-    ((ALL, false), &["addsuffix", "basename", "notdir"]),
-    ((ALL, false), &["wildcard", "origin", "flavor"]),
+static FUNCTIONS: &'static [((usize, bool), &'static str)] = &[
+    ((1, false), "call"),
+    ((2, false), "foreach let"),
+    ((1, true), "if"),
+    ((0, true), "or and"),
+    ((ALL, false), "error warning info file filter filter-out"),
+    ((ALL, false), "findstring sort word words wordlist"),
+    ((ALL, false), "firstword lastword addprefix addsuffix"),
+    ((ALL, false), "basename notdir wildcard origin flavor"),
 ];
 
 /// The most references around a byte.
@@ -95,21 +77,20 @@ struct MakeText<'a> {
     shells: usize,
     /// Whether a call of sed was noted in the outermost of them.
     is_noted: bool,
-    output: MadeText<'a>,
-    /// The quoting behind the units that were looked at.
+    /// The part as the shell sees it.
+    units: Vec<Unit>,
+    notes: Notes<'a>,
     quoting: Quoting,
-    /// How many those are.
-    looked: usize,
     /// What hasn't been read yet.
     rest: Part<'a>,
 }
 
-/// Reads a part of a makefile.
+/// Reads a part of a makefile: its units as the shell sees it, and what is noted.
 pub(crate) fn read_make_text<'a>(
     alloc: Global,
     whole: Part<'a>,
     reading: Reading,
-) -> Result<MadeText<'a>> {
+) -> Result<(Vec<Unit>, Notes<'a>)> {
     let mut text = MakeText {
         whole,
         reading,
@@ -119,47 +100,42 @@ pub(crate) fn read_make_text<'a>(
             _ => 0,
         },
         is_noted: false,
-        output: MadeText {
-            units: Vec::new(alloc),
+        units: Vec::new(alloc),
+        notes: Notes {
             arguments: Vec::new(alloc),
             unread: Vec::new(alloc),
             has_eval: false,
         },
         quoting: Quoting::default(),
-        looked: 0,
         rest: whole,
     };
     for _ in 0..whole.len() {
         let here = text.rest;
-        let Some(byte) = here.first() else {
-            break;
-        };
+        let Some(byte) = here.first() else { break };
         text.rest = here.skip(1);
         text.read(here, byte)?;
     }
     text.end_part()?;
-    Ok(text.output)
+    Ok((text.units, text.notes))
 }
 
 impl<'a> MakeText<'a> {
     /// Ends the part, where a reference may be open.
     fn end_part(&mut self) -> Result<()> {
-        let Some(open) = self.opens.first() else {
-            return Ok(());
-        };
-        let start = open.start;
-        self.output.units.push(Unit::made(start, self.whole.end))?;
-        if !self.is_noted {
-            return self.note(self.whole.from(start));
+        if let Some(Open { start, .. }) = self.opens.first().copied() {
+            self.units.push(Unit::made(start, self.whole.end))?;
+            if !self.is_noted {
+                return self.note(self.whole.from(start).mention_of_sed());
+            }
         }
         Ok(())
     }
 
-    /// Notes the first call of sed in what isn't read.
-    fn note(&mut self, part: Part<'a>) -> Result<()> {
-        if let Some(offset) = part.mention_of_sed() {
+    /// Notes a call of sed in what isn't read, if one was found.
+    fn note(&mut self, found: Option<usize>) -> Result<()> {
+        if let Some(offset) = found {
             self.is_noted = true;
-            self.output.unread.push(offset)?;
+            self.notes.unread.push(offset)?;
         }
         Ok(())
     }
@@ -171,15 +147,12 @@ impl<'a> MakeText<'a> {
             return Ok(());
         }
         let closers = match self.opens.last() {
-            Some(open) if open.function.is_choice => CLOSERS,
+            Some(open) if open.is_choice => CLOSERS,
             _ => QUOTES,
         };
         // An argument may be open that is no text which a shell may read, or is read by itself.
-        if here.is_call(closers) && !self.opens.iter().any(|open| open.function.quiet > 0) {
-            self.is_noted = true;
-            self.output.unread.push(here.start)?;
-        }
-        Ok(())
+        let is_call = here.is_call(closers) && !self.opens.iter().any(|open| open.quiet > 0);
+        self.note(is_call.then_some(here.start))
     }
 
     /// Reads the byte that begins this part.
@@ -206,7 +179,7 @@ impl<'a> MakeText<'a> {
     /// Adds a unit, unless it is within a reference.
     fn add(&mut self, unit: Unit) -> Result<()> {
         if self.opens.is_empty() {
-            self.output.units.push(unit)?;
+            self.units.push(unit)?;
         }
         Ok(())
     }
@@ -240,11 +213,11 @@ impl<'a> MakeText<'a> {
         self.rest = rest;
         if self.opens.len() >= DEPTH {
             self.end_text();
-            return self.note(rest);
+            return self.note(rest.mention_of_sed());
         }
         self.is_noted = self.is_noted && !self.opens.is_empty();
         let name = called_name(rest);
-        self.output.has_eval |= is(name, "eval");
+        self.notes.has_eval |= is(name, "eval");
         // Beyond so many of them the argument of `$(shell ..)` isn't read by itself.
         let is_shell = self.shells < SHELLS && is(name, "shell");
         let argument = is_shell.then_some(rest.skip(5).after_blanks().start);
@@ -258,7 +231,8 @@ impl<'a> MakeText<'a> {
             start: here.start,
             brackets,
             argument,
-            function: Function { quiet, is_choice },
+            quiet,
+            is_choice,
         })?;
         Ok(())
     }
@@ -266,8 +240,8 @@ impl<'a> MakeText<'a> {
     /// Ends an argument of a reference, unless the comma is between brackets.
     fn end_argument(&mut self) {
         if let Some(open) = self.opens.last_mut() {
-            let is_argument = !open.brackets.is_nested();
-            open.function.quiet = open.function.quiet.saturating_sub(usize::from(is_argument));
+            let is_argument = open.brackets.count == 0;
+            open.quiet = open.quiet.saturating_sub(usize::from(is_argument));
         }
     }
 
@@ -289,7 +263,8 @@ impl<'a> MakeText<'a> {
             self.shells = level.saturating_sub(1);
             if !matches!(self.reading, Reading::Argument(_)) {
                 let part = self.whole.between(start, here.start);
-                self.output.arguments.push(Argument { part, level })?;
+                let reading = Reading::Argument(level);
+                self.notes.arguments.push((part, reading))?;
             }
         }
         self.add(Unit::made(open.start, here.skip(1).start))
@@ -303,7 +278,7 @@ impl<'a> MakeText<'a> {
             Reading::Recipe if has_newline => {
                 let line = after_conditionals(after);
                 self.rest = line.skip(usize::from(line.first() == Some(b'\t')));
-                here.to(after.start).push(&mut self.output.units)
+                here.to(after.start).push(&mut self.units)
             }
             _ if has_newline => self.join_lines(here, after),
             Reading::Value | Reading::Unread => self.read_backslashes(here),
@@ -319,10 +294,9 @@ impl<'a> MakeText<'a> {
             // The last one may be before a newline.
             let count = count.saturating_sub(1).max(1);
             self.rest = here.skip(count);
-            return here.to(self.rest.start).push(&mut self.output.units);
+            return here.to(self.rest.start).push(&mut self.units);
         }
-        here.to(here.skip(count / 2).start)
-            .push(&mut self.output.units)?;
+        here.to(here.skip(count / 2).start).push(&mut self.units)?;
         if count % 2 == 0 {
             return Ok(self.end_text());
         }
@@ -334,7 +308,11 @@ impl<'a> MakeText<'a> {
         let before = self.take_blanks();
         let line = after_conditionals(next);
         self.rest = line.after_blanks();
-        if self.output.units.is_empty() || self.is_joined() {
+        let is_joined = match self.units.last() {
+            Some(Unit::Hole(hole)) => has_byte(here.file, hole.start, b'\\'),
+            last => last.is_none(),
+        };
+        if is_joined {
             return Ok(());
         }
         let blank = match (before, first_blank(line.to(self.rest.start))) {
@@ -347,10 +325,7 @@ impl<'a> MakeText<'a> {
 
     /// Joins two lines by the blank, or without one behind an operator. A tab is what make's space is only where no quote is open.
     fn join_by(&mut self, blank: Option<Unit>, hole: Unit) -> Result<()> {
-        for unit in self.output.units.iter().skip(self.looked) {
-            self.quoting.pass(*unit);
-        }
-        self.looked = self.output.units.len();
+        self.quoting.pass(&self.units);
         let next = self.rest.first().unwrap_or(b' ');
         match blank {
             Some(unit) if self.quoting.is_bare() || unit.byte() == Some(b' ') => self.add(unit),
@@ -358,57 +333,40 @@ impl<'a> MakeText<'a> {
             _ => {
                 // A call of sed isn't read behind a hole: its name and that are one word.
                 if self.rest.is_call(QUOTES) {
-                    self.output.unread.push(self.rest.start)?;
+                    self.notes.unread.push(self.rest.start)?;
                 }
                 self.add(hole)
             }
         }
     }
 
-    /// Whether a hole that joins two lines is the last unit.
-    fn is_joined(&self) -> bool {
-        match self.output.units.last() {
-            Some(Unit::Hole(hole)) => has_byte(self.whole.file, hole.start, b'\\'),
-            _ => false,
-        }
-    }
-
-    /// Takes the blanks at the end away, and answers one of them: a space, if there is one.
+    /// Takes the blanks at the end away, and answers one of them: the first space, or else the last tab.
     fn take_blanks(&mut self) -> Option<Unit> {
-        let mut taken = None;
-        for _ in 0..self.output.units.len() {
-            match self.output.units.last() {
-                Some(Unit::Byte(b' ', offset)) => taken = Some(Unit::Byte(b' ', *offset)),
-                Some(Unit::Byte(b'\t', offset)) => {
-                    taken = taken.or(Some(Unit::Byte(b'\t', *offset)));
-                }
-                _ => break,
-            }
-            let _ = self.output.units.pop();
-        }
+        let units = &self.units;
+        let is_other = |unit: &Unit| !matches!(*unit, Unit::Byte(b' ' | b'\t', _));
+        let last = units.iter().rposition(is_other);
+        let count = last.map_or(0, |last| last.saturating_add(1));
+        let blanks = units.get(count..).unwrap_or(&[]);
+        let mut spaces = blanks.iter().filter(|unit| unit.byte() == Some(b' '));
+        let taken = spaces.next().or(blanks.last()).copied();
+        self.units.truncate(count);
         taken
     }
 }
 
 /// A blank of these: the first space, or else the last tab.
 fn first_blank(blanks: Part) -> Option<Unit> {
-    let space = blanks.from_any(" ");
-    let found = if space.len() > 0 {
-        space
-    } else {
-        blanks.skip(blanks.len().saturating_sub(1))
-    };
+    let space = blanks.bytes().iter().position(|byte| *byte == b' ');
+    let found = blanks.skip(space.or(blanks.len().checked_sub(1))?);
     Some(Unit::Byte(found.first()?, found.start))
 }
 
 /// The name of the function whose call begins the part: it is followed by a blank or the end of a line that is continued.
 fn called_name(part: Part) -> &[u8] {
     let name = part.after_any("abcdefghijklmnopqrstuvwxyz-");
-    let is_call = name.first().is_some_and(|byte| is_in(byte, " \t\n"));
-    if is_call || name.starts_with("\\\n") {
-        part.before(name)
-    } else {
-        &[]
+    match name.bytes() {
+        [b' ' | b'\t' | b'\n', ..] | [b'\\', b'\n', ..] => part.before(name),
+        _ => &[],
     }
 }
 
@@ -419,7 +377,7 @@ pub(crate) fn after_conditionals(whole: Part) -> Part<'_> {
         let name = rest.skip(1);
         let behind = name.after_name();
         let bytes = name.before(behind);
-        let is_name = bytes.ends_with("_TRUE".as_bytes()) || bytes.ends_with("_FALSE".as_bytes());
+        let is_name = bytes.ends_with(b"_TRUE") || bytes.ends_with(b"_FALSE");
         if !rest.begins_with(b'@') || !is_name {
             break;
         }
@@ -450,6 +408,8 @@ pub(crate) fn reference_end(part: Part) -> usize {
 /// How a shell reads what comes behind the units that were passed, by the quotes before it (XCU 2.2).
 #[derive(Clone, Copy, Default)]
 struct Quoting {
+    /// How many units were passed.
+    passed: usize,
     /// The quote that is open.
     quote: Option<u8>,
     /// The byte before, if there is one; a letter where it isn't known or is quoted by a backslash.
@@ -466,36 +426,30 @@ impl Quoting {
         self.quote.is_none() && !self.is_escaped && !self.is_lost
     }
 
-    /// Whether an operator is before, and no blank is needed between it and this byte.
+    /// Whether an operator is before, behind which a command may begin, and no blank is needed between it and this byte.
     fn is_apart(self, next: u8) -> bool {
         self.is_bare()
-            && is_operator(self.before)
+            && matches!(self.before, b';' | b'&' | b'|' | b'(')
             && next != self.before
             && !matches!(next, b'&' | b'>')
     }
 
-    /// Passes a unit; what isn't known is taken for a letter.
-    fn pass(&mut self, unit: Unit) {
-        let byte = unit.byte().unwrap_or(b'x');
-        if self.is_escaped {
-            self.is_escaped = false;
-            self.before = b'x';
-            return;
-        }
-        match self.quote {
-            None if byte == b'\'' || byte == b'"' => self.quote = Some(byte),
-            Some(quote) if byte == quote => self.quote = None,
-            Some(b'"') if byte == b'`' || (byte == b'(' && self.before == b'$') => {
-                self.is_lost = true;
+    /// Passes the units that weren't passed yet; what isn't known is taken for a letter.
+    fn pass(&mut self, units: &[Unit]) {
+        for unit in units.iter().skip(self.passed) {
+            let byte = if self.is_escaped { None } else { unit.byte() };
+            let byte = byte.unwrap_or(b'x');
+            match self.quote {
+                None if byte == b'\'' || byte == b'"' => self.quote = Some(byte),
+                Some(quote) if byte == quote => self.quote = None,
+                Some(b'"') if byte == b'`' || (byte == b'(' && self.before == b'$') => {
+                    self.is_lost = true;
+                }
+                _ => {}
             }
-            _ => {}
+            self.is_escaped = byte == b'\\' && self.quote != Some(b'\'');
+            self.before = byte;
         }
-        self.is_escaped = byte == b'\\' && self.quote != Some(b'\'');
-        self.before = byte;
+        self.passed = units.len();
     }
-}
-
-/// Whether the byte ends an operator behind which a command may begin.
-fn is_operator(byte: u8) -> bool {
-    matches!(byte, b';' | b'&' | b'|' | b'(')
 }

@@ -56,16 +56,12 @@ impl<'a> Part<'a> {
 
     /// Its first byte.
     pub fn first(self) -> Option<u8> {
-        if self.start < self.end {
-            self.file.get(self.start).copied()
-        } else {
-            None
-        }
+        self.bytes().first().copied()
     }
 
     /// Whether its bytes begin with this text.
     pub fn starts_with(self, text: &str) -> bool {
-        starts_with(self.bytes(), text)
+        self.bytes().starts_with(text.as_bytes())
     }
 
     /// The same without this byte at its end, if it has that there.
@@ -119,6 +115,21 @@ impl<'a> Part<'a> {
         (self.before(rest), rest.after_blanks())
     }
 
+    /// The same without the words at its beginning, so many at most, that are passed.
+    pub fn after_words<F: Fn(&[u8]) -> bool>(self, most: usize, is_passed: F) -> Part<'a>
+        requires { F.IsAlwaysCallable is_passed }
+    {
+        let mut rest = self;
+        for _ in 0..most {
+            let (word, behind) = rest.split_word();
+            if !is_passed(word) {
+                break;
+            }
+            rest = behind;
+        }
+        rest
+    }
+
     /// Its first line without its newline and carriage return, and what is behind that; nothing where it is empty. Where lines are joined, those
     /// that continue the line belong to it.
     pub fn split_line(self, is_joined: bool) -> Option<(Part<'a>, Part<'a>)> {
@@ -131,6 +142,20 @@ impl<'a> Part<'a> {
             is_quoted = is_joined && *byte == b'\\' && !is_quoted;
         }
         (self.len() > 0).then_some((self, self.from(self.end)))
+    }
+
+    /// The same without the lines at its beginning that are passed.
+    pub fn after_lines<F: Fn(Part<'a>) -> bool>(self, is_passed: F) -> Part<'a>
+        requires { F.IsAlwaysCallable is_passed }
+    {
+        let mut rest = self;
+        for _ in 0..self.len() {
+            match rest.split_line(false) {
+                Some((line, next)) if is_passed(line) => rest = next,
+                _ => break,
+            }
+        }
+        rest
     }
 
     /// The name between the `@` that begins the part and the next one.
@@ -152,6 +177,21 @@ impl<'a> Part<'a> {
             units.push(Unit::Byte(*byte, self.start.saturating_add(index)))?;
         }
         Ok(())
+    }
+
+    /// Adds one unit after another, each of which begins what is left; answers what is left where there is none.
+    pub fn push_units<F>(self, units: &mut Vec<Unit>, unit_of: F) -> Result<Part<'a>>
+    where
+        F: Fn(Part<'a>) -> Option<Unit>,
+        requires { F.IsAlwaysCallable unit_of }
+    {
+        let mut rest = self;
+        for _ in 0..self.len() {
+            let Some(unit) = unit_of(rest) else { break };
+            rest = rest.from(unit.end());
+            units.push(unit)?;
+        }
+        Ok(rest)
     }
 
     /// Adds the newline that ends the line, if the file has one; a carriage return may stand before it.
@@ -190,19 +230,30 @@ impl<'a> Part<'a> {
     /// How long the name of sed is that begins the part; 0 if none does.
     fn sed_length(self) -> usize {
         let bytes = self.bytes();
-        let begins = matches!(bytes.first(), Some(b's' | b'g' | b'$' | b'@' | b'%'));
-        if !begins || self.follows_name() {
-            return 0;
-        }
-        SEDS.iter()
-            .find(|name| starts_with(bytes, name))
+        let names = match bytes.first() {
+            _ if self.follows_name() => "",
+            Some(b's') => "sed ssed",
+            Some(b'g') => "gsed",
+            Some(b'$') => "$(SED) ${SED} $SED $${SED} $$SED $(GSED) ${GSED} $GSED",
+            Some(b'@') => "@SED@",
+            Some(b'%') => "%{__sed} %__sed",
+            _ => "",
+        };
+        let mut names = names.split(' ');
+        names
+            .find(|name| bytes.starts_with(name.as_bytes()))
             .map_or(0, |name| name.len())
     }
 
     /// Whether the byte before the part belongs to the same name, as in `used` and `a.sed`.
     fn follows_name(self) -> bool {
-        let before = self.file.get(self.start.saturating_sub(1)).copied();
-        self.start > 0 && before.is_some_and(|byte| is_name_byte(byte) || byte == b'.')
+        let before = self.byte_before();
+        before.is_some_and(|byte| is_name_byte(byte) || byte == b'.')
+    }
+
+    /// The byte before the part.
+    pub fn byte_before(self) -> Option<u8> {
+        self.file.get(self.start.checked_sub(1)?).copied()
     }
 }
 
@@ -211,9 +262,16 @@ pub(crate) fn is(bytes: &[u8], text: &str) -> bool {
     bytes == text.as_bytes()
 }
 
-/// Whether the bytes begin with this text.
-pub(crate) fn starts_with(bytes: &[u8], text: &str) -> bool {
-    bytes.starts_with(text.as_bytes())
+/// Whether the bytes are one of these words, between which spaces are.
+pub(crate) fn is_word_of(bytes: &[u8], words: &str) -> bool {
+    let mut words = words.as_bytes().split(|byte| *byte == b' ');
+    words.any(|word| word == bytes)
+}
+
+/// What the list has the word for.
+pub(crate) fn named<T: Copy>(list: &[(T, &str)], word: &[u8]) -> Option<T> {
+    let mut found = list.iter().filter(|(_, words)| is_word_of(word, words));
+    found.next().map(|(meant, _)| *meant)
 }
 
 /// Whether the text has the byte.
@@ -229,51 +287,40 @@ pub(crate) fn is_blank(byte: u8) -> bool {
 /// Brackets of one sort, of which the first is open.
 #[derive(Clone, Copy)]
 pub(crate) struct Brackets {
-    pub opener: u8,
-    closer: u8,
+    opener: u8,
     /// How many more are open within it.
-    count: usize,
+    pub count: usize,
 }
 
 impl Brackets {
     /// Those that this byte opens.
     pub fn new(opener: u8) -> Brackets {
-        let closer = match opener {
-            b'(' => b')',
-            b'{' => b'}',
-            _ => b']',
-        };
-        let count = 0;
-        Brackets {
-            opener,
-            closer,
-            count,
-        }
-    }
-
-    /// Whether others are open within the first.
-    pub fn is_nested(self) -> bool {
-        self.count > 0
+        Brackets { opener, count: 0 }
     }
 
     /// What is open behind this byte; nothing where it closes the first.
     pub fn after(self, byte: u8) -> Option<Brackets> {
+        let closer = match self.opener {
+            b'(' => b')',
+            b'{' => b'}',
+            _ => b']',
+        };
         let mut count = self.count;
         if byte == self.opener {
             count = count.saturating_add(1);
-        } else if byte == self.closer {
+        } else if byte == closer {
             count = count.checked_sub(1)?;
         }
         Some(Brackets { count, ..self })
     }
 }
 
-/// The lines without their newlines and carriage returns; or the lines with those that continue them, where a backslash before a newline
-/// joins two.
-pub(crate) fn lines_of(alloc: Global, file: &[u8], is_joined: bool) -> Result<Vec<Part<'_>>> {
+/// The lines of a part without their newlines and carriage returns; or the lines with those that continue them, where a backslash before a
+/// newline joins two.
+pub(crate) fn lines_of(alloc: Global, part: Part, is_joined: bool) -> Result<Vec<Part<'_>>> {
     let mut lines = Vec::new(alloc);
-    let mut rest = Part::whole(file);
-    for _ in 0..file.len() {
+    let mut rest = part;
+    for _ in 0..part.len() {
         let Some((line, next)) = rest.split_line(is_joined) else {
             break;
         };
@@ -282,12 +329,6 @@ pub(crate) fn lines_of(alloc: Global, file: &[u8], is_joined: bool) -> Result<Ve
     }
     Ok(lines)
 }
-
-/// How the name of sed is written where a call begins.
-static SEDS: &'static [&'static str] = &[
-    "sed", "gsed", "ssed", "$(SED)", "${SED}", "$SED", "$${SED}", "$$SED", "$(GSED)", "${GSED}",
-    "$GSED", "@SED@", "%{__sed}", "%__sed",
-];
 
 /// What may close a word behind the name of sed.
 pub(crate) const QUOTES: &str = "\"'";

@@ -2,8 +2,8 @@
 
 use crate::host::Host;
 use crate::make_text::reference_end;
-use crate::parts::{Brackets, Part, QUOTES, is, lines_of};
-use sedck_origin::{Result, Unit, named};
+use crate::parts::{Brackets, Part, QUOTES, is, lines_of, named};
+use sedck_origin::{Result, Unit};
 use std::alloc::Global;
 
 /// A macro that isn't closed.
@@ -28,27 +28,24 @@ enum Sort {
 }
 
 /// The words that begin such lines.
-static WORDS: &'static [(Sort, &'static [&'static str])] = &[
-    (Sort::Script, &["%prep", "%conf", "%build", "%install"]),
-    (Sort::Script, &["%check", "%clean", "%verifyscript"]),
-    (Sort::Script, &["%generate_buildrequires"]),
-    (Sort::Script, &["%pre", "%post", "%preun", "%postun"]),
-    (Sort::Script, &["%pretrans", "%posttrans"]),
-    (Sort::Script, &["%preuntrans", "%postuntrans"]),
-    (Sort::Script, &["%trigger", "%triggerin", "%triggerprein"]),
-    (Sort::Script, &["%triggerun", "%triggerpostun"]),
-    (Sort::Script, &["%filetriggerin", "%filetriggerun"]),
-    (Sort::Script, &["%filetriggerpostun", "%transfiletriggerin"]),
-    (Sort::Script, &["%transfiletriggerun"]),
-    (Sort::Script, &["%transfiletriggerpostun"]),
-    (Sort::Section, &["%files", "%description", "%changelog"]),
-    (Sort::Section, &["%package", "%sourcelist", "%patchlist"]),
-    (Sort::Section, &["%sepolicy"]),
-    (Sort::Directive, &["%if", "%ifarch", "%ifnarch", "%ifos"]),
-    (Sort::Directive, &["%ifnos", "%else", "%elif", "%elifarch"]),
-    (Sort::Directive, &["%elifos", "%endif", "%undefine"]),
-    (Sort::Directive, &["%include", "%dnl"]),
-    (Sort::Definition, &["%define", "%global"]),
+static WORDS: &'static [(Sort, &'static str)] = &[
+    (Sort::Script, "%prep %conf %build %install %check %clean"),
+    (Sort::Script, "%verifyscript %generate_buildrequires"),
+    (
+        Sort::Script,
+        "%pre %post %preun %postun %pretrans %posttrans",
+    ),
+    (Sort::Script, "%preuntrans %postuntrans %trigger %triggerin"),
+    (Sort::Script, "%triggerprein %triggerun %triggerpostun"),
+    (Sort::Script, "%filetriggerin %filetriggerun"),
+    (Sort::Script, "%filetriggerpostun %transfiletriggerin"),
+    (Sort::Script, "%transfiletriggerun %transfiletriggerpostun"),
+    (Sort::Section, "%files %description %changelog %package"),
+    (Sort::Section, "%sourcelist %patchlist %sepolicy"),
+    (Sort::Directive, "%if %ifarch %ifnarch %ifos %ifnos %else"),
+    (Sort::Directive, "%elif %elifarch %elifos %endif %undefine"),
+    (Sort::Directive, "%include %dnl"),
+    (Sort::Definition, "%define %global"),
 ];
 
 /// The state of reading a spec file.
@@ -58,10 +55,8 @@ struct Spec {
     host: Host,
     /// The text of the section.
     units: Vec<Unit>,
-    /// Whether the section is shell text.
-    is_shell: bool,
-    /// Whether it is another section than that, so that calls of sed in its macros aren't noted.
-    is_other: bool,
+    /// Whether the section is shell text; calls of sed in macros of one that isn't aren't noted. None before the first one.
+    is_shell: Option<bool>,
     /// Whether the line is left out.
     is_left_out: bool,
     /// Whether the last line that a directive began gives a macro its text.
@@ -77,44 +72,34 @@ pub(crate) fn host_of_spec(alloc: Global, file: &[u8]) -> Result<Host> {
         alloc,
         host: Host::new(alloc),
         units: Vec::new(alloc),
-        is_shell: false,
-        is_other: false,
+        is_shell: None,
         is_left_out: false,
         is_definition: false,
         is_continued: false,
         open: None,
     };
-    let lines = lines_of(alloc, file, false)?;
+    let lines = lines_of(alloc, Part::whole(file), false)?;
     for line in &lines {
         spec.read_line(*line)?;
     }
-    spec.end_section(Part::whole(file).from(file.len()))?;
+    spec.end_section(Part::whole(file).from(file.len()), false)?;
     Ok(spec.host)
 }
 
 impl Spec {
     /// Reads a line. Blanks may stand before a directive.
     fn read_line(&mut self, line: Part) -> Result<()> {
-        let (word, rest) = line.split_word();
         let (directive, _) = line.after_blanks().split_word();
-        let sort = named(WORDS, directive);
-        if let Some(Sort::Directive | Sort::Definition) = sort {
-            self.is_definition = matches!(sort, Some(Sort::Definition));
-            return self.read_text(line, true);
-        }
-        match named(WORDS, word) {
-            Some(Sort::Script) => self.begin_section(line, has_shell(rest)),
-            Some(Sort::Section) => self.begin_section(line, false),
+        let (word, rest) = line.split_word();
+        match (named(WORDS, directive), named(WORDS, word)) {
+            (Some(sort @ (Sort::Directive | Sort::Definition)), _) => {
+                self.is_definition = matches!(sort, Sort::Definition);
+                self.read_text(line, true)
+            }
+            (_, Some(Sort::Script)) => self.end_section(line, has_shell(rest)),
+            (_, Some(Sort::Section)) => self.end_section(line, false),
             _ => self.read_text(line, self.is_continued),
         }
-    }
-
-    /// Begins a section with this line.
-    fn begin_section(&mut self, line: Part, is_shell: bool) -> Result<()> {
-        self.end_section(line)?;
-        self.is_shell = is_shell;
-        self.is_other = !is_shell;
-        Ok(())
     }
 
     /// Reads a line of a section.
@@ -123,9 +108,7 @@ impl Spec {
         self.is_continued = is_left_out && line.bytes().last() == Some(&b'\\');
         let mut rest = line;
         for _ in 0..line.len() {
-            let Some(byte) = rest.first() else {
-                break;
-            };
+            let Some(byte) = rest.first() else { break };
             rest = self.read(rest, byte)?;
         }
         if self.is_text() {
@@ -134,8 +117,8 @@ impl Spec {
         Ok(())
     }
 
-    /// Ends the section before this line, and what is open in it.
-    fn end_section(&mut self, line: Part) -> Result<()> {
+    /// Ends the section before this line, which begins one that is shell text or isn't, and what is open in it.
+    fn end_section(&mut self, line: Part, is_shell: bool) -> Result<()> {
         let units = std::mem::replace(&mut self.units, Vec::new(self.alloc));
         self.host.add(units)?;
         if let Some(open) = self.open {
@@ -143,15 +126,16 @@ impl Spec {
         }
         self.is_continued = false;
         self.open = None;
+        self.is_shell = Some(is_shell);
         Ok(())
     }
 
     /// Notes a call of sed in a macro with brackets, which begins the part.
     fn note_macro(&mut self, part: Part) -> Result<()> {
-        if self.is_other && !self.is_in_definition() {
+        if self.is_shell == Some(false) && !self.is_in_definition() {
             return Ok(());
         }
-        self.host.note_unread(part.skip(2))
+        self.host.note(part.skip(2).mention_of_sed())
     }
 
     /// Whether what is read gives a macro its text.
@@ -161,7 +145,7 @@ impl Spec {
 
     /// Whether what is read is shell text: outside of macros in a section of it.
     fn is_text(&self) -> bool {
-        self.is_shell && !self.is_left_out && self.open.is_none()
+        self.is_shell == Some(true) && !self.is_left_out && self.open.is_none()
     }
 
     /// Adds a unit, if it is shell text.
@@ -182,18 +166,14 @@ impl Spec {
         if self.is_in_definition() && rest.is_call(QUOTES) {
             self.host.unread.push(rest.start)?;
         }
-        match rest.skip(1).first() {
-            Some(opener @ (b'{' | b'(' | b'[')) if byte == b'%' => {
-                let (start, brackets) = (rest.start, Brackets::new(opener));
-                self.open = Some(Open { start, brackets });
-                Ok(rest.skip(2))
-            }
-            _ => {
-                let unit = spec_unit(rest, byte);
-                self.add(unit)?;
-                Ok(rest.from(unit.end()))
-            }
+        if let [b'%', opener @ (b'{' | b'(' | b'['), ..] = rest.bytes() {
+            let (start, brackets) = (rest.start, Brackets::new(*opener));
+            self.open = Some(Open { start, brackets });
+            return Ok(rest.skip(2));
         }
+        let unit = spec_unit(rest, byte);
+        self.add(unit)?;
+        Ok(rest.from(unit.end()))
     }
 
     /// Reads a byte of a macro with brackets, which may close it. What is in `%(..)` is read by the shell when it is replaced.
@@ -214,33 +194,25 @@ impl Spec {
 
     /// Adds what is in `%(..)`; calls of sed in macros there aren't read.
     fn add_command(&mut self, inner: Part) -> Result<()> {
-        let units = command_units(self.alloc, inner)?;
+        let mut units = Vec::new(self.alloc);
+        inner.push_units(&mut units, command_unit)?;
         for unit in &units {
             if let Unit::Hole(hole) = *unit {
                 let within = inner.between(hole.start, hole.end).skip(2);
-                self.host.note_unread(within)?;
+                self.host.note(within.mention_of_sed())?;
             }
         }
         self.host.add(units)
     }
 }
 
-/// The units of what is in `%(..)`: macros in it are holes.
-fn command_units(alloc: Global, whole: Part) -> Result<Vec<Unit>> {
-    let mut units = Vec::new(alloc);
-    let mut rest = whole;
-    for _ in 0..whole.len() {
-        let Some(byte) = rest.first() else {
-            break;
-        };
-        let unit = match rest.skip(1).first() {
-            Some(b'{' | b'(') if byte == b'%' => Unit::made(rest.start, reference_end(rest)),
-            _ => spec_unit(rest, byte),
-        };
-        units.push(unit)?;
-        rest = rest.from(unit.end());
+/// The unit that begins a part of what is in `%(..)`: a macro is a hole.
+fn command_unit(part: Part) -> Option<Unit> {
+    match part.bytes() {
+        [b'%', b'{' | b'(', ..] => Some(Unit::made(part.start, reference_end(part))),
+        [byte, ..] => Some(spec_unit(part, *byte)),
+        [] => None,
     }
-    Ok(units)
 }
 
 /// The unit of the byte that begins the part: a macro without brackets as a hole, `%%`, or the byte itself.
@@ -263,14 +235,7 @@ fn spec_unit(part: Part, byte: u8) -> Unit {
 
 /// Whether a section with these options is run by a shell: with no option `-p`, or one with a shell's path.
 fn has_shell(options: Part) -> bool {
-    let mut rest = options;
-    for _ in 0..8 {
-        let (word, next) = rest.split_word();
-        if is(word, "-p") {
-            let (program, _) = next.split_word();
-            return program.ends_with("sh".as_bytes()) && !program.ends_with("csh".as_bytes());
-        }
-        rest = next;
-    }
-    true
+    let (option, rest) = options.after_words(7, |word| !is(word, "-p")).split_word();
+    let (program, _) = rest.split_word();
+    !is(option, "-p") || (program.ends_with(b"sh") && !program.ends_with(b"csh"))
 }

@@ -1,23 +1,18 @@
 //! Files of continuous integration: the shell text of the keys that have it.
 
 use crate::host::Host;
-use crate::parts::{Part, is, is_blank, is_in, starts_with};
-use crate::scalars::{Block, header, plain_scalar, push_line, quoted_units};
-use sedck_origin::{Result, is_among, is_name_byte};
+use crate::parts::{Part, is, is_blank, is_in, is_word_of, lines_of};
+use crate::scalars::{header, line_unit, plain_scalar, quoted_units};
+use sedck_origin::{Result, is_name_byte};
 use std::alloc::Global;
 use std::collections::BTreeMap;
 
 /// Keys whose values are shell text.
-static KEYS: &'static [&'static [&'static str]] = &[
-    &["run", "script", "before_script", "after_script"],
-    &["install", "before_install", "before_cache"],
-    &["after_success", "after_failure"],
-    &["before_deploy", "after_deploy"],
-    &["bash", "command"],
-];
+const KEYS: &str = "run script before_script after_script install before_install before_cache \
+                    after_success after_failure before_deploy after_deploy bash command";
 
 /// How the values of `shell:` begin that name no shell of POSIX's.
-static FOREIGN: &'static [&'static str] = &["py", "pw", "po", "pe", "cmd", "node", "ruby", "fish"];
+const FOREIGN: &str = "py pw po pe cmd node ruby fish";
 
 /// How often each byte of a file may be looked at as a part of nodes.
 const LOOKED_AT: usize = 8;
@@ -92,67 +87,61 @@ pub(crate) fn host_of_yaml(alloc: Global, file: &[u8]) -> Result<Host> {
 }
 
 impl<'a> Yaml<'a> {
-    /// Reads a line.
+    /// Reads a line: a key with its value; an item of the sequence, the value itself, or a part of an item; or another one.
     fn read_line(&mut self, line: Line<'a>) -> Result<()> {
-        let list = self.list;
+        let outer = self.list.map(|list| list.items.unwrap_or(list.key));
         let is_item = self.is_item(line);
-        if key_end(line.text).is_some() {
-            return self.read_key(line);
+        if let Some(end) = key_end(line.text) {
+            return self.read_key(line, end);
         }
-        // An item of the sequence, the value itself, or a part of an item.
-        match list.map(|list| list.items.unwrap_or(list.key)) {
+        match outer {
             Some(outer) if is_item || line.indentation > outer => {
-                let parent = line.dash.unwrap_or(outer);
-                let text = line.text;
+                let (text, parent) = (line.text, line.dash.unwrap_or(outer));
                 self.read_value(Value { text, parent })
             }
-            _ => self.read_key(line),
+            _ => self.pass_line(line),
         }
     }
 
     /// Whether the line begins an item of the sequence. Another line may end the sequence.
     fn is_item(&mut self, line: Line<'a>) -> bool {
-        let Some(list) = self.list else {
-            return false;
-        };
+        let Some(list) = self.list else { return false };
         let items = list.items.unwrap_or(line.indentation);
         let is_item = line.dash.is_some()
             && line.indentation >= list.key
             && items == line.indentation;
-        if is_item {
-            let (key, items) = (list.key, Some(items));
-            self.list = Some(List { key, items });
-        } else if line.indentation <= items {
-            self.list = None;
-        }
+        let is_within = is_item || line.indentation > items;
+        let (key, items) = (list.key, Some(items));
+        self.list = is_within.then_some(List { key, items });
         is_item
     }
 
-    /// Reads a line with a key.
-    fn read_key(&mut self, line: Line<'a>) -> Result<()> {
-        let Some(end) = key_end(line.text) else {
-            return self.pass_line(line);
-        };
+    /// Reads a line with a key, behind which `end` is.
+    fn read_key(&mut self, line: Line<'a>, end: Part<'a>) -> Result<()> {
         let key = unquoted(line.text.before(end));
         let (text, parent) = (end.after_blanks().skip(1).after_blanks(), line.column);
         let value = Value { text, parent };
-        self.end_step(line);
-        if is(key, "shell") && is_foreign(value.text.bytes()) {
-            self.foreign = Some(line.column);
+        let (column, has_dash) = (line.column, line.dash.is_some());
+        let is_within = |step: &usize| *step < column || (*step == column && !has_dash);
+        self.foreign = self.foreign.filter(is_within);
+        if is(key, "shell") && FOREIGN.split(' ').any(|name| value.text.starts_with(name)) {
+            self.foreign = Some(column);
         }
-        if KEYS.iter().any(|keys| is_among(key, keys)) && self.foreign != Some(line.column) {
-            let (key, items) = (line.column, None);
+        if is_word_of(key, KEYS) && self.foreign != Some(column) {
+            let (key, items) = (column, None);
             self.list = Some(List { key, items });
             return self.read_value(value);
         }
         if value.text.begins_with(b'&') {
-            let mut name = Vec::new(self.alloc);
-            name.extend_from_slice(anchor_of(value.text))?;
+            let name = anchor_of(value.text).to_vec(self.alloc)?;
             self.anchors.insert(name, value)?;
         }
         let value = after_anchor(value);
         match value.text.first() {
-            Some(b'|' | b'>') => self.read_block(value, 0),
+            Some(b'|' | b'>') => {
+                let _ = self.take_block(value);
+                Ok(())
+            }
             Some(b'{' | b'[') => self.pass_value(value),
             _ => Ok(()),
         }
@@ -161,25 +150,15 @@ impl<'a> Yaml<'a> {
     /// Passes a line that begins with no key which is read, and notes a call of sed in it where it may have one: in a mapping in brackets, as
     /// `- {run: sed p}`, behind a tag or an anchor, or with all lines that belong to it in a key or a value that is marked by `?` or `:`.
     fn pass_line(&mut self, line: Line<'a>) -> Result<()> {
-        let text = line.text;
+        let (text, parent) = (line.text, line.column);
         if has_sign(text, "?:") {
-            let parent = line.column;
             return self.pass_value(Value { text, parent });
         }
         let is_other = text.first().is_some_and(|byte| is_in(byte, "[]}!&*"));
         if is_other || text.from_any("{").len() > 0 {
-            return self.host.note_unread(text);
+            return self.host.note(text.mention_of_sed());
         }
         Ok(())
-    }
-
-    /// Forgets the `shell:` of a step that the line ends.
-    fn end_step(&mut self, line: Line<'a>) {
-        if let Some(column) = self.foreign {
-            if line.column < column || (line.dash.is_some() && line.column <= column) {
-                self.foreign = None;
-            }
-        }
     }
 
     /// Reads a value of shell text; an anchor may stand before it. Nothing is there before a sequence. A folded block is a text only if it
@@ -193,8 +172,7 @@ impl<'a> Yaml<'a> {
             self.note_alias(value.text)?;
         }
         match value.text.first() {
-            Some(b'|') => self.read_block(value, usize::MAX),
-            Some(b'>') => self.read_block(value, 1),
+            Some(sign @ (b'|' | b'>')) => self.read_block(value, sign),
             Some(quote @ (b'\'' | b'"')) => match quoted_units(self.alloc, value.text, quote)? {
                 Some(units) => self.host.add(units),
                 None => self.pass_value(value),
@@ -226,19 +204,12 @@ impl<'a> Yaml<'a> {
         if self.left == 0 {
             return Ok(self.host.unread.push(anchor.text.start)?);
         }
-        self.host.note_unread(anchor.text.to(end))
+        self.host.note(anchor.text.to(end).mention_of_sed())
     }
 
     /// What is behind a value on the line that was read: the next line that begins another node, and all behind that.
     fn rest_behind(&self, value: Value<'a>) -> Part<'a> {
-        let mut rest = self.rest;
-        for _ in 0..self.rest.len() {
-            match rest.split_line(false) {
-                Some((line, next)) if !is_node(line, value.parent) => rest = next,
-                _ => break,
-            }
-        }
-        rest
+        self.rest.after_lines(|line| !is_node(line, value.parent))
     }
 
     /// Passes a value that isn't read, with the lines that belong to it, and notes a call of sed in it.
@@ -249,41 +220,57 @@ impl<'a> Yaml<'a> {
 
     /// Notes a call of sed in the value, which ends before what isn't read yet.
     fn note_lines(&mut self, value: Value<'a>) -> Result<()> {
-        self.host.note_unread(value.text.to(self.rest.start))
+        let whole = value.text.to(self.rest.start);
+        self.host.note(whole.mention_of_sed())
     }
 
-    /// Reads a block scalar, which is a text if no more of its lines have text; with none it is no shell text at all.
-    fn read_block(&mut self, value: Value<'a>, most: usize) -> Result<()> {
-        let Some(given) = header(value.text.skip(1)) else {
-            return if most > 0 {
-                self.pass_value(value)
-            } else {
-                Ok(())
-            };
+    /// Reads a block scalar, which is a text unless it is a folded one with several lines.
+    fn read_block(&mut self, value: Value<'a>, sign: u8) -> Result<()> {
+        let Some((block, indentation)) = self.take_block(value) else {
+            return self.pass_value(value);
         };
-        let mut block = Block::new(self.alloc, value.parent, given);
-        for _ in 0..self.rest.len() {
-            match self.rest.split_line(false) {
-                Some((line, rest)) if block.add_line(line)? => self.rest = rest,
-                _ => break,
-            }
-        }
-        if block.count <= most {
-            return self.host.add(block.units);
-        }
-        if most > 0 {
+        let lines = lines_of(self.alloc, block, false)?;
+        let count = lines.iter().filter(|line| !is_empty(**line)).count();
+        if sign == b'>' && count > 1 {
             return self.note_lines(value);
         }
-        Ok(())
+        let mut units = Vec::new(self.alloc);
+        // No space is read of blank lines before the one that gives the indentation.
+        let mut is_begun = header(value.text.skip(1)) != Some(0);
+        for line in &lines {
+            is_begun |= !is_empty(*line);
+            let count = if is_begun { indentation } else { line.len() };
+            line.skip(count).push_units(&mut units, line_unit)?;
+            line.push_newline(&mut units)?;
+        }
+        self.host.add(units)
+    }
+
+    /// Takes the lines of a block scalar, and answers their indentation with them; none where its header isn't one. The first line that
+    /// isn't blank gives the indentation, unless the header adds one to that of the node.
+    fn take_block(&mut self, value: Value<'a>) -> Option<(Part<'a>, usize)> {
+        let given = header(value.text.skip(1))?;
+        let first = self.rest.after_lines(is_empty);
+        let found = indentation_of(first).max(value.parent.saturating_add(1));
+        let indentation = match given {
+            0 => found,
+            _ => value.parent.saturating_add(given),
+        };
+        let is_within = |line| is_empty(line) || indentation_of(line) >= indentation;
+        let rest = self.rest.after_lines(is_within);
+        let block = self.rest.to(rest.start);
+        self.rest = rest;
+        Some((block, indentation))
     }
 
     /// Reads a plain scalar, unless it goes on on the next line.
     fn read_plain(&mut self, value: Value<'a>) -> Result<()> {
         let others = self.rest.to(self.rest_behind(value).start);
+        let is_alone = others.after_lines(|line| line.is_ended()).len() == 0;
         match plain_scalar(value.text) {
-            Some(scalar) if !has_text(others) => {
+            Some(scalar) if is_alone => {
                 let mut units = Vec::new(self.alloc);
-                push_line(&mut units, scalar)?;
+                scalar.push_units(&mut units, line_unit)?;
                 self.host.add(units)
             }
             _ => self.pass_value(value),
@@ -291,24 +278,14 @@ impl<'a> Yaml<'a> {
     }
 }
 
-/// Whether a line of the part has more than blanks and a comment.
-fn has_text(part: Part) -> bool {
-    let mut rest = part;
-    for _ in 0..part.len() {
-        match rest.split_line(false) {
-            Some((line, next)) if line.is_ended() => rest = next,
-            found => return found.is_some(),
-        }
-    }
-    false
+/// Whether a line has only spaces.
+fn is_empty(line: Part) -> bool {
+    line.after_any(" ").len() == 0
 }
 
 /// The value without the anchor that begins it.
 fn after_anchor(value: Value<'_>) -> Value<'_> {
-    if !value.text.begins_with(b'&') {
-        return value;
-    }
-    let (_, text) = value.text.split_word();
+    let text = value.text.after_words(1, |word| word.starts_with(b"&"));
     Value { text, ..value }
 }
 
@@ -320,14 +297,13 @@ fn anchor_of(text: Part) -> &[u8] {
 
 /// The indentation of the line.
 fn indentation_of(line: Part) -> usize {
-    line.after_any(" ").start.saturating_sub(line.start)
+    line.before(line.after_any(" ")).len()
 }
 
 /// Whether the line isn't in the value of a key with this indentation, in which the items of a sequence may be.
 fn is_behind(line: Part, column: usize) -> bool {
     let has_dash = line.after_any(" ").begins_with(b'-');
-    let indentation = indentation_of(line);
-    !line.is_ended() && (indentation < column || (indentation == column && !has_dash))
+    is_node(line, column) && (indentation_of(line) < column || !has_dash)
 }
 
 /// Whether the line begins another node than one with this indentation: it isn't blank, and isn't indented more.
@@ -337,34 +313,20 @@ fn is_node(line: Part, parent: usize) -> bool {
 
 /// The line without the dashes of sequences that begin it.
 fn after_dashes(whole: Part) -> Line<'_> {
-    let mut text = whole.after_any(" ");
-    let indentation = text.start.saturating_sub(whole.start);
-    let mut dash = None;
-    for _ in 0..8 {
-        if !has_sign(text, "-") {
-            break;
-        }
-        dash = Some(text.start.saturating_sub(whole.start));
-        text = text.skip(1).after_blanks();
-    }
+    let first = whole.after_any(" ");
+    let text = first.after_words(8, |word| is(word, "-"));
+    let before = whole.before(text);
     Line {
         text: key_behind(text),
-        indentation,
-        column: text.start.saturating_sub(whole.start),
-        dash,
+        indentation: whole.before(first).len(),
+        column: before.len(),
+        dash: before.iter().rposition(|byte| *byte == b'-'),
     }
 }
 
 /// The part without tags and anchors that begin it, where a key stands behind them.
 fn key_behind(part: Part<'_>) -> Part<'_> {
-    let mut rest = part;
-    for _ in 0..4 {
-        if !rest.begins_with(b'&') && !rest.begins_with(b'!') {
-            break;
-        }
-        let (_, behind) = rest.split_word();
-        rest = behind;
-    }
+    let rest = part.after_words(4, |word| word.starts_with(b"&") || word.starts_with(b"!"));
     if key_end(rest).is_some() { rest } else { part }
 }
 
@@ -387,9 +349,4 @@ fn unquoted(key: &[u8]) -> &[u8] {
         [b'"', inner @ .., b'"'] | [b'\'', inner @ .., b'\''] => inner,
         _ => key,
     }
-}
-
-/// Whether a `shell:` with this value is no shell of POSIX's.
-fn is_foreign(value: &[u8]) -> bool {
-    FOREIGN.iter().any(|name| starts_with(value, name))
 }
