@@ -21,16 +21,18 @@ struct Here<'a> {
 struct Docker<'a> {
     alloc: Global,
     host: Host,
-    /// What isn't read yet, before a directive that changes how lines are continued.
+    /// What isn't read yet.
     rest: Part<'a>,
     /// Whether the commands are those of another shell.
     is_foreign: bool,
 }
 
-/// The shell text of a Dockerfile; none behind a directive that changes how lines are continued.
+/// The shell text of a Dockerfile; none where a directive among the comments at its top changes how lines are continued.
 pub(crate) fn host_of_docker(alloc: Global, file: &[u8]) -> Result<Host> {
     let whole = Part::whole(file);
-    let unread = whole.after_lines(|line| !is_escape(line.bytes()));
+    let top = whole.after_lines(|line| line.begins_with(b'#') && !is_escape(line.bytes()));
+    let is_changed = matches!(top.split_line(false), Some((line, _)) if is_escape(line.bytes()));
+    let unread = top.from(if is_changed { top.start } else { top.end });
     let mut docker = Docker {
         alloc,
         host: Host::new(alloc),
@@ -48,10 +50,8 @@ pub(crate) fn host_of_docker(alloc: Global, file: &[u8]) -> Result<Host> {
 }
 
 impl<'a> Docker<'a> {
-    /// Reads an instruction with the lines that continue it, among which comments and blank lines don't count. One that such a directive
-    /// cuts off isn't read.
+    /// Reads an instruction with the lines that continue it, among which comments and blank lines don't count.
     fn read_instruction(&mut self) -> Result<()> {
-        let whole = Part::whole(self.rest.file);
         let mut units = Vec::new(self.alloc);
         let mut blanks = " \t";
         for _ in 0..self.rest.len() {
@@ -69,8 +69,8 @@ impl<'a> Docker<'a> {
             }
             blanks = "";
         }
-        if blanks.is_empty() && self.rest.end == whole.end {
-            return self.end_instruction(&units, whole);
+        if blanks.is_empty() {
+            return self.end_instruction(&units, Part::whole(self.rest.file));
         }
         Ok(())
     }
