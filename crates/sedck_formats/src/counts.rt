@@ -174,6 +174,8 @@ pub fn assumed_line(
 #[derive(Clone, Copy)]
 pub struct ScriptCounts {
     pub accepted: usize,
+    /// Under a condition.
+    pub accepted_if: usize,
     /// With a loop, or with what is denied.
     pub rejected: usize,
     pub refused: usize,
@@ -185,6 +187,7 @@ impl ScriptCounts {
     /// No scripts.
     pub const NONE: ScriptCounts = ScriptCounts {
         accepted: 0,
+        accepted_if: 0,
         rejected: 0,
         refused: 0,
         unreadable: 0,
@@ -194,6 +197,7 @@ impl ScriptCounts {
     pub fn add(&mut self, status: Status) {
         match status {
             Status::Accepted => self.accepted = self.accepted.saturating_add(1),
+            Status::Unknown => self.accepted_if = self.accepted_if.saturating_add(1),
             Status::Rejected => self.rejected = self.rejected.saturating_add(1),
             Status::Refused => self.refused = self.refused.saturating_add(1),
             _ => self.unreadable = self.unreadable.saturating_add(1),
@@ -203,7 +207,8 @@ impl ScriptCounts {
     /// A line that says how many scripts there are, and how many of each answer that there is.
     pub fn text(self, alloc: Global, may_be_denied: bool) -> Result<Vec<u8>, AllocError> {
         let mut out = Written::new(alloc);
-        let known = self.accepted.saturating_add(self.rejected);
+        let accepted = self.accepted.saturating_add(self.accepted_if);
+        let known = accepted.saturating_add(self.rejected);
         let others = self.refused.saturating_add(self.unreadable);
         out.counted(known.saturating_add(others), " script", " scripts");
         let rejected = if may_be_denied {
@@ -213,6 +218,7 @@ impl ScriptCounts {
         };
         let mut before = ": ";
         push_count(&mut out, &mut before, self.accepted, " accepted");
+        push_count(&mut out, &mut before, self.accepted_if, ACCEPTED_IF);
         push_count(&mut out, &mut before, self.rejected, rejected);
         push_count(&mut out, &mut before, self.refused, " refused");
         push_count(&mut out, &mut before, self.unreadable, " not readable");

@@ -2,9 +2,9 @@
 
 use crate::answers::answer_word;
 use crate::names::Names;
-use crate::words::{GREEN, RED, ink_where, place_words, push_inked};
+use crate::words::{GREEN, RED, YELLOW, ink_where, place_words, push_inked};
 use crate::written::Written;
-use sedck_answer::{Answer, Explanation};
+use sedck_answer::{Answer, Explanation, Status};
 use sedck_cert::Bound;
 use sedck_report::{NamedFile, Position, shown_name};
 
@@ -19,6 +19,9 @@ pub(crate) fn push_summary(
     colour: bool,
 ) {
     let (ink, rest) = match &explanation.answer {
+        Answer::Accepted { .. } if matches!(explanation.status, Status::Unknown) => {
+            (YELLOW, ": every run ends if what isn't known is as said\n")
+        }
         Answer::Accepted { .. } if explanation.is_denied() => ("", ", though every run ends\n"),
         Answer::Accepted { .. } => (GREEN, ": every run ends\n"),
         Answer::Rejected { .. } => (RED, ": the certificate doesn't fit the script\n"),

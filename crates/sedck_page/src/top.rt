@@ -2,7 +2,7 @@
 
 use crate::boxes::{is_at_top, push_box};
 use crate::markup::push_prose;
-use sedck_answer::{Answer, Explanation};
+use sedck_answer::{Answer, Explanation, Status};
 use sedck_formats::{
     Names, Shown, Written, is_listed, level_word, place_words, push_memory, push_steps,
 };
@@ -40,6 +40,12 @@ pub(crate) fn push_top(
 
 /// The class and the words of the answer.
 fn answer_words(explanation: &Explanation) -> (&'static str, &'static str) {
+    if matches!(explanation.status, Status::Unknown) {
+        return (
+            "warning",
+            "Accepted if what isn't known is as said: then every run of the script ends.",
+        );
+    }
     if explanation.is_denied() {
         return ("error", "Denied, though every run of the script ends.");
     }
