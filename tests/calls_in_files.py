@@ -66,7 +66,7 @@ ROWS = [
     ("a.sh", [], "cat f | sed p > out 2>&1 && ! sed d\n", 0, [("1:9", A, ["p"]), ("1:31", A, ["d"])]),
     ("a.sh", [], "f() { sed p; }; (sed d); { sed = ; }\n", 0, [("1:7", A, ["p"]), ("1:18", A, ["d"]), ("1:28", A, ["="])]),
     ("a.sh", [], "case $x in a|b) sed p;; (c) sed d;; *) sed =;; esac\nsed x\n", 0, [("1:17", A, ["p"]), ("1:29", A, ["d"]), ("1:40", A, ["="]), ("2:1", A, ["x"])]),
-    ("a.sh", [], "for f in sed b; do sed p $f; done\nwhile read l; do sed d; done\n", 5, [("1:20", IF, ["p", "x"]), ("2:18", A, ["d"])]),
+    ("a.sh", [], "for f in sed $b; do sed p $f; done\nwhile read l; do sed d; done\n", 5, [("1:21", IF, ["p", "x"]), ("2:18", A, ["d"])]),
     ("a.sh", [], "# sed p\necho sed p # sed d\necho 'sed p' \"sed d\"\nsedation p\n", 0, []),
     ("a.sh", [], "cat <<EOF\nsed p\nEOF\nsed d <<'E'\nsed x\nE\nsh <<E\nsed =\nE\n", 0, [("4:1", A, ["d"]), ("8:1", A, ["="])]),
     ("a.sh", [], "cat <<EOF\n$(sed p)\nEOF\n", 0, [("2:3", A, ["p"])]),
@@ -75,9 +75,9 @@ ROWS = [
     # Names.
     ("a.sh", [], "/usr/bin/sed p; gsed d; $SED x; ${SED-sed} =; \"$SED\" g; busybox sed h\n", 5, [("1:1", A, ["p"]), ("1:17", A, ["d"]), ("1:25", IF, ["x"]), ("1:33", IF, ["="]), ("1:47", A, ["g"]), ("1:65", A, ["h"])]),
     ("a.sh", [], "LC_ALL=C sed p; env A=b sed d; exec sed x; command sed =; sudo -u me sed g\n", 0, [("1:10", A, ["p"]), ("1:25", A, ["d"]), ("1:37", A, ["x"]), ("1:52", A, ["="]), ("1:70", A, ["g"])]),
-    ("a.sh", [], "xargs -0 -n 1 sed -n p; find . -name '*.c' -exec sed -n '1p' {} + -o -exec sed d {} \\;\n", 5, [("1:15", IF, ["-n", "p"]), ("1:50", A, ["-n", "1p", "xx"]), ("1:76", A, ["d", "xx"])]),
+    ("a.sh", [], "xargs -0 -n 1 sed -n p; find . -name '*.c' -exec sed -n '1p' {} + -o -exec sed d {} \\;\n", 5, [("1:15", IF, ["-n", "p"]), ("1:50", A, ["-n", "1p", "x"]), ("1:76", A, ["d", "x"])]),
     ("a.sh", [], "xargs sed -e p --\nxargs -P$N -n1 sed -n p\nxargs -I% sed 's/a/%/' %\n", 5, [("1:7", A, ["-e", "p", "--"]), ("2:16", IF, ["-n", "p"]), ("3:11", IF, None)]),
-    ("a.sh", [], "xargs -0I{} sed p {}; xargs -rI{} sed -e p -- {}\nxargs -0P4 sed p\n", 5, [("1:13", IF, ["p", "xx"]), ("1:35", A, ["-e", "p", "--", "xx"]), ("2:12", IF, ["p"])]),
+    ("a.sh", [], "xargs -0I{} sed p {}; xargs -rI{} sed -e p -- {}\nxargs -0P4 sed p\n", 5, [("1:13", IF, ["p", "x"]), ("1:35", A, ["-e", "p", "--", "x"]), ("2:12", IF, ["p"])]),
     ("a.sh", [], "find . -exec sh -c 'sed p \"$1\"' x {} \\;\nfind . -exec sh -c 'sed -e p -- \"$@\"' x {} +\nfind . -exec sh -c 'sed p d/{}; sed d f' \\;\n", 5,
      [("1:21", IF, ["p", "x"]), ("2:21", A, None), ("3:21", IF, ["p", "d/x"]), ("3:33", A, ["d", "f"])]),
     ("a.bash", [], "bash -c \"sed \\$'s/a\\\\tb/c/'\"\nsh -c \"sed \\$'s/a\\\\tb/c/'\"\nsed $\"s/a/b/\"; sed p$\"x\" f\nsed p \"x$\" $\"d\"/f\n", 5,
@@ -110,13 +110,31 @@ ROWS = [
     ("a.sh", [], 'a=\nsed "s/$a$a/b/"\nsed p f\n', 2, [("2:1", REFUSED, ["s//b/"]), ("3:1", A, ["p", "f"])]),
     ("a.sh", [], 'a=u\nsed ":x;s/$a/$a/;tx"\n', 1, [("2:1", LOOP, [":x;s/u/u/;tx"])]),
     ("a.sh", [], 'a=u\nif c; then sed "s/$a/b/"; fi\nf() { sed "s/$a/c/"; }\n', 5, [("2:12", IF, ["s/u/b/"]), ("3:7", IF, ["s/u/c/"])]),
-    ("a.sh", [], 'f() { a=u; sed "s/$a/b/"; }\nsed "s/$a/b/"\n', 5, [("1:12", IF, ["s/u/b/"]), ("2:1", IF, ["s/x/b/"])]),
-    ("a.sh", [], 'a=u\nsed "s/$a/b/"\n. ./c\nsed "s/$a/b/"\n', 5, [("2:1", IF, ["s/u/b/"]), ("4:1", IF, ["s/x/b/"])]),
-    ("a.sh", [], 'a=u\nf() { sed "s/$a/b/"; }\n. ./c\n', 5, [("2:7", IF, ["s/x/b/"])]),
-    ("a.sh", [], 'if c; then a=u; fi\nb && a2=u\n(a3=u)\na4=u | c\na5=u &\nwhile c; do a6=u; done\n{ a7=u; }\ncase c in c) a8=u;; esac\n' + "".join('sed "s/$a%s/b/"\n' % n for n in ("", 2, 3, 4, 5, 6, 7, 8)), 5, [("%d:1" % line, IF, None) for line in range(9, 17)]),
-    ("a.sh", [], 'a=u\na=v\nsed "s/$a/b/"\n', 5, [("3:1", IF, None)]),
-    ("a.sh", [], 'a=u\nread a\nsed "s/$a/b/"\n', 5, [("3:1", IF, None)]),
-    ("a.sh", [], "a=u; bash -c 'sed \"s/$a/b/\"'\n", 5, [("1:15", IF, None)]),
+    ("a.sh", [], 'f() { a=u; sed "s/$a/b/"; }\nsed "s/$a/b/"\n', 5, [("1:12", IF, ["s/u/b/"]), ("2:1", IF, ["s/u/b/"])]),
+    ("a.sh", [], 'a=u\nsed "s/$a/b/"\n. ./c\nsed "s/$a/b/"\n', 5, [("2:1", IF, ["s/u/b/"]), ("4:1", IF, ["s/u/b/"])]),
+    ("a.sh", [], 'a=u\nf() { sed "s/$a/b/"; }\n. ./c\n', 5, [("2:7", IF, ["s/u/b/"])]),
+    ("a.sh", [], 'if c; then a=u; fi\nb && a2=u\n(a3=u)\na4=u | c\na5=u &\nwhile c; do a6=u; done\n{ a7=u; }\ncase c in c) a8=u;; esac\n' + "".join('sed "s/$a%s/b/"\n' % n for n in ("", 2, 3, 4, 5, 6, 7, 8)), 5, [("%d:1" % line, IF, ["s/u/b/"]) for line in range(9, 17)]),
+    ("a.sh", [], 'a=u\nread a\nsed "s/$a/b/"\n', 5, [("3:1", IF, ["s/x/b/"])]),
+    ("a.sh", [], "a=u; bash -c 'sed \"s/$a/b/\"'\n", 5, [("1:15", IF, ["s/u/b/"])]),
+    # The same value twice is one; of several ones each is judged, but for more than four.
+    ("a.sh", [], 'a=u\na="u"\nsed "s/$a/b/"\n', 5, [("3:1", IF, ["s/u/b/"])]),
+    ("a.sh", [], 'sed "s/$a/b/"\na=u\na=v/\n', 2, [("1:1", IF, ["s/u/b/"]), ("1:1", REFUSED, ["s/v//b/"])]),
+    ("a.sh", [], 'sed ":x;s/a/$a/"\na=b\na="b/;bx;s/c/d"\n', 1, [("1:1", IF, [":x;s/a/b/"]), ("1:1", LOOP, [":x;s/a/b/;bx;s/c/d/"])]),
+    ("a.sh", [], "".join("a=%s\n" % value for value in "stuv") + 'sed "s/$a/b/"\n', 5, [("5:1", IF, ["s/%s/b/" % value]) for value in "stuv"]),
+    ("a.sh", [], "".join("a=%s\n" % value for value in "stuvw") + 'sed "s/$a/b/"\n', 5, [("6:1", IF, ["s/x/b/"])]),
+    ("a.sh", [], 'a=u\nexport a=v\nlocal b\nb=w\nsed "s/$a/$b/"\n', 5, [("5:1", IF, ["s/u/x/"]), ("5:1", IF, ["s/v/x/"])]),
+    ("a.sh", [], 'for a in u v; do sed "s/$a/b/"; done\nfor b in *; do sed "s/$b/c/"; done\nfor c; do sed "s/$c/d/"; done\n', 5,
+     [("1:18", IF, ["s/u/b/"]), ("1:18", IF, ["s/v/b/"]), ("2:16", IF, ["s/x/c/"]), ("3:11", IF, ["s/x/d/"])]),
+    # Of two variables with several values one is a hole, as is one whose values a shell would split.
+    ("a.sh", [], 'a=t\na=u\nb=v\nb=w\nsed "s/$a/$b/"\n', 5, [("5:1", IF, ["s/t/x/"]), ("5:1", IF, ["s/u/x/"])]),
+    ("a.sh", [], "a=f\na='f g'\nsed p $a\nsed p \"$a\"\n", 5, [("3:1", IF, ["p", "x"]), ("4:1", IF, ["p", "f"]), ("4:1", IF, ["p", "f g"])]),
+    # Values that are built of others.
+    ("a.sh", [], 'c=s/$a/$b/\na=t\nb="${a}u"\nsed "$c"\n', 5, [("4:1", IF, ["s/t/tu/"])]),
+    ("a.sh", [], 'a=$a:u\nb=$c\nc=$b\nd=$e\ne=v\ne=w\nsed "s/$a/$b/;s/x/$d/"\n', 5, [("7:1", IF, ["s/x/x/;s/x/x/"])]),
+    ("a.sh", ["--assume", "a=u"], 'b=$a\nc=$b\nsed "s/$b/$c/"\n', 5, [("3:1", IF, ["s/x/x/"])]),
+    ("a.sh", [], 'a=u\nexport b=$a\nexport c="$a"\nsed "s/$b/$c/"\n', 5, [("4:1", IF, ["s/x/u/"])]),
+    ("Makefile", [], "A = u\nB = $(A)v\nall:\n\tsed 's/$(B)/x/' f\n\tA=t; sed \"s/$$A/x/\" f\n", 5, [("4:2", IF, ["s/uv/x/", "f"]), ("5:7", IF, ["s/x/x/", "f"])]),
+    ("Makefile", [], "include x.mk\nA = u\nifdef B\nA ?= v\nendif\nall:\n\tsed 's/$(A)/x/' f\n", 5, [("7:2", IF, ["s/u/x/", "f"]), ("7:2", IF, ["s/v/x/", "f"])]),
     ("a.sh", ["--assume", "a=u"], 'sed "s/$a/b/"\n', 0, [("1:1", A, ["s/u/b/"])]),
     ("a.sh", ["--assume", "a=u/"], 'sed "s/$a/b/"\n', 2, [("1:1", REFUSED, ["s/u//b/"])]),
     ("a.sh", ["--assume", "a=u"], 'a=v\nb=w\nsed "s/$a/b/"\nsed "s/$a/$b/"\n', 5, [("3:1", A, ["s/u/b/"]), ("4:1", IF, ["s/u/w/"])]),
@@ -151,7 +169,7 @@ ROWS = [
     ("a.sh", ["--mend", "--assume", "s=s/[/]/x/"], 's=s/[/]/x/\nsed "$s" f\n', 2, [("2:1", REFUSED, None)]),
     ("a.sh", ["--mend", "--deny", "writes"], "sed 's/[/]/x/w evil' f\n", 1, [("1:1", "denied", None)]),
     ("a.sh", [], "$dir/sed p f\n\"$dir\"/sed p f\n${x:-sed} p f\n", 5, [("1:1", IF, ["p", "f"]), ("2:1", A, ["p", "f"]), ("3:1", IF, ["p", "f"])]),
-    ("a.sh", [], "find $d -exec sed p {} \\;\nfind \"$d\" -name '*.c' -exec sed p {} \\;\nfind \"$d\" f -exec sed p {} \\;\n", 5, [("1:15", IF, ["p", "xx"]), ("2:29", A, ["p", "xx"]), ("3:19", IF, ["p", "xx"])]),
+    ("a.sh", [], "find $d -exec sed p {} \\;\nfind \"$d\" -name '*.c' -exec sed p {} \\;\nfind \"$d\" f -exec sed p {} \\;\n", 5, [("1:15", IF, ["p", "x"]), ("2:29", A, ["p", "x"]), ("3:19", IF, ["p", "x"])]),
     ("a.sh", [], "sed -i '' p f\nsed -i.bak '' f\nsed -i -e '' f\n", 5, [("1:1", UNKNOWN, ["-i", "", "p", "f"]), ("2:1", A, ["-i.bak", "", "f"]), ("3:1", A, ["-i", "-e", "", "f"])]),
     ("a.bash", [], "sh <<< 'sed p f'\neval -- 'sed d f'\ntrap -- 'sed x f' EXIT\nsu --command='sed = f' root\n", 0, [("1:9", A, ["p", "f"]), ("2:10", A, ["d", "f"]), ("3:10", A, ["x", "f"]), ("4:15", A, ["=", "f"])]),
     # What is bash's alone.
@@ -175,6 +193,9 @@ ROWS = [
     ("Dockerfile", [], "FROM a\nRUN a && \\\n    # b\n    sed -i 's/a/b/' f\nRUN [\"sed\", \"p\"]\n", 0, [("4:5", A, ["-i", "s/a/b/", "f"]), ("5:6", A, ["p"])]),
     ("Dockerfile", [], 'FROM a\nRUN ["sed", "-n", "s/a b/$x*/", "f", \\\n "~"]\nCMD [ "sh" , "-c" , "sed p f" ]\nHEALTHCHECK CMD ["sed","d","$f"]\n', 0,
      [("2:6", A, ["-n", "s/a b/$x*/", "f", "~"]), ("4:22", A, ["p", "f"]), ("5:18", A, ["d", "$f"])]),
+    # A directive that changes how lines are continued is one at the top alone, and else a comment.
+    ("Dockerfile", [], "FROM a\nRUN b && \\\n# escape=`\n  sed p f\n", 0, [("4:3", A, ["p", "f"])]),
+    ("Dockerfile", [], "# syntax=a\n# escape=`\nFROM a\nRUN sed p f\n", 5, []),
     # What isn't a list is a line for a shell; a list needs none of the shells of POSIX.
     ("Dockerfile", [], 'FROM a\nRUN ["sed", "p", "f",]\nSHELL ["cmd"]\nRUN ["sed", "p", "f"]\nRUN sed p f\n', 0, [("4:6", A, ["p", "f"])]),
     ("ci.yml", [], "jobs:\n  a:\n    steps:\n      - run: sed p f\n      - name: x\n        run: |\n          sed 's/a/b/' f\n          sed d\n", 0, [("4:14", A, ["p", "f"]), ("7:11", A, ["s/a/b/", "f"]), ("8:11", A, ["d"])]),
@@ -370,9 +391,18 @@ def values():
     if status != 5 or any(finding["level"] != "warning" for finding in calls[0]["findings"] if finding["code"] == "known-value"):
         fail("values: %d %s" % (status, calls))
     got = [finding["message"] for finding in calls[0]["findings"] if finding["code"] == "known-value"]
-    if got != ['the answer holds if "$a" has the value that line 1 sets; or give --assume a=VALUE', '"$c" has the value that is assumed',
+    if got != ['the answer holds if "$a" is "u", as line 1 sets it; or give --assume a=VALUE', '"$c" has the value that is assumed',
                'the answer holds if "$b" is empty, as the file sets it; or give --assume b=VALUE']:
         fail("values: %s" % got)
+    # A value that is built of others depends on these, and a command that sets what it doesn't name is said with each.
+    for name, text, due in (
+            ("a.sh", "a=u\nb='x'$a\neval \"$x\"\nsed \"s/$b/c/\" f\n. ./c\n", [(4, "$b", '"x\'$a", as line 2 sets it, which line 3 may change'),
+                                                                        (2, "$a", '"u", as line 1 sets it, which line 3 may change')]),
+            ("Makefile", "A = u\nall:\n\tsed 's/$(A)/c/' f\n", [(3, "$(A)", '"u", as line 1 sets it, which the call of make, `include` or `$(eval)` may change')])):
+        _, calls, _ = explained(text, name)
+        got = [(finding["position"]["line"], finding["message"]) for finding in calls[0]["findings"] if finding["code"] == "known-value"]
+        if got != [(line, 'the answer holds if "%s" is %s; or give --assume %s=VALUE' % (written, said, written.strip("$()"))) for line, written, said in due]:
+            fail("values of %r: %s" % (text, got))
     # What a value makes of a script is a part of the condition: no plain spelling is written.
     with tempfile.TemporaryDirectory() as folder:
         Path(folder, "a.sh").write_text("a=u\nsed \"s/$a/b/\" f\nsed \"s/$c/b/\" f\n")
@@ -396,7 +426,7 @@ SAID = [(1, '"$SED" isn\'t known: the answer holds if it is the name of a sed, w
         (2, '"$f" isn\'t known: the answer holds if no word of it begins with `-`; or give --assume f=VALUE (2 calls of this file depend on it)'),
         (3, '"$a" isn\'t known: the answer holds if it has no `/`, no newline, and none of `\\&`; or give --assume a=VALUE (2 calls of this file depend on it)'),
         (4, '"p" isn\'t known: the answer holds if POSIXLY_CORRECT isn\'t set, with which an option after an operand is none; or give --assume POSIXLY_CORRECT'),
-        (6, 'the answer holds if "$b" has the value that line 5 sets; or give --assume b=VALUE')]
+        (6, 'the answer holds if "$b" is "u", as line 5 sets it; or give --assume b=VALUE')]
 KINDS = [("sed", 1, 3), ("operand", 1, 2), ("order", 1, 1), ("script", 2, 3), ("value", 1, 1)]
 
 
@@ -470,7 +500,7 @@ def refused_words():
     with tempfile.TemporaryDirectory() as folder:
         Path(folder, "a.sh").write_text("sed p\n")
         for words in (["--calls"], ["--calls", "--format", "html", "a.sh"], ["--calls", "--cert", "a", "a.sh"], ["--as", "sh", "a.sh"], ["--assume", "a=b", "a.sh"],
-                      ["--assume-set", "autoconf", "a.sh"], ["--mend", "a.sh"], ["--assume-set", "automake", "--calls", "a.sh"],
+                      ["--assume-set", "autoconf", "a.sh"], ["--mend", "--cert", "a", "a.sh"], ["--assume-set", "automake", "--calls", "a.sh"],
                       ["--calls", "--as", "perl", "a.sh"], ["--calls", "--sed", "a.sh"]):
             status, out, err = run(folder, *words)
             if status != 3 or out or not err.startswith(b"sedck-explain: "):
@@ -650,6 +680,9 @@ HOSTILE = [
     ("a.sh", "substitutions in quotes", "\"$(" * (M // 3)), ("a.sh", "backquotes", "`" * M + "x`\\`" * 1000), ("a.sh", "parameters", "${" * (M // 2)),
     ("a.sh", "here-documents", "cat <<A\n" * (M // 8)), ("a.sh", "here-documents on a line", "cat " + "<<A " * (M // 4) + "\n"), ("a.sh", "arithmetic", "$((" * (M // 3)),
     ("a.sh", "groups", "(" * M), ("a.sh", "cases", "case x in " * (M // 10)), ("a.sh", "calls", "sed p\n" * (M // 6)), ("a.sh", "calls with holes", "sed \"s/$a/$b/\"\n" * (M // 15)),
+    ("a.sh", "values of values", "a0=x\n" + "".join("a%d=$a%d$a%d\n" % (number, number - 1, number - 1) for number in range(1, M // 30)) + "sed \"s/$a3/b/\"\n" * 1000),
+    ("a.sh", "values of nothing", "a0=\n" + "".join("a%d=%s\n" % (number, "$a%d" % (number - 1) * 300) for number in range(1, 5)) + "sed \"s/$a4$a4/b/\"\n" * 10000),
+    ("a.sh", "four values", "a=t\na=u\na=v\na=w\n" + "sed \"s/$a/b/\"\n" * (M // 20)), ("a.sh", "a value again and again", "a=u\n" * (M // 4) + "sed \"s/$a/b/\"\n" * 1000),
     ("a.sh", "assignments", "".join("a%d=u\n" % index for index in range(M // 10)) + "sed \"s/$a1/b/\"\n" * 1000), ("a.sh", "a long value", "SED='sed " + "-n " * 100000 + "'\n" + "$SED p\n" * 10000),
     ("a.sh", "a long script", "sed '" + "p;" * 2000 + "'\n"), ("a.sh", "texts of shells", "sh -c '" * (M // 7)), ("a.sh", "eval", "eval 'sed p'\n" * (M // 13)),
     ("Makefile", "references", "a:\n\t" + "$(" * (M // 2)), ("Makefile", "recipes", "a:\n" + "\tsed p\n" * (M // 7)), ("Makefile", "shell", "X=" + "$(shell " * (M // 8)),

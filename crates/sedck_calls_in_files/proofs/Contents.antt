@@ -1,5 +1,5 @@
 -- What two reads of a file gave, one after the other, and the status of what was read.
-use Rattle.std.proofs.Common.{◌≡◌, ◌∙◌, ◌+◌, ◌≤◌, ℕ, Bool, true, false, inl, inr, IsTrue, List, ◌++◌, length, Option, Some, None, Result, Ok, Err, IfOk, IfSome, codes, refl, sym, ap, subst, length-append, arith}
+use Rattle.std.proofs.Common.{◌≡◌, ◌∙◌, ◌+◌, ◌≤◌, ℕ, Bool, true, false, inl, inr, IsTrue, List, ◌++◌, length, Option, Some, None, IfSome, codes, refl, sym, ap, subst, length-append, arith}
 use Rattle.std.proofs.lemmas.List.{length-take, take_all}
 use Rattle.std.proofs.lemmas.Bool.{true≢false}
 use Rattle.std.specs.Io.KnownBytes.{Consumes}
@@ -71,10 +71,3 @@ held_status k found denied path Other status held has = absurd held
 held_status k found denied path TooLong status held has = inl has
 held_status k found denied path Unopened status held has = inl has
 held_status k found denied path Unreadable status held has = inl has
-
--- of a folder it may be any
-pub folder_status : {E : Type 0} (k : Known) (found : List ℕ → List ℕ → Option Holds) (denied : Denied) (path : List ℕ) (r : Result Status E)
-    → IsHeldAt k path Unreadable → IfOk r (PathStatus k found denied path)
-folder_status k found denied path (Ok status) (inl fails) = inr (inl fails)
-folder_status k found denied path (Ok status) (inr none) = inr (inr (rw none tt))
-folder_status k found denied path (Err why) held = tt

@@ -100,7 +100,8 @@ fn value_note(
     ensures finding { IfOk result (IsFindingIn file.now) }
 {
     let message = followed_words(alloc, file, followed)?;
-    let hint = value_hint(followed.value);
+    let is_given = matches!(followed.value, KnownValue::Given | KnownValue::Unset);
+    let hint = if is_given { None } else { Some(VALUE) };
     let mut finding = call_finding(alloc, Level::Warning, Code::KnownValue, message, hint);
     finding.position = Some(places.place_offset(followed.start));
     finding.end = Some(places.place_offset(followed.end));
@@ -114,7 +115,12 @@ pub(crate) fn followed_words(
     followed: Followed,
 ) -> Result<String, AllocError> {
     let written = shown_part(alloc, file, followed.start, followed.end)?;
-    let message = value_words(alloc, written.as_str(), followed.value)?;
+    let value = shown_part(alloc, file, followed.from, followed.to)?;
+    let mut message = value_words(alloc, written.as_str(), value.as_str(), followed.value)?;
+    if let Some(line) = followed.open {
+        let change = format!(in alloc; ", which line {line} may change")?;
+        message.push_str(change.as_str())?;
+    }
     let part = file.get(followed.start..followed.end).unwrap_or(&[]);
     match (followed.value, hole_name(part)) {
         (KnownValue::Given | KnownValue::Unset, _) | (_, None) => Ok(message),
@@ -124,15 +130,18 @@ pub(crate) fn followed_words(
 
 /// Where the value of what is written comes from, in words. What the file sets is a condition: the environment, the arguments or another
 /// command may give another value.
-fn value_words(alloc: Global, written: &str, value: KnownValue) -> Result<String, AllocError> {
-    match value {
-        KnownValue::Line(line) => {
-            format!(in alloc;
-                "the answer holds if \"{written}\" has the value that line {line} sets"
-            )
-        }
+fn value_words(
+    alloc: Global,
+    written: &str,
+    value: &str,
+    known: KnownValue,
+) -> Result<String, AllocError> {
+    match known {
+        KnownValue::Line(line) => format!(in alloc;
+            "the answer holds if \"{written}\" is \"{value}\", as line {line} sets it"
+        ),
         KnownValue::Made(line) => format!(in alloc;
-            "the answer holds if \"{written}\" has the value that line {line} sets: make may be called with another one"
+            "the answer holds if \"{written}\" is \"{value}\", as line {line} sets it, which the call of make, `include` or `$(eval)` may change"
         ),
         KnownValue::Empty => {
             format!(in alloc; "the answer holds if \"{written}\" is empty, as the file sets it")
@@ -142,35 +151,8 @@ fn value_words(alloc: Global, written: &str, value: KnownValue) -> Result<String
     }
 }
 
-/// How the value is made sure of.
-fn value_hint(value: KnownValue) -> Option<&'static str> {
-    match value {
-        KnownValue::Given | KnownValue::Unset => None,
-        _ => Some(VALUE),
-    }
-}
-
 /// The warning of the file to which the output of a call goes, where the call reads it.
-pub(crate) fn overwriting_warnings(
-    alloc: Global,
-    file: &[u8],
-    places: &mut Places,
-    overwritten: Option<Overwritten>,
-) -> Result<Vec<Finding>, AllocError>
-    requires { places.old.file.now ≡ file.now }
-    ensures file { places.new.file ≡ places.old.file }
-    ensures findings { IfOk result (λ findings. All (IsFindingIn file.now) findings.items) }
-{
-    let mut findings = Vec::new(alloc);
-    let Some(one) = overwritten else {
-        return Ok(findings);
-    };
-    findings.push(overwriting_warning(alloc, file, places, one)?)?;
-    Ok(findings)
-}
-
-/// The same, of one file.
-fn overwriting_warning(
+pub(crate) fn overwriting_warning(
     alloc: Global,
     file: &[u8],
     places: &mut Places,

@@ -7,8 +7,7 @@ ghost use Rattle.sedck_calls_in_files.specs.Placed.{IsFindingIn};
 ghost use Rattle.sedck_calls_in_files.specs.Judged.{Agrees, IsUnjudged, status_with, words_of, IsSaidOf, IsSaidOfText, IsSaidOfCall, IsSaidOfFound, IsJudged, IsAcceptedFound, denied_of, is_open as is_open_script, is_set as is_set_value, has_set as has_set_value};
 
 use crate::holes::{
-    open_warnings, overwriting_warnings, unknown_warning, unread_warning, value_notes,
-    written_words,
+    open_warnings, overwriting_warning, unknown_warning, unread_warning, value_notes, written_words,
 };
 use crate::placed::{place_findings, placed};
 use crate::places::Places;
@@ -116,8 +115,10 @@ fn with_values<'a>(
 {
     let mut explanation = explanation;
     let mut places = Places::new(alloc, file, position, &[])?;
-    let mut notes = overwriting_warnings(alloc, file, &mut places, found.overwritten)?;
-    explanation.findings.append(&mut notes)?;
+    if let Some(one) = found.overwritten {
+        let warning = overwriting_warning(alloc, file, &mut places, one)?;
+        explanation.findings.push(warning)?;
+    }
     let mut notes = value_notes(alloc, file, &mut places, &found.followed)?;
     explanation.findings.append(&mut notes)?;
     explanation.status = status_of(explanation.status, &found.followed);
@@ -138,22 +139,14 @@ fn status_of(status: Status, followed: &[Followed]) -> Status
 fn has_set(followed: &[Followed]) -> bool
     ensures { result ≡ has_set_value followed.now }
 {
-    for one in followed {
-        if is_set(one.value) {
-            return true;
-        }
-    }
-    false
+    followed.iter().any(|one| is_set(one.value))
 }
 
 /// Whether the file sets the value.
 fn is_set(value: KnownValue) -> bool
     ensures { result ≡ is_set_value value }
 {
-    match value {
-        KnownValue::Line(_) | KnownValue::Made(_) | KnownValue::Empty => true,
-        KnownValue::Given | KnownValue::Unset => false,
-    }
+    !matches!(value, KnownValue::Given | KnownValue::Unset)
 }
 
 /// Explains the call, whose script is this text.
@@ -221,10 +214,7 @@ fn judged<'a>(
 fn is_open(text: &Traced, holes: &[OpenHole]) -> bool
     ensures { result ≡ is_open_script text.now holes.now }
 {
-    match holes {
-        [] => has_hole(&text.origins),
-        [_, ..] => true,
-    }
+    !holes.is_empty() || has_hole(&text.origins)
 }
 
 /// The explanation of a script of which something isn't known, with these warnings after its errors.

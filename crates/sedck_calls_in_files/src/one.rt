@@ -106,14 +106,17 @@ fn one_at<'a>(text: &[u8], calls: &'a [FoundCall], at: At) -> Option<&'a FoundCa
 /// The place among the calls of the one that is there, if there is just one.
 fn place_of_one(text: &[u8], calls: &[FoundCall], at: At) -> Option<usize> {
     let mut found = None;
+    let mut start = None;
     let mut position = position_at(text, 0);
     for (place, call) in calls.iter().enumerate() {
         position = call_position(text, position, call.start);
-        if is_at(position, at) {
+        // A call may be there once for each value of a variable.
+        if is_at(position, at) && start != Some(call.start) {
             if found.is_some() {
                 return None;
             }
             found = Some(place);
+            start = Some(call.start);
         }
     }
     found

@@ -55,34 +55,23 @@ pub(crate) fn is_in_file(
 fn are_traced(file: &[u8], texts: &[Traced]) -> bool
     ensures { result ≡ are_traced_texts file.now texts.now }
 {
-    for text in texts {
-        if !is_traced(file, &text.bytes, &text.origins) {
-            return false;
-        }
-    }
-    true
+    texts
+        .iter()
+        .all(|text| is_traced(file, &text.bytes, &text.origins))
 }
 
 /// Whether a part of the script is a file.
 fn has_file(pieces: &[Piece]) -> bool
     ensures { result ≡ list_any is_file_piece pieces.now }
 {
-    for piece in pieces {
-        if is_file(*piece) {
-            return true;
-        }
-    }
-    false
+    pieces.iter().any(|piece| is_file(*piece))
 }
 
 /// Whether the part of the script is a file.
 fn is_file(piece: Piece) -> bool
     ensures { result ≡ is_file_piece piece }
 {
-    match piece {
-        Piece::Text(_) => false,
-        Piece::File(_) => true,
-    }
+    matches!(piece, Piece::File(_))
 }
 
 /// The script that the words give.

@@ -147,10 +147,7 @@ impl<R: Files + Input + AllocGlobal + Clone + Drop, O: Opener, F: Finder> Walk<'
 
     /// Whether a folder is at the path.
     fn is_folder(&self, path: &str) -> bool {
-        match fs::metadata(self.rt, path) {
-            Ok(metadata) => metadata.is_dir(),
-            Err(_) => false,
-        }
+        matches!(fs::metadata(self.rt, path), Ok(metadata) if metadata.is_dir())
     }
 
     /// Visits all that is in the folder, in sorted order: the status that tells most.

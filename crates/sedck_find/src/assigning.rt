@@ -1,13 +1,12 @@
 //! Commands and expansions that set variables, and the locale of a call.
 
 use crate::mentions::writes_sed;
-use crate::names::{Names, Point, Scope};
+use crate::names::Names;
 use crate::programs::{LONGEST, is_sed_path, is_sed_variable};
 use crate::units::{
-    after, begins_open, has_hole, is_one_in, is_option, is_word_in, known_bytes, lone_hole, rest,
-    variable_of, without,
+    after, begins_open, has_hole, hole_of, is_one_in, is_option, is_word_in, known_bytes,
+    lone_hole, rest, variable_of, without,
 };
-use crate::values::written_value;
 use sedck_origin::{Result, Unit, begins_with, byte_at, hole_name, is_name_byte};
 use sedck_shell::{Pattern, ShellCommand, ShellWord};
 
@@ -96,26 +95,20 @@ fn without_prefixes(words: &[ShellWord]) -> &[ShellWord] {
 
 impl Names<'_> {
     /// Notes what a command sets. In a makefile variables are make's.
-    pub fn note_command(&mut self, command: &ShellCommand, scope: Scope) -> Result<()> {
-        let words = command.words.as_slice();
-        let Some(first) = words.first() else {
-            return Ok(());
-        };
-        let point = scope.point(command.site, first.start);
+    pub fn note_command(&mut self, words: &[ShellWord]) -> Result<()> {
         let name = words.iter().position(|word| !is_assignment(&word.units));
-        let is_alone = name.is_none();
         let count = name.unwrap_or(words.len());
         for word in words.iter().take(count) {
             // Before a command IFS is set for that alone.
-            if !self.is_make() && (is_alone || !begins_with(&word.units, "IFS=")) {
-                self.note_word(word, point, is_alone)?;
+            if !self.is_make() && (name.is_none() || !begins_with(&word.units, "IFS=")) {
+                self.note_word(word, true)?;
             }
         }
-        self.note_utility(without_prefixes(rest(words, count)), point)
+        self.note_utility(without_prefixes(rest(words, count)))
     }
 
     /// Notes what a command with these words sets by its operands.
-    fn note_utility(&mut self, words: &[ShellWord], point: Point) -> Result<()> {
+    fn note_utility(&mut self, words: &[ShellWord]) -> Result<()> {
         let [name, operands @ ..] = words else {
             return Ok(());
         };
@@ -133,20 +126,20 @@ impl Names<'_> {
             Utility::Hashing => Ok(self.note_hashed(operands)),
             // There variables are make's.
             _ if self.is_make() => Ok(()),
-            Utility::Declaring { is_own } => self.note_declared(operands, point, is_own),
-            Utility::Setting => self.note_names(operands, point),
-            Utility::SettingFirst => self.note_loop(operands, point),
-            Utility::SettingSecond => self.note_names(second, point),
-            Utility::Opening | Utility::Aliasing => self.note_open(point),
+            Utility::Declaring { is_own } => self.note_declared(operands, is_own),
+            Utility::Setting => self.note_names(operands),
+            Utility::SettingFirst => self.note_loop(operands),
+            Utility::SettingSecond => self.note_names(second),
+            Utility::Opening | Utility::Aliasing => Ok(self.note_open(name.start)),
             // The texts of words that are known are read by themselves.
             Utility::Running if operands.iter().any(|word| has_hole(&word.units)) => {
-                self.note_open(point)
+                Ok(self.note_open(name.start))
             }
             Utility::Running => Ok(()),
             Utility::Printing => match operands {
-                [option, ..] if option.is("-v") => self.note_names(second, point),
+                [option, ..] if option.is("-v") => self.note_names(second),
                 [option, ..] if self.form.has_dollar_quotes && may_be(&option.units, "-v") => {
-                    self.note_open(point)
+                    Ok(self.note_open(name.start))
                 }
                 _ => Ok(()),
             },
@@ -154,21 +147,32 @@ impl Names<'_> {
     }
 
     /// Notes the assignment that the word is; its value is known only if it stands.
-    fn note_word(&mut self, word: &ShellWord, point: Point, stands: bool) -> Result<()> {
+    fn note_word(&mut self, word: &ShellWord, stands: bool) -> Result<()> {
         let Some((name, value)) = assigned(&word.units) else {
             return Ok(());
         };
         let is_sed = self.begins_with_sed(rest(&word.units, name.len()));
         let value = match value {
-            Some(value) if stands && point.scope != Scope::Other => {
-                written_value(self.alloc, value)?
-            }
+            Some(value) if stands => self.written_value(value)?,
             _ => None,
         };
-        let at = word.start;
         let name = known_bytes(self.alloc, name)?;
-        self.note(&name, value, Point { at, ..point })?;
-        Ok(self.note_sed(&name, is_sed))
+        self.note(&name, value, is_sed)
+    }
+
+    /// A value, if the file has each of its bytes, or has a variable in its place.
+    pub fn written_value(&self, units: &[Unit]) -> Result<Option<Vec<Unit>>> {
+        let mut units_of_value = units.iter();
+        let is_written = units_of_value.all(|unit| match *unit {
+            Unit::Byte(..) => true,
+            Unit::Escape(..) => false,
+            Unit::Hole(hole) => self.variable_at(hole).is_some(),
+        });
+        Ok(if is_written {
+            Some(Vec::from_slice(self.alloc, units)?)
+        } else {
+            None
+        })
     }
 
     /// Whether the value after the sign that assigns it begins with the name of a sed, or with a variable that has one.
@@ -187,25 +191,31 @@ impl Names<'_> {
         };
         let written = self.written_hole(hole);
         let is_named = hole_name(written).is_some_and(|name| {
-            let fact = self.facts.get(name);
-            is_sed_variable(name) || fact.is_some_and(|fact| fact.is_sed && fact.value.is_some())
+            is_sed_variable(name) || self.may_be_sed(name)
         });
         is_named || (written.len() <= LONGEST && writes_sed(written))
     }
 
     /// Notes the name that a loop sets to each of its words, of which one may be the name of a sed.
-    fn note_loop(&mut self, operands: &[ShellWord], point: Point) -> Result<()> {
-        let Some((first, words)) = operands.split_first() else {
+    fn note_loop(&mut self, operands: &[ShellWord]) -> Result<()> {
+        let [first, words @ ..] = operands else {
             return Ok(());
         };
-        self.note_name(first, point)?;
-        let is_sed = words.iter().any(|word| self.begins_with_sed(&word.units));
         let name = known_bytes(self.alloc, variable_of(&first.units))?;
-        Ok(self.note_sed(&name, is_sed))
+        let values = match words {
+            [list, values @ ..] if list.is("in") && !has_hole(&first.units) => values,
+            _ => return self.note_name(first),
+        };
+        for word in values {
+            let is_value = word.pattern == Pattern::None && !has_hole(&word.units);
+            let value = self.written_value(&word.units)?.filter(|_| is_value);
+            self.note(&name, value, self.begins_with_sed(&word.units))?;
+        }
+        Ok(())
     }
 
     /// Notes the operands of a utility that declares variables. An option may change values; `-n` makes a name refer to another one.
-    fn note_declared(&mut self, operands: &[ShellWord], point: Point, is_own: bool) -> Result<()> {
+    fn note_declared(&mut self, operands: &[ShellWord], is_own: bool) -> Result<()> {
         let mut stands = true;
         for word in operands {
             let units = word.units.as_slice();
@@ -213,33 +223,39 @@ impl Names<'_> {
             if is_option(units) {
                 stands = stands && is_word_in(units, "-x -r");
             } else if name.is_empty() || begins_open(rest(units, name.len())) {
-                self.note_open(point)?;
+                self.note_open(word.start);
             } else if is_assignment(units) {
-                self.note_word(word, point, stands && word.pattern == Pattern::None)?;
+                // Some shells split what they put there.
+                let is_split = units
+                    .iter()
+                    .filter_map(hole_of)
+                    .any(|hole| hole.way.is_split());
+                self.note_word(word, stands && word.pattern == Pattern::None && !is_split)?;
             } else if is_own {
-                self.note_unknown(&known_bytes(self.alloc, name)?)?;
+                self.note(&known_bytes(self.alloc, name)?, None, false)?;
             }
         }
         if is_own && !stands {
-            self.note_open(point)?;
+            self.note_open(operands.first().map_or(0, |word| word.start));
         }
         Ok(())
     }
 
     /// Notes that each of the names may be set.
-    fn note_names(&mut self, operands: &[ShellWord], point: Point) -> Result<()> {
+    fn note_names(&mut self, operands: &[ShellWord]) -> Result<()> {
         for word in operands {
-            self.note_name(word, point)?;
+            self.note_name(word)?;
         }
         Ok(())
     }
 
     /// Notes that the name at the beginning of the word may be set, and any other where it isn't known.
-    fn note_name(&mut self, word: &ShellWord, point: Point) -> Result<()> {
+    fn note_name(&mut self, word: &ShellWord) -> Result<()> {
         if has_hole(&word.units) {
-            self.note_open(point)?;
+            self.note_open(word.start);
         }
-        self.note_unknown(&known_bytes(self.alloc, variable_of(&word.units))?)
+        let name = known_bytes(self.alloc, variable_of(&word.units))?;
+        self.note(&name, None, false)
     }
 
     /// Notes the variables that `${NAME=..}`, `${NAME:=..}` and arithmetic may set (XCU 2.6.2 and 2.6.4). `${!NAME=..}` sets one whose name
@@ -261,10 +277,11 @@ impl Names<'_> {
                 _ => is_arithmetic && !name.is_empty(),
             };
             if may_be_set {
-                self.note_unknown(name)?;
-                self.note_sed(name, assigns_sed(sign));
+                self.note(name, None, assigns_sed(sign))?;
             }
-            self.is_open |= is_set && before.starts_with(b"{!");
+            if is_set && before.starts_with(b"{!") {
+                self.note_setting(from);
+            }
             from = index.saturating_add(1);
             let last = file.get(index.saturating_sub(1)..from).unwrap_or(&[]);
             if *byte == b'\n' || is_one_in(last, "(( ))") {

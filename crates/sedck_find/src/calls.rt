@@ -6,19 +6,20 @@ use crate::found::{
 };
 use crate::macros::Macros;
 use crate::mentions::{editor_in, mention_in};
-use crate::names::{Names, Scope};
+use crate::names::Names;
 use crate::overwriting::overwritten_by;
 use crate::parts::{Part, Runner, parts_of};
 use crate::programs::Program;
+use crate::replaced::with_holes;
 use crate::script::{Around, script_of};
 use crate::settings::settings_of;
 use crate::texts::{Held, Texts};
 use crate::units::{hole_of, lone_hole, rest};
-use crate::values::{given_value, has_placeholder, line_starts, written_value};
+use crate::values::{MOST, Value, has_placeholder, line_starts};
 use crate::words::{CallWord, Filler, quoted};
 use sedck_hosts::{Assignment, Kind, host_of, is_run_by_sed, kind_of, reads_dollar_quotes};
-use sedck_origin::{Hole, Result, Text, Unit, has_hole};
-use sedck_shell::{Dialect, Form, Site};
+use sedck_origin::{Hole, Result, Text, Unit, Way, begins_with, has_hole};
+use sedck_shell::{Dialect, Form};
 use std::alloc::Global;
 use std::collections::BTreeMap;
 
@@ -50,7 +51,7 @@ pub fn calls_in<'a>(
 ) -> Result<Found> {
     let mut given = Vec::new(alloc);
     for one in assumed.variables {
-        given.push(given_value(alloc, one.value.unwrap_or(&[]))?)?;
+        given.push(Value::given(alloc, one.value.unwrap_or(&[]))?)?;
     }
     let names = Names {
         alloc,
@@ -60,11 +61,11 @@ pub fn calls_in<'a>(
         assumed,
         given,
         facts: BTreeMap::new(alloc),
-        open: BTreeMap::new(alloc),
-        is_open: false,
+        is_read: false,
+        open: None,
         may_fix_locale: false,
         functions: BTreeMap::new(alloc),
-        settings: settings_of(file),
+        settings: settings_of(alloc, file)?,
         macros: Macros::of(alloc, kind, file)?,
         lines: line_starts(alloc, file)?,
     };
@@ -88,13 +89,15 @@ fn read_file(names: Names<'_>) -> Result<Texts<'_>> {
         unread: Vec::new(alloc),
     };
     match kind {
-        Kind::Shell => texts.read(Text::Whole(file), Scope::Own(0), false)?,
+        Kind::Shell => texts.read(Text::Whole(file), false)?,
         _ => read_host(&mut texts)?,
     }
     texts.read_inner()?;
     if kind != Kind::Make {
         texts.names.note_expansions()?;
     }
+    texts.names.is_read = true;
+    texts.names.build_values()?;
     Ok(texts)
 }
 
@@ -102,23 +105,30 @@ fn read_file(names: Names<'_>) -> Result<Texts<'_>> {
 fn found_in(texts: &Texts<'_>) -> Result<Found> {
     let names = &texts.names;
     let mut unread = Vec::from_slice(names.alloc, &texts.unread)?;
-    let mut calls = Vec::new(names.alloc);
+    let mut calls = Calls {
+        found: Vec::new(names.alloc),
+        starts: BTreeMap::new(names.alloc),
+    };
     let mut filler = Filler {
         names,
-        point: Scope::Other.point(Site::default(), 0),
         left: names.file.len().saturating_mul(2).saturating_add(SPARE),
         reach: REACH,
         followed: Vec::new(names.alloc),
         named: Vec::new(names.alloc),
+        case: 0,
+        cases: 1,
+        chosen: None,
     };
     for held in &texts.held {
-        filler.point = held.point();
-        let parts = parts_of(names, &held.command.words, filler.point)?;
-        add_calls(&mut calls, &mut filler, held, &parts)?;
+        let parts = parts_of(names, &held.command.words)?;
+        for part in &parts {
+            let is_only = parts.len() == 1;
+            calls.add(&mut filler, held, part, is_only)?;
+        }
         add_mentions(&mut unread, names, held, &parts)?;
     }
+    let mut calls = calls.found;
     calls.sort_by_key(|call| call.start)?;
-    calls.dedup_by_key(|call| call.start);
     unread.sort()?;
     unread.dedup();
     Ok(Found { calls, unread })
@@ -140,10 +150,9 @@ fn add_mentions(unread: &mut Vec<usize>, names: &Names, held: &Held, parts: &[Pa
 fn read_host(texts: &mut Texts<'_>) -> Result<()> {
     let host = host_of(texts.names.alloc, texts.names.kind, texts.names.file)?;
     texts.unread.extend_from_slice(&host.unread)?;
-    for (number, text) in host.texts.iter().enumerate() {
-        texts.read(Text::Units(text), Scope::Own(number), false)?;
+    for text in &host.texts {
+        texts.read(Text::Units(text), false)?;
     }
-    texts.names.is_open = host.is_open;
     for assignment in &host.assignments {
         read_assignment(texts, assignment)?;
     }
@@ -156,41 +165,56 @@ fn read_assignment(texts: &mut Texts<'_>, assignment: &Assignment) -> Result<()>
     names.note_shell_flags(assignment);
     let value = match names.form.dialect {
         Dialect::Template if has_placeholder(&assignment.value) => None,
-        _ => written_value(names.alloc, &assignment.value)?,
+        _ => names.written_value(&assignment.value)?,
     };
     let is_sed = names.begins_with_sed(&assignment.value);
-    let mut site = Site::default();
-    site.is_certain = assignment.is_certain;
-    names.note(&assignment.name, value, Scope::Own(0).point(site, 0))?;
-    names.note_sed(&assignment.name, is_sed);
-    texts.read(Text::Units(&assignment.value), Scope::Other, true)
+    names.note(&assignment.name, value, is_sed)?;
+    texts.read(Text::Units(&assignment.value), true)
 }
 
-/// Adds the calls in these parts of a command.
-fn add_calls(
-    calls: &mut Vec<FoundCall>,
-    filler: &mut Filler<'_>,
-    held: &Held,
-    parts: &[Part],
-) -> Result<()> {
-    filler.followed.clear();
-    let here = match &held.command.here {
-        Some(units) if parts.len() == 1 && !held.command.has_other_here => {
-            Some(CallWord::of(filler.filled(units)?, quoted(0, 0)))
+/// The calls that were found.
+#[derive(Drop)]
+struct Calls {
+    found: Vec<FoundCall>,
+    /// Where their names are in the file.
+    starts: BTreeMap<usize, ()>,
+}
+
+impl Calls {
+    /// Adds the call that a part of a command is, if it is one and isn't there yet: once for each value of a variable that has several. The
+    /// part may be the only one of its command.
+    fn add(
+        &mut self,
+        filler: &mut Filler<'_>,
+        held: &Held,
+        part: &Part,
+        is_only: bool,
+    ) -> Result<()> {
+        let start = name_of(part).start;
+        let is_prose = filler.names.macros.is_prose(part.name, part.others);
+        let is_call = matches!(part.program, Program::Sed) && !is_prose;
+        if !is_call || self.starts.get(&start).is_some() {
+            return Ok(());
         }
-        _ => None,
-    };
-    let names = filler.names;
-    for part in parts {
-        let is_prose = names.macros.is_prose(part.name, part.others);
-        if matches!(part.program, Program::Sed) && !is_prose {
+        for case in 0..MOST {
+            filler.begin(case);
+            let here = match &held.command.here {
+                Some(units) if is_only && !held.command.has_other_here => {
+                    Some(CallWord::of(filler.filled(units)?, quoted(0, 0)))
+                }
+                _ => None,
+            };
             let call = found_call(filler, held, part, here.as_ref())?;
             if !held.is_value || !matches!(&call.script, FoundScript::Refused(_)) {
-                calls.push(call)?;
+                self.starts.insert(start, ())?;
+                self.found.push(call)?;
+            }
+            if case.saturating_add(1) >= filler.cases {
+                break;
             }
         }
+        Ok(())
     }
-    Ok(())
 }
 
 /// The call that a part of a command is.
@@ -202,7 +226,6 @@ fn found_call(
 ) -> Result<FoundCall> {
     let alloc = filler.names.alloc;
     let changed = changed_by(filler.names, part)?;
-    filler.named.clear();
     let (words, are_known) = words_of(filler, held, part)?;
     let name = name_of(part);
     let around = Around {
@@ -237,11 +260,16 @@ fn note_conditions(filler: &mut Filler<'_>, script: &mut FoundScript) -> Result<
     holes.extend_from_slice(&filler.named)?;
     let has_order = filler.names.assumed.has_order();
     for hole in holes.iter_mut() {
-        hole.is_variable = filler.names.variable_at(hole.hole, filler.point).is_some();
+        hole.is_variable = filler.names.variable_at(hole.hole).is_some();
         if has_order && hole.is_of_order() {
-            let Hole { start, end, .. } = hole.hole;
-            let value = KnownValue::Unset;
-            filler.followed.push(Followed { start, end, value })?;
+            filler.followed.push(Followed {
+                start: hole.hole.start,
+                end: hole.hole.end,
+                value: KnownValue::Unset,
+                from: 0,
+                to: 0,
+                open: None,
+            })?;
         }
     }
     holes.retain(|hole| !has_order || !hole.is_of_order());
@@ -290,13 +318,15 @@ fn words_of(filler: &mut Filler<'_>, held: &Held, part: &Part) -> Result<(Vec<Ca
     };
     let mut are_known = !part.run.has_more_unknown;
     for word in part.others {
-        let mut word = filler.word(word)?;
-        let is_named = part.run.runner == Runner::Find && word.traced.bytes.starts_with(b"{}");
-        word.is_path |= is_named;
-        // What runs the sed replaces these texts by a name or a line.
+        let mut units = Vec::from_slice(alloc, &word.units)?;
+        // What runs the sed replaces these texts by a name or a line, and those in values.
         for text in &texts {
-            are_known &= word.open(text);
+            units = with_holes(alloc, &units, text, Way::Quoted)?;
         }
+        let is_named = part.run.runner == Runner::Find && begins_with(&word.units, "{}");
+        let mut word = filler.word(word, &units)?;
+        word.is_path |= is_named;
+        are_known &= !texts.iter().any(|text| word.has_in_value(text));
         words.push(word)?;
     }
     Ok((words, are_known))

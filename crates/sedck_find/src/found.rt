@@ -65,6 +65,12 @@ pub struct Followed {
     /// .. to before this one.
     pub end: usize,
     pub value: KnownValue,
+    /// The file has the value from this offset on ..
+    pub from: usize,
+    /// .. to before this one.
+    pub to: usize,
+    /// The number of the first line with a command that may set variables which it doesn't name, if the file sets the value.
+    pub open: Option<usize>,
 }
 
 /// Where a value comes from.
@@ -72,7 +78,7 @@ pub struct Followed {
 pub enum KnownValue {
     /// The file sets it to what begins on the line of this number, from 1.
     Line(usize),
-    /// The same of make's, for which another value may be given with the call of make.
+    /// The same of make's, for which the call of make or another file may give another value.
     Made(usize),
     /// The file sets it to nothing.
     Empty,

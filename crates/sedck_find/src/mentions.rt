@@ -111,8 +111,12 @@ fn has_value(names: &Names<'_>, units: &[Unit]) -> bool {
     let mut holes = units.iter().take(LONGEST).filter_map(hole_of);
     holes.any(|hole| {
         let name = hole_name(names.written_hole(hole)).unwrap_or(&[]);
-        let value = names.facts.get(name).and_then(|fact| fact.value.as_deref());
-        value.is_some_and(|value| has_name(value.get(..LONGEST).unwrap_or(value)))
+        let Some(fact) = names.facts.get(name) else {
+            return false;
+        };
+        fact.values.iter().any(|value| {
+            has_name(value.units.get(..LONGEST).unwrap_or(&value.units))
+        })
     })
 }
 

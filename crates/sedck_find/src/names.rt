@@ -1,60 +1,23 @@
-//! What is known of the values of variables.
+//! What is known of the variables of a file.
 
-use crate::found::Assumptions;
+use crate::found::{Assumptions, Followed};
 use crate::macros::Macros;
 use crate::settings::Settings;
-use crate::units::{bytes_of, is_one_in};
-use crate::values::Value;
+use crate::units::{bytes_of, hole_of, is_one_in};
+use crate::values::{MOST, Value};
 use sedck_hosts::Kind;
 use sedck_origin::{Hole, Result, Unit, hole_name};
-use sedck_shell::{Form, Site};
+use sedck_shell::Form;
 use std::alloc::Global;
 use std::collections::BTreeMap;
-
-/// Where a command runs.
-#[derive(Clone, Copy, PartialEq, Eq)]
-pub(crate) enum Scope {
-    /// In the shell that reads the text of this number.
-    Own(usize),
-    /// There, in a text that this shell has expanded before.
-    Again(usize),
-    /// In another shell, which has the exported variables alone.
-    Other,
-}
-
-impl Scope {
-    /// The number of the text whose shell it is.
-    pub fn text(self) -> Option<usize> {
-        match self {
-            Scope::Own(text) | Scope::Again(text) => Some(text),
-            Scope::Other => None,
-        }
-    }
-
-    /// The point with this offset, of a command that is there in its text.
-    pub fn point(self, site: Site, at: usize) -> Point {
-        let (scope, mut site) = (self, site);
-        site.is_certain = site.is_certain && matches!(self, Scope::Own(_));
-        Point { scope, site, at }
-    }
-}
-
-/// Where a variable is set or used.
-#[derive(Clone, Copy)]
-pub(crate) struct Point {
-    pub scope: Scope,
-    pub site: Site,
-    /// The offset in the file.
-    pub at: usize,
-}
 
 /// How the file sets a variable.
 #[derive(Drop)]
 pub(crate) struct Fact {
-    /// Its value; none if that isn't written, or it is set more than once.
-    pub value: Option<Vec<Unit>>,
-    /// Where it is set.
-    pub point: Point,
+    /// The values that the file writes for it, of which no two are the same.
+    pub values: Vec<Value>,
+    /// Whether these are all that the commands which name it set.
+    pub are_all: bool,
     /// Whether a value that it is given somewhere begins with the name of a sed.
     pub is_sed: bool,
 }
@@ -68,12 +31,12 @@ pub(crate) struct Names<'a> {
     pub file: &'a [u8],
     pub assumed: Assumptions<'a>,
     /// The values of the variables that are assumed, in their order.
-    pub given: Vec<Vec<Unit>>,
+    pub given: Vec<Value>,
     pub facts: BTreeMap<Vec<u8>, Fact>,
-    /// For each text the offset of the first command that may set variables which it doesn't name.
-    pub open: BTreeMap<usize, usize>,
-    /// Whether variables of any text may be set so.
-    pub is_open: bool,
+    /// Whether all of the file has been read, so that the facts are whole.
+    pub is_read: bool,
+    /// The offset of the first command that may set variables which it doesn't name.
+    pub open: Option<usize>,
     /// Whether LC_ALL may be read-only in some shell.
     pub may_fix_locale: bool,
     /// The names of functions and of aliases.
@@ -85,26 +48,32 @@ pub(crate) struct Names<'a> {
 }
 
 impl<'a> Names<'a> {
-    /// Notes that the variable is set there, to this value if it is known.
-    pub fn note(&mut self, name: &[u8], value: Option<Vec<Unit>>, point: Point) -> Result<()> {
-        if let Some(fact) = self.facts.get_mut(name) {
-            fact.value = None;
+    /// Notes that the variable is set to this value, or to one that isn't written, and whether that begins with the name of a sed.
+    pub fn note(&mut self, name: &[u8], value: Option<Vec<Unit>>, is_sed: bool) -> Result<()> {
+        let file = self.file;
+        if self.facts.get(name).is_none() {
+            let fact = Fact {
+                values: Vec::new(self.alloc),
+                are_all: true,
+                is_sed: false,
+            };
+            self.facts.insert(Vec::from_slice(self.alloc, name)?, fact)?;
+        }
+        let Some(fact) = self.facts.get_mut(name) else {
             return Ok(());
-        }
-        let fact = Fact {
-            value,
-            point,
-            is_sed: false,
         };
-        self.facts.insert(Vec::from_slice(self.alloc, name)?, fact)?;
-        Ok(())
-    }
-
-    /// Notes whether a value which the variable is given somewhere begins with the name of a sed.
-    pub fn note_sed(&mut self, name: &[u8], is_sed: bool) {
-        if let Some(fact) = self.facts.get_mut(name) {
-            fact.is_sed |= is_sed;
+        fact.is_sed |= is_sed;
+        let Some(units) = value else {
+            fact.are_all = false;
+            return Ok(());
+        };
+        let value = Value::new(self.alloc, units);
+        let is_new = !fact.values.iter().any(|one| one.is_same(&value, file));
+        fact.are_all = fact.are_all && (!is_new || fact.values.len() < MOST);
+        if is_new && fact.are_all {
+            fact.values.push(value)?;
         }
+        Ok(())
     }
 
     /// Whether the variable may have the name of a sed, which the file gives it somewhere.
@@ -112,20 +81,15 @@ impl<'a> Names<'a> {
         self.facts.get(name).is_some_and(|fact| fact.is_sed)
     }
 
-    /// Notes that the variable is set to what isn't known.
-    pub fn note_unknown(&mut self, name: &[u8]) -> Result<()> {
-        self.note(name, None, Scope::Other.point(Site::default(), 0))
+    /// Notes that a command at the offset may set variables which it doesn't name, and may make some read-only.
+    pub fn note_open(&mut self, offset: usize) {
+        self.may_fix_locale = true;
+        self.note_setting(offset);
     }
 
-    /// Notes that a command there may set variables which it doesn't name.
-    pub fn note_open(&mut self, point: Point) -> Result<()> {
-        self.may_fix_locale = true;
-        let Some(text) = point.scope.text() else {
-            return Ok(());
-        };
-        let first = self.open.get(&text).copied().unwrap_or(point.at);
-        self.open.insert(text, first.min(point.at))?;
-        Ok(())
+    /// Notes that what is at the offset may set variables which it doesn't name.
+    pub fn note_setting(&mut self, offset: usize) {
+        self.open = Some(self.open.unwrap_or(offset).min(offset));
     }
 
     /// What the file has in place of the hole.
@@ -161,77 +125,109 @@ impl<'a> Names<'a> {
         self.kind == Kind::Make
     }
 
-    /// Whether make replaces the hole.
-    fn is_made(&self, hole: Hole) -> bool {
-        self.is_make() && !is_doubled(self.file, hole.start)
+    /// The name of the variable that is the hole, if its value may be given with the call of this program.
+    pub fn variable_at(&self, hole: Hole) -> Option<&'a [u8]> {
+        replaced_name(self.written_hole(hole), self.kind)
     }
 
-    /// The name of the variable that is the hole, which is there, if its value may be given with the call of this program.
-    pub fn variable_at(&self, hole: Hole, point: Point) -> Option<&'a [u8]> {
-        let name = replaced_name(self.written_hole(hole), self.kind)?;
-        (point.scope != Scope::Other || self.is_made(hole)).then_some(name)
-    }
-
-    /// The value that replaces the hole, which is there.
-    pub fn value_of(&self, hole: Hole, point: Point) -> Option<Value<'_>> {
-        let name = self.variable_at(hole, point)?;
+    /// The values of which one replaces the hole: the one that was given with the call of this program, or those that the file writes. That
+    /// it has one of these is a condition, wherever the file sets them. There are none where the file also sets the variable otherwise, or
+    /// more often.
+    pub fn values_of(&self, hole: Hole) -> Option<&[Value]> {
+        let name = self.variable_at(hole)?;
         let mut assumed = self.assumed.variables.iter();
         if let Some(place) = assumed.position(|one| one.name == name) {
-            return Some(Value {
-                units: self.given.get(place)?,
-                is_given: true,
-            });
+            return self.given.get(place..place.saturating_add(1));
         }
-        if self.written_hole(hole).first() == Some(&b'@') {
-            return None;
-        }
+        // A template's `@NAME@`, and in a makefile a variable of the shell, aren't set by the file.
+        let is_template = self.file.get(hole.start) == Some(&b'@');
+        let is_other = is_template || (self.is_make() && is_doubled(self.file, hole.start));
+        // Where the file sets IFS, a value may be split at any byte.
+        let may_split = hole.way.is_split() && self.facts.get(b"IFS".as_slice()).is_some();
         let fact = self.facts.get(name)?;
-        let is_there = if self.is_make() {
-            self.is_made(hole) && fact.point.site.is_certain && !self.is_open
-        } else {
-            // Where the file sets IFS, a value may be split at any byte.
-            let may_split = hole.way.is_split() && self.facts.get(b"IFS".as_slice()).is_some();
-            let used = Point {
-                at: hole.start,
-                ..point
-            };
-            self.lasts(fact, used) && !may_split && !is_one_in(name, SET_BY_SHELL)
-        };
-        match &fact.value {
-            Some(units) if is_there => Some(Value {
-                units,
-                is_given: false,
-            }),
+        let are_whole = fact.are_all && !fact.values.iter().any(|one| one.has_hole);
+        let is_known = self.is_read && are_whole && !is_other && !may_split;
+        is_known.then_some(fact.values.as_slice())
+    }
+
+    /// The value that replaces the hole in all cases.
+    pub fn value_of(&self, hole: Hole) -> Option<&Value> {
+        match self.values_of(hole)? {
+            [value] => Some(value),
             _ => None,
         }
     }
 
-    /// Whether a variable that is used has the value which the file writes, whatever the environment, the arguments and the files are:
-    ///
-    /// - The file sets it once, and to a text without expansions.
-    /// - That is before the use, in the text that the same shell reads.
-    /// - Each run of the text comes to the assignment: it is in no condition, loop, pipe, subshell or group, after no `&&` or `||`, and
-    ///   doesn't run beside others. In a function the same holds of its runs, and the use is in that function.
-    /// - Before the use no command may set variables that it doesn't name: `.`, `eval` and `trap` of what isn't known, `read`, `export`
-    ///   and the like with a name that isn't known, references to names, aliases, and a command whose name isn't known. Where the use
-    ///   itself is in a loop, a function or the like, none may in the whole text.
-    fn lasts(&self, fact: &Fact, used: Point) -> bool {
-        let set = fact.point;
-        let text = used.scope.text();
-        let is_before = set.scope.text() == text && set.at < used.at;
-        let is_reached = set.site.is_certain
-            && (set.site.body == 0 || set.site.body == used.site.body);
-        let is_once = used.site.is_certain && used.site.body == 0;
-        let open = text.and_then(|text| self.open.get(&text).copied());
-        let is_closed = open.is_none_or(|offset| is_once && used.at < offset);
-        is_before && is_reached && is_closed && !self.is_open
+    /// That the hole is replaced by the value.
+    pub fn followed(&self, hole: Hole, value: &Value) -> Followed {
+        let open = self.open.filter(|_| !value.is_given);
+        let line_of = |offset: usize| self.lines.partition_point(|start| *start <= offset);
+        Followed {
+            start: hole.start,
+            end: hole.end,
+            value: value.source(line_of(value.start), self.is_make()),
+            from: value.start,
+            to: value.end,
+            open: open.map(line_of),
+        }
+    }
+
+    /// Puts values that are known into those which are built of them.
+    pub fn build_values(&mut self) -> Result<()> {
+        let mut left = self.file.len().saturating_add(SPARE);
+        for _ in 0..LEVELS {
+            let mut built = Vec::new(self.alloc);
+            for (name, fact) in self.facts.iter() {
+                for (number, one) in fact.values.iter().enumerate() {
+                    if let Some(value) = self.built(one, &mut left)? {
+                        built.push((Vec::from_slice(self.alloc, name)?, number, value))?;
+                    }
+                }
+            }
+            for (name, number, value) in built {
+                let fact = self.facts.get_mut(name.as_slice());
+                if let Some(place) = fact.and_then(|fact| fact.values.get_mut(number)) {
+                    *place = value;
+                }
+            }
+        }
+        Ok(())
+    }
+
+    /// The value with the values in place of the variables in it, if there are such, and each has just one; so many units may yet be put in.
+    fn built(&self, one: &Value, left: &mut usize) -> Result<Option<Value>> {
+        if !one.has_hole {
+            return Ok(None);
+        }
+        let mut built = Value::new(self.alloc, Vec::new(self.alloc));
+        built.start = one.start;
+        built.end = one.end;
+        for unit in &one.units {
+            let Some(hole) = hole_of(unit) else {
+                built.units.push(*unit)?;
+                continue;
+            };
+            let Some(part) = self.value_of(hole) else {
+                return Ok(None);
+            };
+            let cost = part.units.len().saturating_add(part.parts.len());
+            if part.is_given || cost > *left {
+                return Ok(None);
+            }
+            *left = left.saturating_sub(cost);
+            built.units.extend_from_slice(&part.units)?;
+            built.parts.push(self.followed(hole, part))?;
+            built.parts.extend_from_slice(&part.parts)?;
+        }
+        Ok(Some(built))
     }
 }
 
-/// Variables that a shell sets by itself.
-const SET_BY_SHELL: &str = "_ IFS PWD OLDPWD UID EUID PPID GROUPS REPLY OPTARG OPTIND OPTERR \
-    LINENO MAPFILE RANDOM SRANDOM SECONDS LINES COLUMNS EPOCHSECONDS EPOCHREALTIME COPROC \
-    DIRSTACK HISTCMD";
+/// How many bytes may be put into values even for a short file.
+const SPARE: usize = 65_536;
+
+/// How many levels of values in values are put together.
+const LEVELS: usize = 4;
 
 /// The name of the variable whose value replaces all that is written: `$NAME`, `${NAME}`, `@NAME@`, and make's `$(NAME)`.
 pub(crate) fn replaced_name(written: &[u8], kind: Kind) -> Option<&[u8]> {
@@ -252,11 +248,9 @@ pub(crate) fn replaced_name(written: &[u8], kind: Kind) -> Option<&[u8]> {
 /// Whether an odd number of dollar signs precedes the offset, so that the one there is the shell's and not make's.
 fn is_doubled(file: &[u8], offset: usize) -> bool {
     let before = file.get(offset.saturating_sub(DOLLARS)..offset);
-    let mut is_odd = false;
-    for byte in before.unwrap_or(&[]) {
-        is_odd = *byte == b'$' && !is_odd;
-    }
-    is_odd
+    let mut bytes = before.unwrap_or(&[]).iter().rev();
+    let dollars = bytes.position(|byte| *byte != b'$').unwrap_or(0);
+    dollars % 2 == 1
 }
 
 /// How many dollar signs are looked at.

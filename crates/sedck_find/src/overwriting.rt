@@ -88,9 +88,10 @@ fn is_read(
 
 /// The path that the word of a redirection is. What its variables have is no matter of the call's words.
 fn path_at(filler: &mut Filler<'_>, word: &ShellWord) -> Result<Option<Vec<u8>>> {
-    let count = filler.followed.len();
-    let word = filler.word(word)?;
+    let (count, cases) = (filler.followed.len(), filler.cases);
+    let word = filler.word(word, &word.units)?;
     filler.followed.truncate(count);
+    filler.cases = cases;
     written_path(filler.names, &word.traced)
 }
 

@@ -1,7 +1,7 @@
 //! The commands in the words of a command, which may run others.
 
 use crate::assigning::{is_assignment, is_c_locale};
-use crate::names::{Names, Point};
+use crate::names::Names;
 use crate::programs::{
     Before, Program, Wrapper, before_command, glued_units, is_sed_word, program_of,
 };
@@ -87,7 +87,6 @@ enum State {
 struct Finder<'n, 'a> {
     names: &'n Names<'n>,
     words: &'a [ShellWord],
-    point: Point,
     parts: Vec<Part<'a>>,
     /// How the command whose words are read is run, or what is known of that of the next one.
     next: Run<'a>,
@@ -109,15 +108,10 @@ struct Finder<'n, 'a> {
 }
 
 /// The commands in these words of a command, also those that aren't known.
-pub(crate) fn parts_of<'a>(
-    names: &Names<'_>,
-    words: &'a [ShellWord],
-    point: Point,
-) -> Result<Vec<Part<'a>>> {
+pub(crate) fn parts_of<'a>(names: &Names<'_>, words: &'a [ShellWord]) -> Result<Vec<Part<'a>>> {
     let mut finder = Finder {
         names,
         words,
-        point,
         parts: Vec::new(names.alloc),
         next: Run::default(),
         replaces: false,
@@ -206,7 +200,7 @@ impl<'a> Finder<'_, 'a> {
         if is_passed || (index == 0 && word.is("-p")) {
             return Ok(());
         }
-        let program = program_of(self.names, name, self.point);
+        let program = program_of(self.names, name);
         if let Program::Wrapper(_) | Program::Find = program {
             self.next.is_redefined |= self.names.is_function(name)?
                 || self.names.is_replaced(name)?;

@@ -1,7 +1,7 @@
 //! What the name of a command calls.
 
 use crate::mentions::writes_sed;
-use crate::names::{Names, Point, replaced_name};
+use crate::names::{Names, replaced_name};
 use crate::units::{
     has_hole, is_letters, is_one_in, is_option, is_word_in, last_part, lone_hole, place_of, rest,
 };
@@ -162,9 +162,9 @@ pub(crate) fn is_sed_word(names: &Names<'_>, units: &[Unit]) -> bool {
 }
 
 /// What a command of this name calls.
-pub(crate) fn program_of(names: &Names<'_>, name: &[Unit], point: Point) -> Program {
+pub(crate) fn program_of(names: &Names<'_>, name: &[Unit]) -> Program {
     match lone_hole(name) {
-        Some(hole) => called_by(names, hole, point),
+        Some(hole) => called_by(names, hole),
         None => named_program(last_part(name)),
     }
 }
@@ -196,12 +196,12 @@ pub(crate) fn is_sed_variable(name: &[u8]) -> bool {
 }
 
 /// What the hole calls, which is the whole word.
-fn called_by(names: &Names<'_>, hole: Hole, point: Point) -> Program {
-    let Some(value) = names.value_of(hole, point) else {
+fn called_by(names: &Names<'_>, hole: Hole) -> Program {
+    let Some(value) = names.value_of(hole) else {
         return called_by_name(names.written_hole(hole), names);
     };
     let is_split = hole.way.is_split();
-    let path = value.units.get(..LONGEST).unwrap_or(value.units);
+    let path = value.units.get(..LONGEST).unwrap_or(&value.units);
     let mut words = path.split(|unit| is_split && is_blank(unit));
     match words.find(|word| !word.is_empty()) {
         Some(first) if is_sed_path(first) => Program::Sed,

@@ -1,7 +1,7 @@
 //! What `find` and `xargs` put into the words of a command before it runs.
 
 use crate::units::{bytes_of, is_letters, known_part, place_of, rest};
-use sedck_origin::{Result, Unit, begins_with, byte_at};
+use sedck_origin::{Hole, Result, Unit, Way, begins_with, byte_at};
 use sedck_shell::ShellWord;
 use std::alloc::Global;
 
@@ -96,8 +96,13 @@ pub(crate) fn adds_operands(option: &[Unit]) -> bool {
 /// Letters of options of `xargs` after which no other letter is one.
 const ENDING: &str = "IJiadEeLlnPsRS";
 
-/// The units with a hole in place of each such text, which is put in before a shell reads them.
-pub(crate) fn with_holes(alloc: Global, units: &[Unit], text: &[u8]) -> Result<Vec<Unit>> {
+/// The units with a hole in place of each such text, which becomes a part of a word in this way.
+pub(crate) fn with_holes(
+    alloc: Global,
+    units: &[Unit],
+    text: &[u8],
+    way: Way,
+) -> Result<Vec<Unit>> {
     let mut opened = Vec::new(alloc);
     let mut resume = 0usize;
     for (index, unit) in units.iter().enumerate() {
@@ -109,8 +114,9 @@ pub(crate) fn with_holes(alloc: Global, units: &[Unit], text: &[u8]) -> Result<V
         }
         match part.last() {
             Some(last) if pairs.all(|(unit, byte)| unit.byte() == Some(*byte)) => {
-                opened.push(Unit::made(unit.start(), last.end()))?;
                 resume = end;
+                let (start, end) = (unit.start(), last.end());
+                opened.push(Unit::Hole(Hole { start, end, way }))?;
             }
             _ => opened.push(*unit)?,
         }

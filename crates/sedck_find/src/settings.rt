@@ -1,10 +1,11 @@
 //! Settings of a shell by which a call may have other words, or another program runs in place of the sed.
 
 use crate::names::Names;
-use crate::units::{begins_open, has_any, has_hole, has_letter, is_one_in, is_option, rest};
+use crate::units::{begins_open, has_any, has_hole, has_letter, is_one_in, is_option};
 use sedck_hosts::Assignment;
 use sedck_origin::{Result, Unit, is_text};
 use sedck_shell::ShellWord;
+use std::alloc::Global;
 
 /// What a file sets somewhere. It counts for all of its calls.
 #[derive(Clone, Copy, Default)]
@@ -32,40 +33,30 @@ const TABLES_OF_ZSH: &str = "aliases[ functions[ commands[ aliases= functions= c
 const SIGNS: &str = "rcquotes cshjunkiequotes extendedglob braceccl";
 
 /// The settings that the text of a file shows, whatever commands it has.
-pub(crate) fn settings_of(file: &[u8]) -> Settings {
+pub(crate) fn settings_of(alloc: Global, file: &[u8]) -> Result<Settings> {
     let mut lines = file.split(|byte| *byte == b'\n');
     let first = lines.next().unwrap_or(&[]);
     let line = if first.starts_with(b"#!") { first } else { &[] };
     let mut words = line.split(|byte| matches!(*byte, b' ' | b'\t'));
-    let is_zsh = has_names(line, "zsh");
-    Settings {
+    let tables_of_zsh = has_names(alloc, line, "zsh")? && has_names(alloc, file, TABLES_OF_ZSH)?;
+    Ok(Settings {
         has_keywords: words.any(|word| word.starts_with(b"-") && word.contains(&b'k')),
-        has_no_match: has_names(file, "nullglob"),
-        has_signs: has_names(file, SIGNS),
-        has_tables: has_names(file, TABLES) || (is_zsh && has_names(file, TABLES_OF_ZSH)),
-    }
-}
-
-/// Whether one of the names, which have spaces between, is in these bytes.
-fn has_names(bytes: &[u8], names: &str) -> bool {
-    names.split(' ').any(|name| {
-        let mut starts = 0..bytes.len();
-        starts.any(|from| begins_with_name(rest(bytes, from), name))
+        has_no_match: has_names(alloc, file, "nullglob")?,
+        has_signs: has_names(alloc, file, SIGNS)?,
+        has_tables: has_names(alloc, file, TABLES)? || tables_of_zsh,
     })
 }
 
-/// Whether the bytes begin with the name, in any letters: zsh reads names of options also with underscores in them.
-fn begins_with_name(bytes: &[u8], name: &str) -> bool {
-    let mut rest = name.as_bytes();
-    for byte in bytes {
-        rest = match rest {
-            [] => return true,
-            [first, others @ ..] if byte.to_ascii_lowercase() == *first => others,
-            _ if *byte == b'_' && rest.len() < name.len() => rest,
-            _ => return false,
-        };
-    }
-    rest.is_empty()
+/// Whether one of the names, which have spaces between, is in these bytes: in any letters, and with underscores, as zsh has them.
+fn has_names(alloc: Global, bytes: &[u8], names: &str) -> Result<bool> {
+    let letters = bytes.iter().filter(|byte| **byte != b'_');
+    let letters: Vec<u8> = letters
+        .map(|byte| byte.to_ascii_lowercase())
+        .collect(alloc)?;
+    let is_part = |name: &str| letters
+        .windows(name.len().max(1))
+        .any(|part| part == name.as_bytes());
+    Ok(names.split(' ').any(is_part))
 }
 
 impl Names<'_> {

@@ -1,7 +1,7 @@
 //! The texts of a file, and those in them that are handed to a shell.
 
 use crate::assigning::may_fix_locale;
-use crate::names::{Names, Point, Scope};
+use crate::names::Names;
 use crate::parts::{Part, parts_of};
 use crate::programs::Program;
 use crate::replaced::with_holes;
@@ -10,50 +10,34 @@ use crate::units::{
     after, begins_open, bytes_of, has_letter, is_letters, is_word_in, last_part, rest, without,
 };
 use sedck_hosts::is_dollar_quoting;
-use sedck_origin::{Result, Text, Unit, begins_with, byte_at, is_text};
+use sedck_origin::{Result, Text, Unit, Way, begins_with, byte_at, is_text};
 use sedck_shell::{Form, ShellCommand, ShellWord, read_shell};
 use std::alloc::Global;
 
 /// How many levels of texts in texts are read.
 const LEVELS: usize = 6;
 
-/// A command with where it runs.
+/// A command that may call sed.
 #[derive(Drop)]
 pub(crate) struct Held {
     pub command: ShellCommand,
-    pub scope: Scope,
     /// Whether it is a value of make's.
     pub is_value: bool,
 }
 
-impl Held {
-    /// Where it is.
-    pub fn point(&self) -> Point {
-        self.scope.point(self.command.site, 0)
-    }
-}
-
-/// How a text is read, and where its commands run.
-#[derive(Clone, Copy)]
-struct Manner {
-    form: Form,
-    scope: Scope,
-}
-
-impl Manner {
-    /// The manner of another shell, which is called there, and may read `$'..'` or not.
-    fn other(mut self, reads_dollar_quotes: bool) -> Manner {
-        self.form.has_dollar_quotes &= reads_dollar_quotes;
-        self.scope = Scope::Other;
-        self
-    }
-}
-
-/// A text that is read next.
+/// A text that is read next, in this form.
 #[derive(Drop)]
 pub(crate) struct Inner {
     units: Vec<Unit>,
-    manner: Manner,
+    form: Form,
+}
+
+/// The form of a text of another shell, which is called in a text of this form, and may read `$'..'` or not.
+fn other_form(form: Form, reads_dollar_quotes: bool) -> Form {
+    Form {
+        has_dollar_quotes: form.has_dollar_quotes && reads_dollar_quotes,
+        ..form
+    }
 }
 
 /// What was read of a file.
@@ -71,29 +55,23 @@ pub(crate) struct Texts<'a> {
 
 impl Texts<'_> {
     /// Reads a text of the file.
-    pub fn read(&mut self, text: Text, scope: Scope, is_value: bool) -> Result<()> {
-        let form = self.names.form;
-        self.read_as(text, Manner { form, scope }, is_value)
+    pub fn read(&mut self, text: Text, is_value: bool) -> Result<()> {
+        self.read_as(text, self.names.form, is_value)
     }
 
-    /// Reads a text in this manner.
-    fn read_as(&mut self, text: Text, manner: Manner, is_value: bool) -> Result<()> {
-        let read = read_shell(self.names.alloc, text, manner.form)?;
+    /// Reads a text in this form.
+    fn read_as(&mut self, text: Text, form: Form, is_value: bool) -> Result<()> {
+        let read = read_shell(self.names.alloc, text, form)?;
         if !is_value {
             self.unread.extend_from_slice(&read.unread)?;
         }
         for name in &read.functions {
             self.names.note_function(&name.units)?;
         }
-        let scope = manner.scope;
         for command in read.commands {
-            self.note(&command, manner)?;
+            self.note(&command, form)?;
             if may_call(&command.words) {
-                self.held.push(Held {
-                    command,
-                    scope,
-                    is_value,
-                })?;
+                self.held.push(Held { command, is_value })?;
             }
         }
         Ok(())
@@ -103,10 +81,10 @@ impl Texts<'_> {
     pub fn read_inner(&mut self) -> Result<()> {
         for level in 0..=LEVELS {
             let texts = std::mem::replace(&mut self.inner, Vec::new(self.names.alloc));
-            for Inner { units, manner } in &texts {
+            for Inner { units, form } in &texts {
                 match level {
                     LEVELS => self.miss(units)?,
-                    _ => self.read_as(Text::Units(units), *manner, false)?,
+                    _ => self.read_as(Text::Units(units), *form, false)?,
                 }
             }
         }
@@ -114,29 +92,29 @@ impl Texts<'_> {
     }
 
     /// Notes what a command sets, and the texts in it.
-    fn note(&mut self, command: &ShellCommand, manner: Manner) -> Result<()> {
+    fn note(&mut self, command: &ShellCommand, form: Form) -> Result<()> {
         let words = command.words.as_slice();
         self.names.may_fix_locale |= may_fix_locale(words);
-        self.names.note_command(command, manner.scope)?;
-        let parts = parts_of(&self.names, words, Scope::Other.point(command.site, 0))?;
+        self.names.note_command(words)?;
+        let parts = parts_of(&self.names, words)?;
         for part in &parts {
-            self.note_part(part, command, manner)?;
+            self.note_part(part, command, form)?;
         }
         Ok(())
     }
 
     /// Notes the text that a part of a command has for a shell. A here-document or a here-string that `.` reads isn't understood, and none that
     /// a shell reads by a name.
-    fn note_part(&mut self, part: &Part, command: &ShellCommand, manner: Manner) -> Result<()> {
+    fn note_part(&mut self, part: &Part, command: &ShellCommand, form: Form) -> Result<()> {
         match part.program {
             Program::Shell => {
                 let path = bytes_of(self.names.alloc, last_part(&part.name.units))?;
-                let other = manner.other(path.is_some_and(|path| is_dollar_quoting(&path)));
-                self.note_shell(part, command, other)
+                let reads_dollar_quotes = path.is_some_and(|path| is_dollar_quoting(&path));
+                self.note_shell(part, command, other_form(form, reads_dollar_quotes))
             }
-            Program::Again => self.note_again(part, manner),
+            Program::Again => self.note_again(part, form),
             Program::User => match user_text(part.others) {
-                Some(text) => self.note_other(text, part, manner.other(false)),
+                Some(text) => self.note_other(text, part, other_form(form, false)),
                 None => Ok(()),
             },
             Program::Sourcing if is_fed(command) => {
@@ -147,8 +125,8 @@ impl Texts<'_> {
         }
     }
 
-    /// Notes the text that a shell is called with, which it reads in this manner.
-    fn note_shell(&mut self, part: &Part, command: &ShellCommand, other: Manner) -> Result<()> {
+    /// Notes the text that a shell is called with, which it reads in this form.
+    fn note_shell(&mut self, part: &Part, command: &ShellCommand, other: Form) -> Result<()> {
         let mut words = part.others.iter();
         let has_keywords = words.any(|word| is_keyword_option(&word.units));
         self.names.settings.has_keywords |= has_keywords;
@@ -161,16 +139,16 @@ impl Texts<'_> {
         }
     }
 
-    /// Notes a text in the words of a command that another shell reads in this manner. What runs that shell may put names or lines into it,
+    /// Notes a text in the words of a command that another shell reads in this form. What runs that shell may put names or lines into it,
     /// before the shell reads it.
-    fn note_other(&mut self, text: &[Unit], part: &Part, other: Manner) -> Result<()> {
+    fn note_other(&mut self, text: &[Unit], part: &Part, other: Form) -> Result<()> {
         let alloc = self.names.alloc;
         let Some(replaced) = part.run.replaced.texts(alloc)? else {
             return self.miss(text);
         };
         let mut units = Vec::from_slice(alloc, text)?;
         for one in &replaced {
-            units = with_holes(alloc, &units, one)?;
+            units = with_holes(alloc, &units, one, Way::MadeBare)?;
         }
         self.note_text(&units, other)
     }
@@ -184,28 +162,25 @@ impl Texts<'_> {
     }
 
     /// Notes the text of `eval`, or of `trap`, which has other operands after it.
-    fn note_again(&mut self, part: &Part, manner: Manner) -> Result<()> {
-        let text = manner.scope.text();
-        let scope = text.map_or(Scope::Other, |text| Scope::Again(text));
-        let again = Manner { scope, ..manner };
+    fn note_again(&mut self, part: &Part, form: Form) -> Result<()> {
         match without(part.others, "--") {
-            [first, _, ..] if part.name.is("trap") => self.note_text(&first.units, again),
+            [first, _, ..] if part.name.is("trap") => self.note_text(&first.units, form),
             _ if part.name.is("trap") => Ok(()),
             words => {
                 let text = joined(self.names.alloc, words)?;
-                self.note_text(&text, again)
+                self.note_text(&text, form)
             }
         }
     }
 
     /// Notes a text, which is read next.
-    fn note_text(&mut self, text: &[Unit], manner: Manner) -> Result<()> {
+    fn note_text(&mut self, text: &[Unit], form: Form) -> Result<()> {
         if text.len() > self.left {
             return self.miss(text);
         }
         self.left = self.left.saturating_sub(text.len());
         let units = Vec::from_slice(self.names.alloc, text)?;
-        Ok(self.inner.push(Inner { units, manner })?)
+        Ok(self.inner.push(Inner { units, form })?)
     }
 }
 

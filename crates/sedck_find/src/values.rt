@@ -1,42 +1,72 @@
 //! The values of variables.
 
-use crate::found::KnownValue;
-use crate::units::{after, has_any};
+use crate::found::{Followed, KnownValue};
+use crate::units::{after, has_any, has_hole};
 use sedck_origin::{Result, Unit, Way, name_length};
 use std::alloc::Global;
 
-/// The value of a variable.
-#[derive(Clone, Copy)]
-pub(crate) struct Value<'a> {
-    /// Its bytes; those of one that was given have no place in the file.
-    pub units: &'a [Unit],
+/// The most values of a variable that are kept.
+pub(crate) const MOST: usize = 4;
+
+/// A value of a variable.
+#[derive(Drop)]
+pub(crate) struct Value {
+    /// Its bytes; those of one that was given have no place in the file. Variables in it are holes until their values are known.
+    pub units: Vec<Unit>,
+    /// Whether it has such a hole.
+    pub has_hole: bool,
     /// Whether it was given with the call of this program.
     pub is_given: bool,
+    /// The file has it from this offset on ..
+    pub start: usize,
+    /// .. to before this one; both are 0 if it has no byte.
+    pub end: usize,
+    /// The variables in it that are replaced by their values.
+    pub parts: Vec<Followed>,
 }
 
-impl Value<'_> {
-    /// The offset in the file of its first byte; 0 if it isn't there.
-    pub fn start(self) -> usize {
-        self.units.first().map_or(0, |first| first.start())
+impl Value {
+    /// One of these units that the file writes.
+    pub fn new(alloc: Global, units: Vec<Unit>) -> Value {
+        Value {
+            has_hole: has_hole(&units),
+            is_given: false,
+            start: units.first().map_or(0, |first| first.start()),
+            end: units.last().map_or(0, |last| last.end()),
+            units,
+            parts: Vec::new(alloc),
+        }
     }
 
-    /// Where it comes from. The lines of the file begin at these offsets; `is_made` says that make has the variable.
-    pub fn source(self, lines: &[usize], is_made: bool) -> KnownValue {
-        let offset = self.start();
-        let line = lines.partition_point(|start| *start <= offset);
-        match self.units {
+    /// One of these bytes that was given.
+    pub fn given(alloc: Global, bytes: &[u8]) -> Result<Value> {
+        let units = bytes.iter().map(|byte| Unit::Byte(*byte, 0));
+        let mut value = Value::new(alloc, units.collect(alloc)?);
+        value.is_given = true;
+        Ok(value)
+    }
+
+    /// Whether it is another one: the file has it in the same words.
+    pub fn is_same(&self, other: &Value, file: &[u8]) -> bool {
+        self.units.len() == other.units.len()
+            && file.get(self.start..self.end) == file.get(other.start..other.end)
+    }
+
+    /// Whether a shell leaves the value as it is where it comes into a word in this way.
+    pub fn is_kept(&self, way: Way) -> bool {
+        let may_split = has_any(&self.units, BLANKS) || has_any(&self.units, SPECIAL);
+        let is_read = way.is_made() && has_any(&self.units, QUOTING);
+        way != Way::Several && !(way.is_split() && may_split) && !is_read
+    }
+
+    /// Where it comes from: the file has it on this line, for make or not.
+    pub fn source(&self, line: usize, is_made: bool) -> KnownValue {
+        match self.units.as_slice() {
             _ if self.is_given => KnownValue::Given,
             [] => KnownValue::Empty,
             _ if is_made => KnownValue::Made(line),
             _ => KnownValue::Line(line),
         }
-    }
-
-    /// Whether a shell leaves the value as it is where it comes into a word in this way.
-    pub fn is_kept(self, way: Way) -> bool {
-        let may_split = has_any(self.units, BLANKS) || has_any(self.units, SPECIAL);
-        let is_read = way.is_made() && has_any(self.units, QUOTING);
-        way != Way::Several && !(way.is_split() && may_split) && !is_read
     }
 }
 
@@ -64,19 +94,6 @@ pub(crate) fn line_starts(alloc: Global, file: &[u8]) -> Result<Vec<usize>> {
         }
     }
     Ok(starts)
-}
-
-/// The bytes of a value that was given.
-pub(crate) fn given_value(alloc: Global, bytes: &[u8]) -> Result<Vec<Unit>> {
-    bytes.iter().map(|byte| Unit::Byte(*byte, 0)).collect(alloc)
-}
-
-/// A value, if the file has each of its bytes.
-pub(crate) fn written_value(alloc: Global, units: &[Unit]) -> Result<Option<Vec<Unit>>> {
-    if units.iter().all(|unit| matches!(*unit, Unit::Byte(_, _))) {
-        return Ok(Some(Vec::from_slice(alloc, units)?));
-    }
-    Ok(None)
 }
 
 /// Whether the units have a name with `@` around it, which is replaced in a template.

@@ -1,7 +1,7 @@
 //! The words of a call, each byte with its place in the file.
 
 use crate::found::{Followed, OpenHole};
-use crate::names::{Names, Point};
+use crate::names::Names;
 use crate::programs::is_sed_variable;
 use crate::units::{has_any, hole_of};
 use crate::values::{SPECIAL, Value, is_blank};
@@ -52,38 +52,12 @@ impl CallWord {
         })
     }
 
-    /// Puts a hole in place of each such text. Whether the file has all of them in the word.
-    pub fn open(&mut self, text: &[u8]) -> bool {
-        let mut resume = 0usize;
-        let mut are_there = true;
-        for index in 0..self.traced.bytes.len() {
-            let end = index.saturating_add(text.len());
-            if index >= resume && self.traced.bytes.get(index..end) == Some(text) {
-                resume = end;
-                are_there &= self.open_between(index, end);
-            }
-        }
-        are_there
-    }
-
-    /// Puts a hole in place of the bytes between these indices, if the file has them there.
-    fn open_between(&mut self, from: usize, end: usize) -> bool {
-        let origins = &mut self.traced.origins;
-        let first = origins.get(from).copied();
-        let last = origins.get(end.saturating_sub(1)).copied();
-        let (Some(Origin::At(start)), Some(Origin::At(stop))) = (first, last) else {
-            return false;
-        };
-        let hole = quoted(start, stop.saturating_add(1));
-        for index in from..end {
-            if let Some(origin) = origins.get_mut(index) {
-                *origin = Origin::Hole(hole);
-            }
-            if let Some(byte) = self.traced.bytes.get_mut(index) {
-                *byte = b'x';
-            }
-        }
-        true
+    /// Whether the text is there with a part of a value.
+    pub fn has_in_value(&self, text: &[u8]) -> bool {
+        let is_value = |origin: &Origin| matches!(*origin, Origin::Value(_) | Origin::Given);
+        let parts = self.traced.bytes.windows(text.len().max(1));
+        let mut pairs = parts.zip(self.traced.origins.windows(text.len().max(1)));
+        pairs.any(|(part, origins)| part == text && origins.iter().any(is_value))
     }
 
     /// Whether nothing of it is known from there on.
@@ -117,8 +91,6 @@ pub(crate) fn add(traced: &mut Traced, byte: u8, origin: Origin) -> Result<()> {
 #[derive(Drop)]
 pub(crate) struct Filler<'a> {
     pub names: &'a Names<'a>,
-    /// Where the command is whose words are filled.
-    pub point: Point,
     /// How many bytes of values may be put in yet, so that the time stays linear.
     pub left: usize,
     /// How many bytes before values may be read yet, which is done for their lines and columns.
@@ -127,13 +99,54 @@ pub(crate) struct Filler<'a> {
     pub followed: Vec<Followed>,
     /// What must hold of the name of the sed, and of what runs it.
     pub named: Vec<OpenHole>,
+    /// Which of the cases of a call is read, and how many it has: one for each value of a variable.
+    pub case: usize,
+    pub cases: usize,
+    /// That variable; any other one with several values is a hole.
+    pub chosen: Option<&'a [u8]>,
 }
 
-impl Filler<'_> {
-    /// A word with the values that are known.
-    pub fn word(&mut self, word: &ShellWord) -> Result<CallWord> {
+impl<'a> Filler<'a> {
+    /// Begins to read the case of this number of a call, of which no other is known yet.
+    pub fn begin(&mut self, case: usize) {
+        self.followed.clear();
+        self.named.clear();
+        self.case = case;
+        self.cases = 1;
+        self.chosen = None;
+    }
+
+    /// The value that replaces the hole in this case.
+    fn value_of(&mut self, hole: Hole) -> Option<&'a Value> {
+        let names = self.names;
+        let values = names.values_of(hole)?;
+        let number = match values {
+            [_] => 0,
+            _ => self.choose(hole, values)?,
+        };
+        values.get(number)
+    }
+
+    /// The number of the one of these values that replaces the hole in this case, if the call has no other such variable, and a shell leaves
+    /// each of them as it is.
+    fn choose(&mut self, hole: Hole, values: &[Value]) -> Option<usize> {
+        let name = self.names.variable_at(hole)?;
+        let is_other = self.chosen.is_some_and(|chosen| chosen != name);
+        let are_kept = values
+            .iter()
+            .all(|one| one.is_kept(hole.way) && !one.units.is_empty());
+        if is_other || !are_kept {
+            return None;
+        }
+        self.chosen = Some(name);
+        self.cases = values.len();
+        Some(self.case)
+    }
+
+    /// The word, of these units, with the values that are known.
+    pub fn word(&mut self, word: &ShellWord, units: &[Unit]) -> Result<CallWord> {
         // What isn't known of a long word doesn't matter.
-        let units = word.units.get(..LONGEST).unwrap_or(&word.units);
+        let units = units.get(..LONGEST).unwrap_or(units);
         let spare = word.start.saturating_add(2);
         let end = word.units.last().map_or(spare, |last| last.end());
         Ok(CallWord {
@@ -160,10 +173,10 @@ impl Filler<'_> {
             match *unit {
                 Unit::Byte(byte, offset) => add(&mut traced, byte, Origin::At(offset))?,
                 Unit::Escape(byte, offset) => add(&mut traced, byte, Origin::Escape(offset))?,
-                Unit::Hole(hole) => match self.names.value_of(hole, self.point) {
+                Unit::Hole(hole) => match self.value_of(hole) {
                     Some(value) if self.fits(value, hole.way, is_alone) => {
                         self.follow(hole, value)?;
-                        add_value(&mut traced, value.units, value.is_given)?;
+                        add_value(&mut traced, &value.units, value.is_given)?;
                     }
                     _ => add(&mut traced, b'x', Origin::Hole(hole))?,
                 },
@@ -173,17 +186,14 @@ impl Filler<'_> {
     }
 
     /// Whether the value can be put in: a shell makes just one word of it.
-    fn fits(&mut self, value: Value<'_>, way: Way, is_alone: bool) -> bool {
-        let start = value.start();
-        let is_near = start <= self.reach;
-        self.reach = self.reach.saturating_sub(start);
+    fn fits(&mut self, value: &Value, way: Way, is_alone: bool) -> bool {
         let vanishes = way.is_split() && is_alone && value.units.is_empty();
-        is_near && self.spend(value.units.len()) && !vanishes && value.is_kept(way)
+        self.spend(value, 1) && !vanishes && value.is_kept(way)
     }
 
     /// Whether the value of the hole is known and is no command: nothing, or what only tells make how to run the one after it.
     pub fn is_nothing(&mut self, hole: Hole) -> Result<bool> {
-        let Some(value) = self.names.value_of(hole, self.point) else {
+        let Some(value) = self.names.value_of(hole) else {
             return Ok(false);
         };
         let signs = if self.names.is_make() {
@@ -192,7 +202,8 @@ impl Filler<'_> {
             " \t"
         };
         let mut units = value.units.iter();
-        let is_nothing = value.units.len() <= SIGNS && units.all(|unit| has_any(&[*unit], signs));
+        let is_short = value.units.len() <= SIGNS && value.parts.is_empty();
+        let is_nothing = is_short && units.all(|unit| has_any(&[*unit], signs));
         if is_nothing {
             self.follow(hole, value)?;
         }
@@ -200,16 +211,19 @@ impl Filler<'_> {
     }
 
     /// Notes that the hole is replaced by the value.
-    fn follow(&mut self, hole: Hole, value: Value<'_>) -> Result<()> {
-        let value = value.source(&self.names.lines, self.names.is_make());
-        let Hole { start, end, .. } = hole;
-        Ok(self.followed.push(Followed { start, end, value })?)
+    fn follow(&mut self, hole: Hole, value: &Value) -> Result<()> {
+        self.followed.push(self.names.followed(hole, value))?;
+        Ok(self.followed.extend_from_slice(&value.parts)?)
     }
 
-    /// Whether a value of so many bytes may be put in yet.
-    fn spend(&mut self, length: usize) -> bool {
-        let fits = length <= self.left;
+    /// Whether the value may be put in yet, each of whose bytes counts for so many.
+    fn spend(&mut self, value: &Value, weight: usize) -> bool {
+        let length = value.units.len().saturating_mul(weight);
+        let before = self.names.file.len().saturating_mul(value.parts.len());
+        let before = before.saturating_add(value.start);
+        let fits = length <= self.left && before <= self.reach;
         self.left = self.left.saturating_sub(length);
+        self.reach = self.reach.saturating_sub(before);
         fits
     }
 
@@ -217,13 +231,13 @@ impl Filler<'_> {
     pub fn options(&mut self, hole: Hole) -> Result<Option<Vec<CallWord>>> {
         let alloc = self.names.alloc;
         let mut options = Vec::new(alloc);
-        if let Some(value) = self.names.value_of(hole, self.point) {
+        if let Some(value) = self.names.value_of(hole) {
             if !hole.way.is_split() {
                 return Ok(Some(options));
             }
-            self.follow(hole, value)?;
-            let fits = self.spend(value.units.len().saturating_mul(WORD));
-            if fits && value.is_kept(Way::MadeQuoted) && !has_any(value.units, SPECIAL) {
+            let fits = self.spend(value, WORD);
+            if fits && value.is_kept(Way::MadeQuoted) && !has_any(&value.units, SPECIAL) {
+                self.follow(hole, value)?;
                 let words = value.units.split(is_blank).filter(|word| !word.is_empty());
                 for word in words.skip(1) {
                     let mut traced = empty(alloc);

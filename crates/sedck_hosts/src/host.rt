@@ -14,8 +14,6 @@ use std::alloc::Global;
 pub struct Assignment {
     pub name: Vec<u8>,
     pub value: Vec<Unit>,
-    /// Whether make keeps the value unless it is called with another one: `=`, `:=` or the like sets it, outside of conditionals.
-    pub is_certain: bool,
 }
 
 /// The shell text of a file.
@@ -25,8 +23,6 @@ pub struct Host {
     pub texts: Vec<Vec<Unit>>,
     /// Assignments outside of shell text.
     pub assignments: Vec<Assignment>,
-    /// Whether others may be made that aren't read: by `include`, by `$(eval ..)`, by a loop, or where a name or a whole line is replaced.
-    pub is_open: bool,
     /// The offsets of what may call sed, and isn't understood, in the file's order, each once.
     pub unread: Vec<usize>,
 }
@@ -36,7 +32,6 @@ impl Host {
         Host {
             texts: Vec::new(alloc),
             assignments: Vec::new(alloc),
-            is_open: false,
             unread: Vec::new(alloc),
         }
     }

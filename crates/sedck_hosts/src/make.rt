@@ -1,7 +1,7 @@
 //! Makefiles: lines of recipes, `$(shell ..)`, and assignments (POSIX.1-2024 XCU make, and GNU make).
 
 use crate::host::{Assignment, Host};
-use crate::make_text::{Notes, Reading, after_conditionals, read_make_text, reference_end};
+use crate::make_text::{Reading, after_conditionals, read_make_text, reference_end};
 use crate::parts::{Part, is, is_in, is_word_of, lines_of, named};
 use sedck_origin::{Result, Unit};
 use std::alloc::Global;
@@ -9,50 +9,18 @@ use std::alloc::Global;
 /// The variable whose value begins the lines of recipes in place of a tab.
 const PREFIX: &str = ".RECIPEPREFIX";
 
-/// The name in whose place Autoconf puts an assignment to `MAKE`.
-const SET_MAKE: &str = "SET_MAKE";
-
 /// Words that may stand before an assignment.
 const MODIFIERS: &str = "export override private";
 
 /// Other words that begin a line which is neither a rule nor an assignment.
-const DIRECTIVES: &str = "else vpath undefine unexport endef";
-
-/// What a directive does to the lines behind it.
-#[derive(Clone, Copy)]
-enum Effect {
-    /// They count under a condition only.
-    Begin,
-    /// They count for each value of a name.
-    Loop,
-    /// Those behind it don't any more.
-    End,
-    /// Others count with them that aren't read.
-    Include,
-}
-
-/// Directives of GNU make, and those of Automake.
-static EFFECTS: &'static [(Effect, &'static str)] = &[
-    (Effect::Begin, "ifeq ifneq ifdef ifndef if"),
-    (Effect::End, "endif"),
-    (Effect::Include, "include -include sinclude load -load"),
-];
-
-/// Directives of BSD's make, without the dot.
-static DOTTED: &'static [(Effect, &'static str)] = &[
-    (Effect::Begin, "if ifdef ifndef ifmake ifnmake"),
-    (Effect::Loop, "for"),
-    (Effect::End, "endif endfor"),
-    (Effect::Include, "include -include sinclude dinclude"),
-];
+const DIRECTIVES: &str = "else vpath undefine unexport endef ifeq ifneq ifdef ifndef if endif \
+    include -include sinclude load -load";
 
 /// How an assignment sets its name.
 #[derive(Clone, Copy)]
 enum Operator {
-    /// To the value, as `=`, `:=`, `::=` and `:::=` do.
+    /// To the value, as `=`, `:=`, `::=` and `:::=` do, and `?=` if nothing else sets it.
     Set,
-    /// `?=`: to the value, if nothing else sets it.
-    Conditional,
     /// `+=`.
     Append,
     /// `!=`: to what the shell writes.
@@ -61,8 +29,7 @@ enum Operator {
 
 /// The operators of assignments.
 static OPERATORS: &'static [(Operator, &'static str)] = &[
-    (Operator::Set, "= := ::= :::="),
-    (Operator::Conditional, "?="),
+    (Operator::Set, "= := ::= :::= ?="),
     (Operator::Append, "+="),
     (Operator::Shell, "!="),
 ];
@@ -85,8 +52,6 @@ struct Make {
     is_in_rule: bool,
     /// How many `define` aren't ended.
     defines: usize,
-    /// How many conditions aren't ended.
-    conditions: usize,
     /// Whether lines of recipes may begin with another byte than a tab, from a line before on.
     is_prefixed: bool,
 }
@@ -98,7 +63,6 @@ pub(crate) fn host_of_make(alloc: Global, file: &[u8]) -> Result<Host> {
         host: Host::new(alloc),
         is_in_rule: false,
         defines: 0,
-        conditions: 0,
         is_prefixed: false,
     };
     let lines = lines_of(alloc, Part::whole(file), true)?;
@@ -112,7 +76,6 @@ impl Make {
     /// Reads a line with those that continue it.
     fn read_line(&mut self, whole: Part) -> Result<()> {
         let line = after_conditionals(whole);
-        let is_certain = self.conditions == 0 && line.start == whole.start;
         let statement = after_modifiers(line);
         if self.defines > 0 {
             return self.read_in_define(line, statement);
@@ -123,9 +86,8 @@ impl Make {
         }
         if let Some(definition) = definition_at(statement) {
             self.is_in_rule = false;
-            return self.define(statement, definition, is_certain);
+            return self.define(statement, definition);
         }
-        self.note_effect(statement);
         if has_tab {
             return self.add(line, Reading::Recipe);
         }
@@ -133,19 +95,6 @@ impl Make {
             return Ok(());
         }
         self.read_statement(statement)
-    }
-
-    /// Notes what a directive does to the lines behind it. The names that a loop sets aren't read.
-    fn note_effect(&mut self, line: Part) {
-        let Some(effect) = effect_of(line) else {
-            return;
-        };
-        self.host.is_open |= matches!(effect, Effect::Loop | Effect::Include);
-        self.conditions = match effect {
-            Effect::Begin | Effect::Loop => self.conditions.saturating_add(1),
-            Effect::End => self.conditions.saturating_sub(1),
-            Effect::Include => self.conditions,
-        };
     }
 
     /// Reads a line between `define` and `endef`.
@@ -172,7 +121,7 @@ impl Make {
             let (name, _) = rest.split_word();
             self.assign_unknown(name, line)?;
         }
-        if named(EFFECTS, word).is_some() || is_word_of(word, DIRECTIVES) {
+        if is_word_of(word, DIRECTIVES) {
             return self.add(line, Reading::Value);
         }
         self.read_rule(line)
@@ -182,8 +131,6 @@ impl Make {
     fn read_rule(&mut self, line: Part) -> Result<()> {
         let colon = until(line, ":#;");
         if !colon.begins_with(b':') {
-            // Any lines may stand in its place.
-            self.host.is_open |= line.placeholder().is_some_and(|name| !is(name, SET_MAKE));
             return self.add(line, Reading::Value);
         }
         self.is_in_rule = true;
@@ -204,27 +151,21 @@ impl Make {
         let is_recipe = matches!(reading, Reading::Recipe);
         let part = if is_recipe { command_of(line) } else { line };
         let (units, notes) = read_make_text(self.alloc, part, reading)?;
-        self.note(&notes)?;
+        self.host.unread.extend_from_slice(&notes.unread)?;
         if is_recipe {
             self.host.add(units)?;
         }
         for (part, reading) in &notes.arguments {
             let (units, notes) = read_make_text(self.alloc, *part, *reading)?;
-            self.note(&notes)?;
+            self.host.unread.extend_from_slice(&notes.unread)?;
             self.host.add(units)?;
         }
         Ok(())
     }
 
-    /// Notes calls of sed that aren't read, and whether make reads more.
-    fn note(&mut self, notes: &Notes) -> Result<()> {
-        self.host.is_open |= notes.has_eval;
-        Ok(self.host.unread.extend_from_slice(&notes.unread)?)
-    }
-
     /// Reads an assignment. With `!=` its value is shell text; after `+=` and `!=` the value of the name isn't known. Behind one that changes
     /// how recipes begin they aren't read.
-    fn define(&mut self, line: Part, definition: Definition, is_certain: bool) -> Result<()> {
+    fn define(&mut self, line: Part, definition: Definition) -> Result<()> {
         let (name, operator) = (definition.name.bytes(), definition.operator);
         let value = definition.value;
         if is(name, PREFIX) && !value.is_ended() && !self.is_prefixed {
@@ -241,8 +182,7 @@ impl Make {
             self.host.add(units)?;
             return self.assign_unknown(name, line);
         }
-        let is_set = matches!(operator, Operator::Set);
-        self.assign(name, units, is_set && is_certain)
+        self.assign(name, units)
     }
 
     /// Adds an assignment to a name that isn't known, or of a value that is only a part or for some targets. It isn't read as a text.
@@ -257,21 +197,15 @@ impl Make {
     fn assign_unknown(&mut self, name: &[u8], line: Part) -> Result<()> {
         let mut value = Vec::new(self.alloc);
         value.push(Unit::made(line.start, line.end))?;
-        self.assign(name, value, false)
+        self.assign(name, value)
     }
 
-    /// Adds an assignment; one whose name isn't known may be any other.
-    fn assign(&mut self, bytes: &[u8], value: Vec<Unit>, is_certain: bool) -> Result<()> {
-        if !is_known(bytes) {
-            self.host.is_open = true;
-            return Ok(());
+    /// Adds an assignment, if its name is known.
+    fn assign(&mut self, bytes: &[u8], value: Vec<Unit>) -> Result<()> {
+        if is_known(bytes) {
+            let name = bytes.to_vec(self.alloc)?;
+            self.host.assignments.push(Assignment { name, value })?;
         }
-        let name = bytes.to_vec(self.alloc)?;
-        self.host.assignments.push(Assignment {
-            name,
-            value,
-            is_certain,
-        })?;
         Ok(())
     }
 }
@@ -285,15 +219,6 @@ fn is_known(name: &[u8]) -> bool {
 fn after_modifiers(line: Part) -> Part<'_> {
     let words = line.after_blanks();
     words.after_words(4, |word| is_word_of(word, MODIFIERS))
-}
-
-/// What the line does to those behind it, if it is a directive.
-fn effect_of(line: Part) -> Option<Effect> {
-    if !line.begins_with(b'.') {
-        return named(EFFECTS, line.before(until(line, " \t#")));
-    }
-    let name = line.skip(1).after_blanks();
-    named(DOTTED, name.before(name.after_any("-").after_name()))
 }
 
 /// The assignment that the part is, if it is one: a name, blanks, and an operator.

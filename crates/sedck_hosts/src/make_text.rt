@@ -24,8 +24,6 @@ pub(crate) struct Notes<'a> {
     pub arguments: Vec<(Part<'a>, Reading)>,
     /// The offsets of calls of sed in it that are neither in its units nor in those arguments.
     pub unread: Vec<usize>,
-    /// Whether make reads what `$(eval ..)` makes.
-    pub has_eval: bool,
 }
 
 /// A reference that isn't closed.
@@ -104,7 +102,6 @@ pub(crate) fn read_make_text<'a>(
         notes: Notes {
             arguments: Vec::new(alloc),
             unread: Vec::new(alloc),
-            has_eval: false,
         },
         quoting: Quoting::default(),
         rest: whole,
@@ -217,7 +214,6 @@ impl<'a> MakeText<'a> {
         }
         self.is_noted = self.is_noted && !self.opens.is_empty();
         let name = called_name(rest);
-        self.notes.has_eval |= is(name, "eval");
         // Beyond so many of them the argument of `$(shell ..)` isn't read by itself.
         let is_shell = self.shells < SHELLS && is(name, "shell");
         let argument = is_shell.then_some(rest.skip(5).after_blanks().start);

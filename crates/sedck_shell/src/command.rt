@@ -29,7 +29,6 @@ pub enum Pattern {
 #[derive(Drop)]
 pub struct ShellCommand {
     pub words: Vec<ShellWord>,
-    pub site: Site,
     /// The here-document that is its standard input, if there is one.
     pub here: Option<Vec<Unit>>,
     /// The file that is its standard input, if that is redirected.
@@ -54,16 +53,6 @@ pub struct Target {
     pub is_output: bool,
 }
 
-/// Where in its text a command is.
-#[derive(Clone, Copy, Default)]
-pub struct Site {
-    /// The number of the function whose body has it; 0 where it is in none. The text's functions have numbers from 1 on.
-    pub body: usize,
-    /// Whether each run of the text, or of the function, comes to it in its own shell: it isn't in a condition, a loop, a pipe, a
-    /// subshell or a group, nor behind `&&` or `||`, and doesn't run beside others.
-    pub is_certain: bool,
-}
-
 /// What was read of a text.
 #[derive(Drop)]
 pub struct ShellText {
@@ -80,7 +69,6 @@ impl ShellCommand {
     pub(crate) fn new(alloc: Global) -> ShellCommand {
         ShellCommand {
             words: Vec::new(alloc),
-            site: Site::default(),
             here: None,
             source: None,
             here_string: None,

@@ -52,9 +52,13 @@ impl Reader<'_> {
             }
         };
         let is_double = self.top.quote == Quote::Double || self.top.is_in_double;
-        let units = backquoted(self.alloc, self.rest.take(count), is_double)?;
         let group = self.new_group(unit.start(), true)?;
-        self.output.add_job(units, Quote::None, None, group)?;
+        self.output.jobs.push(Job {
+            units: backquoted(self.alloc, self.rest.take(count), is_double)?,
+            quote: Quote::None,
+            body: None,
+            group,
+        })?;
         self.add_hole_over(count.saturating_add(1), self.way())
     }
 
@@ -129,10 +133,9 @@ impl Reader<'_> {
     pub fn is_expression(&mut self, count: usize) -> bool {
         let inner = self.rest.skip(count);
         let Some(length) = self.parenthesis_end(inner) else {
-            if self.output.looked >= LOOKAHEAD && !self.output.has_looked {
-                self.output.has_looked = true;
+            if self.output.looked >= LOOKAHEAD {
                 let before = self.end_after(count);
-                let _ = self.output.unread.push(before);
+                let _ = self.output.note_full(before);
             }
             return false;
         };

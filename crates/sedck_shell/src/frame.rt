@@ -137,8 +137,6 @@ pub(crate) struct Frame {
     pub is_process: bool,
     pub braces: Braces,
     pub flow: Flow,
-    /// The functions around the one whose body is read, each with how much is open in it.
-    pub outer: Vec<(usize, usize)>,
 }
 
 /// Braces in a word that some shells expand: `{a,b}` and `{1..9}`.
@@ -155,20 +153,12 @@ pub(crate) struct Braces {
 /// Where the next command is in the text.
 #[derive(Clone, Copy, Default)]
 pub(crate) struct Flow {
-    /// The number of the function whose body is read; 0 if none is.
-    pub body: usize,
-    /// How many conditions, loops and groups are open in it.
+    /// How many conditions, loops and groups are open.
     pub depth: usize,
     /// The number of the innermost of all groups around it.
     pub group: Option<usize>,
-    /// Whether the body of a function comes next.
-    pub begins_function: bool,
-    /// Whether it depends on a command before it, or is in a pipe.
-    pub is_conditional: bool,
     /// Whether an operator precedes it, behind which a newline doesn't count.
     pub is_awaited: bool,
-    /// How many commands had been read when the list began that has it.
-    pub list: usize,
 }
 
 impl Draft {
@@ -209,7 +199,6 @@ impl Frame {
             is_process: false,
             braces: Braces::default(),
             flow: Flow::default(),
-            outer: Vec::new(alloc),
         }
     }
 

@@ -14,6 +14,6 @@ mod quotes;
 mod reader;
 mod words;
 
-pub use command::{Pattern, ShellCommand, ShellText, ShellWord, Site, Target};
+pub use command::{Pattern, ShellCommand, ShellText, ShellWord, Target};
 pub use output::read_shell;
 pub use reader::{Dialect, Form};

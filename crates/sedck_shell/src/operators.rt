@@ -12,12 +12,21 @@ impl Reader<'_> {
             return self.read_in_test(unit, byte);
         }
         self.note_joined(unit, 0)?;
-        match byte {
-            b';' => self.read_semicolon(),
-            b'&' => self.read_ampersand(),
-            b'|' => self.read_bar(),
-            b'(' => self.open_parenthesis(),
-            b')' => self.close_parenthesis(unit),
+        match (byte, self.rest.peek()) {
+            (b'(', _) => self.open_parenthesis(),
+            (b')', _) => self.close_parenthesis(unit),
+            (b';', second) => self.read_semicolon(second),
+            (b'&', Some(b'&')) | (b'|', Some(b'|')) => {
+                self.pass(1);
+                self.join_commands(false)
+            }
+            // Some shells have `|&`.
+            (b'|', second) => {
+                self.pass(usize::from(second == Some(b'&')));
+                self.join_commands(true)
+            }
+            (b'&', Some(b'>')) => self.read_both(),
+            (b'&', _) => self.end_command(),
             _ => self.read_redirection(byte),
         }
     }
@@ -32,47 +41,24 @@ impl Reader<'_> {
         Ok(self.pass(1))
     }
 
-    /// Reads `|`, `||`, or `|&` of some shells.
-    fn read_bar(&mut self) -> Result<()> {
-        let second = self.rest.peek();
-        if let Some(b'|' | b'&') = second {
-            self.pass(1);
-        }
-        self.join_commands(second != Some(b'|'))
-    }
-
     /// Reads `;`, or `;;` and `;&`, behind which a pattern follows.
-    fn read_semicolon(&mut self) -> Result<()> {
+    fn read_semicolon(&mut self, second: Option<u8>) -> Result<()> {
         self.end_command()?;
-        self.end_list();
-        if let Some(b';' | b'&') = self.rest.peek() {
+        if let Some(b';' | b'&') = second {
             self.pass(1);
             self.top.is_pattern = self.top.cases > 0;
         }
         Ok(())
     }
 
-    /// Reads `&`, `&&`, or `&>` of some shells.
-    fn read_ampersand(&mut self) -> Result<()> {
-        match self.rest.peek() {
-            Some(b'>') => {
-                self.end_word()?;
-                let is_appended = self.rest.byte(1) == Some(b'>');
-                self.part_command();
-                self.forget_output();
-                self.top.awaited = written(Stream::Output, !is_appended);
-                self.pass(if is_appended { 2 } else { 1 });
-            }
-            Some(b'&') => {
-                self.pass(1);
-                return self.join_commands(false);
-            }
-            _ => {
-                self.end_command()?;
-                self.end_beside();
-            }
-        }
-        Ok(())
+    /// Reads `&>` or `&>>` of some shells: the output goes to a file.
+    fn read_both(&mut self) -> Result<()> {
+        self.end_word()?;
+        let is_appended = self.rest.byte(1) == Some(b'>');
+        self.part_command();
+        self.forget_output();
+        self.top.awaited = written(Stream::Output, !is_appended);
+        Ok(self.pass(if is_appended { 2 } else { 1 }))
     }
 
     /// Reads `(`: a group, the parentheses of a function, a list behind `name=`, or a part of a pattern.
@@ -136,14 +122,11 @@ impl Reader<'_> {
 
     /// How many blanks come next.
     fn blanks(&self) -> usize {
-        let mut rest = self.rest;
-        for count in 0..self.rest.len() {
-            if !matches!(rest.peek(), Some(b' ' | b'\t')) {
-                return count;
-            }
-            rest = rest.skip(1);
-        }
-        self.rest.len()
+        let is_blank = |count: &usize| matches!(self.rest.byte(*count), Some(b' ' | b'\t'));
+        let mut counts = 0..self.rest.len();
+        counts
+            .find(|count| !is_blank(count))
+            .unwrap_or(self.rest.len())
     }
 
     /// Reads `)`: the end of a pattern of `case`, or of what encloses.
@@ -155,7 +138,6 @@ impl Reader<'_> {
         self.end_word()?;
         if self.top.is_pattern {
             self.end_command()?;
-            self.end_list();
             self.top.is_pattern = false;
             return Ok(());
         }

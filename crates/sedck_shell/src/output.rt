@@ -24,7 +24,6 @@ pub fn read_shell(alloc: Global, text: Text, form: Form) -> Result<ShellText> {
         unread: Vec::new(alloc),
         misses: 0,
         looked: 0,
-        has_looked: false,
         is_full: false,
     };
     output = read_text(alloc, Cursor::new(text), form, None, output)?;
@@ -50,9 +49,7 @@ fn read_text(
 ) -> Result<Output> {
     let (mut output, mut rest) = (output, text);
     for _ in 0..RESTARTS {
-        let mut top = Frame::new(alloc, Quote::None);
-        top.flow.group = group;
-        let mut reader = new_reader(alloc, rest, form, top, output);
+        let mut reader = new_reader(alloc, rest, form, (Quote::None, group), output);
         reader.read_all()?;
         let is_closed = reader.is_closed();
         if is_closed {
@@ -82,9 +79,8 @@ fn read_body(
     form: Form,
     output: Output,
 ) -> Result<Output> {
-    let mut top = Frame::new(alloc, job.quote);
-    top.flow.group = job.group;
-    let mut reader = new_reader(alloc, Cursor::Units(&job.units), form, top, output);
+    let text = Cursor::Units(&job.units);
+    let mut reader = new_reader(alloc, text, form, (job.quote, job.group), output);
     reader.read_all()?;
     reader.leave_frames()?;
     let body = std::mem::replace(&mut reader.top.word.units, Vec::new(alloc));
@@ -94,14 +90,16 @@ fn read_body(
     Ok(reader.output)
 }
 
-/// A reader at the beginning of a text.
+/// A reader at the beginning of a text, with this quoting, and in the group of this number.
 fn new_reader<'a>(
     alloc: Global,
     text: Cursor<'a>,
     form: Form,
-    top: Frame,
+    (quote, group): (Quote, Option<usize>),
     output: Output,
 ) -> Reader<'a> {
+    let mut top = Frame::new(alloc, quote);
+    top.flow.group = group;
     Reader {
         alloc,
         form,
@@ -208,20 +206,22 @@ impl Reader<'_> {
             if self.output.misses >= MISSES {
                 break;
             }
-            let Some((end, rest)) = body_end(self.rest, one) else {
+            let Some((end, rest, is_joined)) = body_end(self.rest, one) else {
                 return self.output.miss(one.start);
             };
+            self.output.note_if(is_joined, one.start)?;
             let body = self.rest.before(end);
-            let ends = !one.is_quoted && ends_before(self.rest, body.len(), one);
-            self.output.note_if(ends, one.start)?;
-            let units = lines_of(self.alloc, body, one.is_stripped)?;
             let quote = if one.is_quoted {
                 Quote::Verbatim
             } else {
                 Quote::Body
             };
-            self.output
-                .add_job(units, quote, Some(one.number), one.group)?;
+            self.output.jobs.push(Job {
+                units: lines_of(self.alloc, body, one.is_stripped)?,
+                quote,
+                body: Some(one.number),
+                group: one.group,
+            })?;
             if let Some(last) = self.rest.before(rest).len().checked_sub(1) {
                 self.here = self.rest.skip(last);
                 self.pass(0);
@@ -231,13 +231,17 @@ impl Reader<'_> {
     }
 }
 
-/// The line of the delimiter with which the here-document ends that begins the text, and what is behind it.
-fn body_end<'a>(text: Cursor<'a>, pending: &Pending) -> Option<(Cursor<'a>, Cursor<'a>)> {
+/// The line of the delimiter with which the here-document ends that begins the text, what is behind it, and whether some shells find the
+/// end before: at lines that are joined by backslashes, and are the delimiter then.
+fn body_end<'a>(text: Cursor<'a>, pending: &Pending) -> Option<(Cursor<'a>, Cursor<'a>, bool)> {
     let mut line = text;
+    let mut is_joined = false;
     for _ in 0..text.len().saturating_add(1) {
         let (inner, rest) = line.split_line();
-        if is_delimiter(inner, pending) {
-            return Some((line, rest));
+        match joints_of(line, pending) {
+            Some(0) => return Some((line, rest, is_joined)),
+            Some(_) => is_joined = true,
+            None => {}
         }
         if inner.len() == line.len() {
             break;
@@ -247,53 +251,34 @@ fn body_end<'a>(text: Cursor<'a>, pending: &Pending) -> Option<(Cursor<'a>, Curs
     None
 }
 
-/// Whether some shells find the end of the here-document in its first so many units: at lines that are joined by backslashes, and are the
-/// delimiter then.
-fn ends_before(text: Cursor, count: usize, pending: &Pending) -> bool {
-    let mut rest = text;
-    let mut begins_line = true;
-    for _ in 0..count {
-        if begins_line && is_joined_delimiter(rest, pending) {
-            return true;
-        }
-        begins_line = rest.peek() == Some(b'\n');
-        rest = rest.skip(1);
-    }
-    false
-}
-
 /// How many lines are joined at most where the delimiter is looked for: more are taken for it.
 const JOINED: usize = 16;
 
-/// Whether the lines that are joined at the beginning of the text, of which the first is the beginning of the delimiter, are the delimiter.
-fn is_joined_delimiter(text: Cursor, pending: &Pending) -> bool {
+/// How often lines are joined in the delimiter at the beginning of the text, as they are where it isn't quoted; none where it isn't there.
+fn joints_of(text: Cursor, pending: &Pending) -> Option<usize> {
     let mut rest = text;
     let mut count = 0usize;
     let mut place = 0usize;
-    let length = pending.delimiter.len();
     for _ in 0..text.len().saturating_add(1) {
         let byte = rest.peek();
-        if count < JOINED && byte == Some(b'\\') && rest.byte(1) == Some(b'\n') {
+        let is_joint = byte == Some(b'\\') && rest.byte(1) == Some(b'\n');
+        if is_joint && !pending.is_quoted {
+            if count == JOINED {
+                break;
+            }
             count = count.saturating_add(1);
             rest = rest.skip(1);
         } else if pending.is_stripped && place == 0 && byte == Some(b'\t') {
             // It is left out.
-        } else if place < length && byte == pending.delimiter.get(place).copied() {
+        } else if byte.is_some() && byte == pending.delimiter.get(place).copied() {
             place = place.saturating_add(1);
         } else {
-            let is_ended = place == length && matches!(byte, Some(b'\n') | None);
-            return count >= JOINED || (count > 0 && is_ended);
+            let is_ended = byte == Some(b'\n') || rest.len() == 0;
+            return (is_ended && place == pending.delimiter.len()).then_some(count);
         }
         rest = rest.skip(1);
     }
-    count > 0
-}
-
-/// Whether the line is the delimiter.
-fn is_delimiter(line: Cursor, pending: &Pending) -> bool {
-    let tabs = line.len().saturating_sub(pending.delimiter.len());
-    let is_indented = pending.is_stripped && (0..tabs).all(|index| line.byte(index) == Some(b'\t'));
-    (tabs == 0 || is_indented) && line.skip(tabs).is(&pending.delimiter)
+    Some(JOINED)
 }
 
 /// The units of lines, without the tabs at their beginnings if they are left out.

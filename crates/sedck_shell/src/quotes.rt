@@ -92,22 +92,15 @@ impl Reader<'_> {
     /// Reads a backslash between double quotes or in a here-document: it quotes a dollar sign, a backquote, a backslash and a newline, and
     /// between double quotes a double quote.
     fn read_backslash_in_double(&mut self, unit: Unit) -> Result<()> {
-        match self.rest.get(0) {
-            Some(quoted) if quoted.byte() == Some(b'\n') => Ok(self.pass(1)),
-            Some(quoted) if self.is_quotable(quoted) => {
+        let is_double = self.top.quote == Quote::Double;
+        let next = self.rest.get(0);
+        match self.rest.peek() {
+            Some(b'\n') => Ok(self.pass(1)),
+            Some(byte @ (b'$' | b'`' | b'\\' | b'"')) if is_double || byte != b'"' => {
                 self.pass(1);
-                self.add(quoted)
+                self.add(next.unwrap_or(unit))
             }
             _ => self.add(unit),
-        }
-    }
-
-    /// Whether a backslash before the unit quotes it there.
-    fn is_quotable(&self, unit: Unit) -> bool {
-        match unit.byte() {
-            Some(b'$' | b'`' | b'\\') => true,
-            Some(b'"') => self.top.quote == Quote::Double,
-            _ => false,
         }
     }
 
@@ -198,15 +191,11 @@ fn digits_after(text: Cursor, letter: u8) -> usize {
         b'c' => 1,
         _ => 0,
     };
-    for count in 0..most {
-        let is_part = match text.byte(count) {
-            Some(byte) if letter.is_ascii_digit() => matches!(byte, b'0'..=b'7'),
-            Some(b'\'' | b'\\') | None => false,
-            Some(byte) => letter == b'c' || byte.is_ascii_hexdigit(),
-        };
-        if !is_part {
-            return count;
-        }
-    }
-    most
+    let is_part = |count: &usize| match text.byte(*count) {
+        Some(byte) if letter.is_ascii_digit() => matches!(byte, b'0'..=b'7'),
+        Some(b'\'' | b'\\') | None => false,
+        Some(byte) => letter == b'c' || byte.is_ascii_hexdigit(),
+    };
+    let mut counts = 0..most;
+    counts.find(|count| !is_part(count)).unwrap_or(most)
 }

@@ -52,10 +52,9 @@ pub(crate) struct Output {
     pub unread: Vec<usize>,
     /// How often the end of something was looked for in vain.
     pub misses: usize,
-    /// How many units were looked at for the ends of expressions, and whether that was too often.
+    /// How many units were looked at for the ends of expressions.
     pub looked: usize,
-    pub has_looked: bool,
-    /// Whether there are more commands or groups than are kept.
+    /// Whether there are more commands or groups than are kept, or more units than are looked at.
     pub is_full: bool,
 }
 
@@ -86,24 +85,6 @@ impl Output {
     pub fn forget(&mut self, mark: Mark) {
         self.commands.truncate(mark.commands);
         self.jobs.truncate(mark.jobs);
-    }
-
-    /// Has a text be read by itself.
-    pub fn add_job(
-        &mut self,
-        units: Vec<Unit>,
-        quote: Quote,
-        body: Option<usize>,
-        group: Option<usize>,
-    ) -> Result<()> {
-        Ok(
-            self.jobs.push(Job {
-                units,
-                quote,
-                body,
-                group,
-            })?,
-        )
     }
 
     /// Notes that the end of what begins at this offset was looked for in vain.
@@ -323,11 +304,6 @@ impl<'a> Reader<'a> {
         frame.brackets = self.brackets;
         frame.floor = self.brackets;
         frame.flow.group = self.top.flow.group;
-        frame.flow.body = if self.top.flow.begins_function && is_group {
-            self.output.functions.len()
-        } else {
-            self.top.flow.body
-        };
         frame
     }
 
@@ -356,7 +332,6 @@ impl<'a> Reader<'a> {
             return Ok(());
         };
         let inner = std::mem::replace(&mut self.top, outer);
-        self.top.flow.begins_function = false;
         if !inner.is_hole {
             if inner.has_commands() {
                 self.top.draft.around.closed = inner.flow.group;

@@ -1,6 +1,6 @@
 //! Words and ends of commands, the reserved words (XCU 2.4), and which commands run whenever their text does (XCU 2.9.2 to 2.9.5).
 
-use crate::command::{ShellWord, Site, Target};
+use crate::command::{ShellWord, Target};
 use crate::frame::{Awaited, Braces, Draft, Enclosure, Quote};
 use crate::reader::{MOST, Reader};
 use sedck_origin::{Hole, Result, Unit, Way, byte_at, is_one_of, is_text};
@@ -11,11 +11,13 @@ static RESERVED: &'static [&'static str] = &[
     "coproc",
 ];
 
-/// Words that begin a condition or a loop.
-static BEGINNINGS: &'static [&'static str] = &["if", "while", "until", "for", "select", "case"];
+/// Words that begin a condition, a loop, a group or the body of a function.
+static BEGINNINGS: &'static [&'static str] = &[
+    "if", "while", "until", "for", "select", "case", "{",
+];
 
 /// Words that end one.
-static ENDS: &'static [&'static str] = &["fi", "done"];
+static ENDS: &'static [&'static str] = &["fi", "done", "}"];
 
 impl Reader<'_> {
     /// Begins a word at this offset in the file, if none is begun.
@@ -124,13 +126,13 @@ impl Reader<'_> {
         if is_output {
             self.top.draft.output = Some(self.top.draft.command.targets.len());
         }
-        Ok(
-            self.top.draft.command.targets.push(Target {
-                word,
-                is_emptied,
-                is_output: false,
-            })?,
-        )
+        let is_output = false;
+        let target = Target {
+            word,
+            is_emptied,
+            is_output,
+        };
+        Ok(self.top.draft.command.targets.push(target)?)
     }
 
     /// Notes that some shells read another word here, or the end of the command.
@@ -178,7 +180,6 @@ impl Reader<'_> {
         if !word.is_quoted && self.read_reserved(&word.units)? {
             return Ok(());
         }
-        self.top.flow.begins_function = false;
         Ok(self.top.draft.command.words.push(word)?)
     }
 
@@ -255,9 +256,8 @@ impl Reader<'_> {
         }
         if begins_with(&draft.command.words, "function") {
             let names = std::mem::replace(&mut draft.command.words, Vec::new(self.alloc));
-            return self.begin_functions(names);
+            return self.add_functions(names);
         }
-        draft.command.site = self.site();
         draft.around.group = self.top.flow.group;
         if self.output.commands.len() < MOST {
             return Ok(self.output.commands.push(draft)?);
@@ -288,7 +288,6 @@ impl Reader<'_> {
         self.end_word()?;
         if !self.goes_on() {
             self.end_command()?;
-            self.end_list();
         }
         if self.pending.is_empty() {
             return Ok(());
@@ -296,34 +295,19 @@ impl Reader<'_> {
         self.read_bodies()
     }
 
-    /// Where the command is that is being read.
-    fn site(&self) -> Site {
-        let flow = self.top.flow;
-        Site {
-            body: flow.body,
-            is_certain: flow.depth == 0 && !flow.is_conditional && self.frames.is_empty(),
-        }
-    }
-
     /// Notes what begins or ends with the first word of a command.
     fn note_flow(&mut self, units: &[Unit]) -> Result<()> {
         let offset = units.first().map_or(0, |unit| unit.start());
-        if is_text(units, "{") {
-            self.open_block();
-            self.begin_group(offset)?;
-        } else if is_text(units, "}") {
-            self.close_block();
-        } else if is_one_of(units, BEGINNINGS) {
+        if is_one_of(units, BEGINNINGS) {
             self.top.flow.depth = self.top.flow.depth.saturating_add(1);
             self.begin_group(offset)?;
         } else if is_one_of(units, ENDS) {
             self.end_compound();
         }
-        self.top.flow.begins_function = false;
         Ok(())
     }
 
-    /// Ends a condition or a loop, if one is open.
+    /// Ends a condition, a loop or a group, if one is open.
     fn end_compound(&mut self) {
         if self.top.flow.depth > 0 {
             self.top.flow.depth = self.top.flow.depth.saturating_sub(1);
@@ -338,70 +322,25 @@ impl Reader<'_> {
             self.top.draft.command.words.push(word)?;
         }
         let names = std::mem::replace(&mut self.top.draft.command.words, Vec::new(self.alloc));
-        self.begin_functions(names)
+        self.add_functions(names)
     }
 
     /// Keeps the names of functions whose body comes next. Some shells give one body several names.
-    fn begin_functions(&mut self, names: Vec<ShellWord>) -> Result<()> {
-        self.top.flow.begins_function = !names.is_empty();
+    fn add_functions(&mut self, names: Vec<ShellWord>) -> Result<()> {
         for name in names {
             self.output.functions.push(name)?;
         }
         Ok(())
     }
 
-    /// Opens a group, or the body of a function.
-    fn open_block(&mut self) {
-        let flow = &mut self.top.flow;
-        let around = (flow.body, flow.depth);
-        if flow.begins_function && self.top.outer.push(around).is_ok() {
-            flow.body = self.output.functions.len();
-            flow.depth = 0;
-            flow.is_conditional = false;
-        } else {
-            flow.depth = flow.depth.saturating_add(1);
-        }
-    }
-
-    /// Closes a group, or the body of a function.
-    fn close_block(&mut self) {
-        if self.top.flow.depth > 0 {
-            self.end_compound();
-        } else if let Some((body, depth)) = self.top.outer.pop() {
-            self.top.flow.body = body;
-            self.top.flow.depth = depth;
-            self.end_group();
-        }
-    }
-
-    /// Ends the command before `&&`, `||` or a pipe: what follows depends on it, and newlines may precede it.
+    /// Ends the command before `&&`, `||` or a pipe: newlines may precede what follows.
     pub fn join_commands(&mut self, is_pipe: bool) -> Result<()> {
         self.end_word()?;
-        self.top.flow.is_conditional |= is_pipe;
         self.top.draft.around.has_output |= is_pipe;
         self.end_command()?;
         self.top.draft.around.has_input = is_pipe;
-        self.top.flow.is_conditional = true;
         self.top.flow.is_awaited = true;
         Ok(())
-    }
-
-    /// Ends a list of commands, unless an operator awaits another one.
-    pub fn end_list(&mut self) {
-        if !self.top.flow.is_awaited {
-            self.top.flow.is_conditional = false;
-            self.top.flow.list = self.output.commands.len();
-        }
-    }
-
-    /// Ends a list of commands that runs beside what follows.
-    pub fn end_beside(&mut self) {
-        for index in self.top.flow.list..self.output.commands.len() {
-            if let Some(draft) = self.output.commands.get_mut(index) {
-                draft.command.site.is_certain = false;
-            }
-        }
-        self.end_list();
     }
 }
 

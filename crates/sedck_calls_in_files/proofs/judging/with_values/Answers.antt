@@ -1,11 +1,17 @@
 use Rattle.std.proofs.Common.{All, sym, subst}
-use Rattle.std.proofs.lemmas.List.Elements.{All-append}
+use Rattle.std.proofs.lemmas.List.Elements.{All-push, All-append}
 use Rattle.sedck_calls_in_files.specs.Placed.{IsFindingIn}
+use Rattle.sedck_calls_in_files.proofs.judging.with_values.Goals.{in-Some+in_ok-warning+in_ok-push, in_default}
 use Rattle.sedck_calls_in_files.proofs.judging.with_values.Goals as goal
 
 pub returns-clause-places : goal.returns-clause-places
 returns-clause-places c =
-    let first = All-append (IsFindingIn c.args.file.now) c.args.explanation.findings.items c.in_ok-notes.notes.items c.requires.findings c.in_ok-notes.ensures.findings in
-    subst (All (IsFindingIn c.args.file.now)) (sym c.in_ok-append-2.ensures.items)
-    (All-append (IsFindingIn c.args.file.now) c.append.new.self.items c.in_ok-notes-2.notes.items
-    (subst (All (IsFindingIn c.args.file.now)) (sym c.in_ok-append.ensures.items) first) c.in_ok-notes-2.ensures)
+    let P = IsFindingIn c.args.file.now in
+    let before : All P c.match-found.explanation.findings.items = elim c.match-found.branch [
+      | in-Some+in_ok-warning+in_ok-push w ↦ subst (λ e. All P e.findings.items) (sym w.explanation-is)
+          (subst (All P) (sym w.in_ok-push.ensures.items)
+          (All-push P c.args.explanation.findings.items w.in_ok-warning.warning c.requires.findings w.in_ok-warning.ensures.finding))
+      | in_default w ↦ subst (λ e. All P e.findings.items) (sym w.explanation-is) c.requires.findings
+    ] in
+    subst (All P) (sym c.in_ok-append.ensures.items)
+    (All-append P c.match-found.explanation.findings.items c.in_ok-notes.notes.items before c.in_ok-notes.ensures)
