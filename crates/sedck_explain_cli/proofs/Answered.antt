@@ -3,7 +3,6 @@ use Rattle.std.proofs.Common.{◌≡◌, ℕ, Bool, true, false, List, Option, S
 use Rattle.std.specs.Prelude.{MatchBool}
 use Rattle.std.specs.declared.alloc.Global.{Global}
 use Rattle.sedck_engines.specs.Opened.{Known}
-use Rattle.sedck_errors.specs.declared.denied.Denied.{Denied}
 use Rattle.sedck_answer.specs.declared.status.Status.{Status}
 use Rattle.sedck_answer.specs.declared.status.Status.TheVariants.{Accepted}
 use Rattle.sedck_formats.specs.Plain.{Output}
@@ -38,7 +37,7 @@ plain_scripts k found request call status plain calls sed has = rw (plain, calls
 
 pub call_status : (k : Known) (found : List ℕ → List ℕ → Option Holds) (request : Request) (call : Option (List (List ℕ))) (words : List (List ℕ))
     (status : Status) → request.calls ≡ false → request.sed ≡ true → call ≡ Some words
-    → IsIn (is_plain request.format) (HasCallStatus k request.denied words) status → HasStatusFor k found request call status
+    → IsIn (is_plain request.format) (HasCallStatus request.mends k request.denied words) status → HasStatusFor k found request call status
 call_status k found request call words status calls sed is has = rw (calls, sed, is) has
 
 -- ---- What is written
@@ -48,7 +47,8 @@ pub found_spelled : (k : Known) (found : List ℕ → List ℕ → Option Holds)
 found_spelled k found request call out status calls spells = rw calls spells
 
 pub call_spelled : (k : Known) (found : List ℕ → List ℕ → Option Holds) (request : Request) (call : Option (List (List ℕ))) (words : List (List ℕ))
-    (out : Output) (status : Status) → request.calls ≡ false → request.sed ≡ true → call ≡ Some words → SpellsCall k request.denied words out status
+    (out : Output) (status : Status) → request.calls ≡ false → request.sed ≡ true → call ≡ Some words
+    → SpellsCall request.mends k request.denied words out status
     → SpellsFor k found request call out status
 call_spelled k found request call words out status calls sed is spells = rw (calls, sed, is) spells
 
@@ -59,7 +59,7 @@ last_of A B C first second one other c = rw (one, other) c
 pub script_spelled : (k : Known) (found : List ℕ → List ℕ → Option Holds) (request : Request) (call : Option (List (List ℕ))) (out : Output) (status : Status)
     → request.calls ≡ false → request.sed ≡ false → SpellsScript k request (scripts_of request) out status → SpellsFor k found request call out status
 script_spelled k found request call out status calls sed spells =
-    last_of (SpellsFound k found request.denied (scripts_of request) out status) (SpellsGiven k request.denied call out status)
+    last_of (SpellsFound k found request.denied (scripts_of request) out status) (SpellsGiven request.mends k request.denied call out status)
     (SpellsScript k request (scripts_of request) out status) request.calls request.sed calls sed spells
 
 -- ---- By the words

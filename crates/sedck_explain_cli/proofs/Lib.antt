@@ -3,4 +3,5 @@ mod Readings
 mod Greatest
 mod Reasons
 mod Spelled
+mod Mended
 mod Answered

@@ -25,7 +25,7 @@ use Rattle.sedck_call.specs.Scripts.{joined_texts}
 use Rattle.sedck_explain_cli.specs.Answers.{HasOneStatus}
 use Rattle.sedck_explain_cli.specs.CallStatus.{HasCallStatus}
 use Rattle.sedck_explain_cli.specs.Explained.{IsExplained}
-use Rattle.sedck_explain_cli.specs.Private.Said.{IsExplainedAt, IsSaid}
+use Rattle.sedck_explain_cli.specs.Private.Said.{IsExplainedUnder, IsExplainedAt, IsSaid}
 use Rattle.sedck_explain_cli.specs.Requests.{certificate_of}
 use Rattle.sedck_explain_cli.specs.Statuses.{IsGiven, StatusAt}
 use Rattle.sedck_explain_cli.specs.declared.request.Request.{Request}
@@ -35,11 +35,11 @@ use Rattle.sedck_explain_cli.specs.Spelled.{IsPlainly, IsIn, Copies, WritesSame,
 -- ---- The status
 
 -- what is written with that of a yes is accepted
-judged_yes : (judged status : Status) → IsPlainStatus judged status → status ≡ exit.Accepted → judged ≡ exit.Accepted
+pub judged_yes : (judged status : Status) → IsPlainStatus judged status → status ≡ exit.Accepted → judged ≡ exit.Accepted
 judged_yes judged status (inl same) accepted = sym same ∙ accepted
 judged_yes judged status (inr both) accepted = both.0
 
-of_answer : (judged status : Status) → IsPlainStatus judged status → IsOfAnswer judged → IsOfAnswer status
+pub of_answer : (judged status : Status) → IsPlainStatus judged status → IsOfAnswer judged → IsOfAnswer status
 of_answer judged status (inl same) few = subst IsOfAnswer (sym same) few
 of_answer judged status (inr both) few = subst IsOfAnswer (sym both.1) ((λ e. cc e), (λ e. cc e), (λ e. cc e))
 
@@ -78,7 +78,7 @@ copied text e out kept writes =
     let lists = subst (λ source. HaveSameLists source written.0) kept.source written.2 in
     (written.0, record { program = kept.script; spelled = kept.spelled.spells; only = kept.spelled.only; same = written.1; lists = lists }, written.3)
 
-copied_yes : (text : List ℕ) (given : Option (List ℕ)) (denied : Denied) (e : Explanation) (out : Output) → IsExplanation text given denied e
+pub copied_yes : (text : List ℕ) (given : Option (List ℕ)) (denied : Denied) (e : Explanation) (out : Output) → IsExplanation text given denied e
     → e.status ≡ exit.Accepted → IfSome e.script (Writes out e.source.now) → Copies text out
 copied_yes text given denied e out is accepted writes =
     copied text e out (kept_script text denied e.findings.items (expressions_of e.script) e e.answer is.is_status is.keeps accepted) writes
@@ -114,16 +114,18 @@ explained false known text given denied e out err status is d = record {
 }
 
 -- and of a call
-pub answered_call : (plain : Bool) (known : Option (List ℕ)) (k : Known) (denied : Denied) (words : List (List ℕ)) (e : Explanation) (out err : Output)
-    (status : Status) → IsSaid k denied words e → IsDelivered plain known e out err status → IsAnsweredCall plain k denied words out err status
-answered_call plain known k denied words e out err status said d =
+pub answered_call : (mends plain : Bool) (known : Option (List ℕ)) (k : Known) (denied : Denied) (words : List (List ℕ)) (e : Explanation) (out err : Output)
+    (status : Status) → IsSaid mends k denied words e → IsDelivered plain known e out err status → IsAnsweredCall mends plain k denied words out err status
+answered_call mends plain known k denied words e out err status said d =
     let is_yes : status ≡ exit.Accepted → e.status ≡ exit.Accepted = delivered_yes plain known e out err status d in
+    let few = delivered_few plain known e out err status d said.few in
     record {
-      few = delivered_few plain known e out err status d said.few;
-      has_status = delivered_status plain known (HasCallStatus k denied words) e out err status d said.has_status;
+      few = (few.0, few.1, (λ none. few.2));
+      has_status = delivered_status plain known (HasCallStatus mends k denied words) e out err status d said.has_status;
       spelled = λ plainly. record {
         spelled = λ accepted. copied_call (is_yes accepted) ((d.writes plainly).spelled accepted);
-        kept = (d.writes plainly).kept;
+        mended = λ unknown. absurd (few.2 unknown);
+        kept = λ other _. (d.writes plainly).kept other;
       };
       silent = d.silent;
       yes = λ accepted. (said.yes (is_yes accepted)).0;
@@ -137,12 +139,12 @@ answered_call plain known k denied words e out err status said d =
 -- ---- Scripts
 
 -- of the script at a path
-pub explained_at : (k : Known) (request : Request) (path text : List ℕ) (given : Option (List ℕ)) (plain : Bool) (known : Explanation → Option (List ℕ))
+pub explained_at : (k : Known) (request : Request) (path text : List ℕ) (given : Option (List ℕ)) (plain : Bool)
     (out err : Output) (r : Result Status RunFault) → IsRead 1048577 (known_bytes k path) text → IsGiven k (certificate_of request) given
-    → IfOk r (IsExplained plain known text given request.denied out err) → IfOk r (IsExplainedAt k request path plain out err)
-explained_at k request path text given plain known out err r is_text is_given is =
-    on_ok (IsExplained plain known text given request.denied out err) (IsExplainedAt k request path plain out err) r
-    (λ status e. record { text = text; is_text = is_text; given = given; is_given = is_given; known = known; is_explained = e }) is
+    → IfOk r (IsExplainedUnder request.mends plain text given request.denied out err) → IfOk r (IsExplainedAt k request path plain out err)
+explained_at k request path text given plain out err r is_text is_given is =
+    on_ok (IsExplainedUnder request.mends plain text given request.denied out err) (IsExplainedAt k request path plain out err) r
+    (λ status e. record { text = text; is_text = is_text; given = given; is_given = is_given; is_explained = e }) is
 
 -- of one that is reported
 pub report_status : (k : Known) (request : Request) (path : List ℕ) (out err : Output) (status : Status) → IsExplainedAt k request path false out err status
@@ -161,7 +163,7 @@ report_status k request path out err status s = record {
 pub plain_status : (k : Known) (request : Request) (path : List ℕ) (out err : Output) (status : Status) → IsExplainedAt k request path true out err status
     → IsPlainly (StatusAt k request path) status
 plain_status k request path out err status s = (
-  s.is_explained.explanation.status,
+  s.is_explained.is_status.0,
   record {
     text = s.text;
     is_text = s.is_text;
@@ -169,9 +171,9 @@ plain_status k request path out err status s = (
     is_given = s.is_given;
     explanation = s.is_explained.explanation;
     is_explanation = s.is_explained.is_explanation;
-    is_status = refl;
+    is_status = s.is_explained.is_status.1;
   },
-  s.is_explained.is_status,
+  s.is_explained.is_status.2,
 )
 
 pub plain_spelled : (k : Known) (request : Request) (path : List ℕ) (out err : Output) (status : Status) → IsExplainedAt k request path true out err status

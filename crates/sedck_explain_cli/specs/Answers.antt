@@ -42,15 +42,15 @@ asks_for_help _ = false
 -- ---- The status
 
 -- the words of a call are given, and it has this status
-abbrev pub IsStatusOfCall : Known → Denied → Option (List (List ℕ)) → Status → Type 0
-IsStatusOfCall k denied None status = ⊥
-IsStatusOfCall k denied (Some words) status = HasCallStatus k denied words status
+abbrev pub IsStatusOfCall : Bool → Known → Denied → Option (List (List ℕ)) → Status → Type 0
+IsStatusOfCall mends k denied None status = ⊥
+IsStatusOfCall mends k denied (Some words) status = HasCallStatus mends k denied words status
 
 -- the status of what is asked for: of calls of sed in files, which may have these; of the call with these words; or of scripts
 abbrev pub HasJudgedStatus : Known → (Status → Type 0) → Request → Option (List (List ℕ)) → Status → Type 0
 HasJudgedStatus k OfFound request call status =
     MatchBool request.calls (OfFound status)
-    (MatchBool request.sed (IsStatusOfCall k request.denied call status) (IsWorstOf (StatusAt k request) Accepted (scripts_of request) status))
+    (MatchBool request.sed (IsStatusOfCall request.mends k request.denied call status) (IsWorstOf (StatusAt k request) Accepted (scripts_of request) status))
 
 -- the status of one of the calls that are found in the file at the only path
 abbrev pub HasOneStatus : Known → (List ℕ → List ℕ → Option Holds) → Denied → List (List ℕ) → Status → Type 0
@@ -76,16 +76,16 @@ IsAnswered k found words status =
 
 -- ---- What is written in the format `sed`
 
--- the words of a call are given, and what its script spells is written where it is accepted; else nothing
-abbrev pub SpellsGiven : Known → Denied → Option (List (List ℕ)) → Output → Status → Type 0
-SpellsGiven k denied None out status = ⊥
-SpellsGiven k denied (Some words) out status = SpellsCall k denied words out status
+-- the words of a call are given, and what its script spells is written where it is accepted, or another text under a condition; else nothing
+abbrev pub SpellsGiven : Bool → Known → Denied → Option (List (List ℕ)) → Output → Status → Type 0
+SpellsGiven mends k denied None out status = ⊥
+SpellsGiven mends k denied (Some words) out status = SpellsCall mends k denied words out status
 
 -- so it is of what is asked for: of a call in a file, of the call with these words, or of a script
 abbrev pub SpellsFor : Known → (List ℕ → List ℕ → Option Holds) → Request → Option (List (List ℕ)) → Output → Status → Type 0
 SpellsFor k found request call out status =
     MatchBool request.calls (SpellsFound k found request.denied (scripts_of request) out status)
-    (MatchBool request.sed (SpellsGiven k request.denied call out status) (SpellsScript k request (scripts_of request) out status))
+    (MatchBool request.sed (SpellsGiven request.mends k request.denied call out status) (SpellsScript k request (scripts_of request) out status))
 
 -- the words are a request, and where it is for that format this is written; or they ask for the help or the version
 abbrev pub IsWritten : Known → (List ℕ → List ℕ → Option Holds) → Words → Output → Status → Type 0

@@ -1,4 +1,5 @@
 -- What the public contracts cite.
+pub mod Mended
 pub mod CallStatus
 pub mod Readings
 pub mod Requests

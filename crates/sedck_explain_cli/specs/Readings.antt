@@ -30,6 +30,7 @@ pub record Asked : Type 0 where
   pub format : Option (List ℕ)
   pub sed : Bool
   pub calls : Bool
+  pub mends : Bool
   pub paths : List (List ℕ)
   pub next : Awaited
 
@@ -61,6 +62,7 @@ after_word a word =
     else if bytes_eq word (codes "--format") then record a { next = ItsFormat }
     else if bytes_eq word (codes "--sed") then record a { sed = true }
     else if bytes_eq word (codes "--calls") then record a { calls = true }
+    else if bytes_eq word (codes "--mend") then record a { mends = true }
     else if bytes_eq word (codes "--") then record a { next = OnlyPaths }
     else if takes_value word then record a { next = OtherValue }
     else if is_option word then a
@@ -105,7 +107,7 @@ abbrev pub after : Asked → List ℕ → Asked
 after a word = after_next a.next a word
 
 abbrev pub nothing_asked : Asked
-nothing_asked = record { certificate = None; denied = []; allowed = []; locale = None; format = None; sed = false; calls = false; paths = []; next = AnyWord }
+nothing_asked = record { certificate = None; denied = []; allowed = []; locale = None; format = None; sed = false; calls = false; mends = false; paths = []; next = AnyWord }
 
 -- all words
 abbrev pub read : List (List ℕ) → Asked

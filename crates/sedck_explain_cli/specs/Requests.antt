@@ -97,6 +97,7 @@ pub record AsksFor (asked : Asked) (request : Request) : Type 0 where
   pub plain : is_plain request.format ≡ is_plain_name asked.format
   pub sed : request.sed ≡ asked.sed
   pub calls : request.calls ≡ asked.calls
+  pub mends : request.mends ≡ asked.mends
   pub scripts : scripts_of request ≡ paths_of (asked.sed || asked.calls) asked.paths
 
 -- the request that these words are

@@ -1,5 +1,5 @@
 -- What is written in the format `sed`, and its exit status, this project's own.
-use Rattle.std.specs.Prelude.{◌≡◌, ◌≢◌, ◌⊎◌, ℕ, Bool, true, false, MatchBool, List, [], ◌∷◌, Option}
+use Rattle.std.specs.Prelude.{◌≡◌, ◌≢◌, ◌⊎◌, ℕ, Bool, true, false, MatchBool, List, [], ◌∷◌, Option, None}
 use Rattle.std.specs.Io.KnownBytes.{Keeps, Appends}
 use Rattle.sedck_plain.specs.Plain.{SpellSame}
 use Rattle.sedck_call.specs.Scripts.{joined_texts}
@@ -8,13 +8,13 @@ use Rattle.sedck_engines.specs.Opened.{Known}
 use Rattle.sedck_errors.specs.declared.denied.Denied.{Denied}
 use Rattle.sedck_explanation.specs.Called.{IsAcceptedCall, known_bytes}
 use Rattle.sedck_explanation.specs.Explanations.{IsExplanation}
-use Rattle.sedck_answer.specs.Status.{IsOfAnswer}
 use Rattle.sedck_answer.specs.declared.explanation.Explanation.{Explanation}
 use Rattle.sedck_answer.specs.declared.status.Status.{Status}
-use Rattle.sedck_answer.specs.declared.status.Status.TheVariants.{Accepted}
+use Rattle.sedck_answer.specs.declared.status.Status.TheVariants.{Accepted, Unknown}
 use Rattle.sedck_formats.specs.Plain.{Output, IsPlainStatus}
 use Rattle.sedck_calls_in_files.specs.Scanned.{Holds, SpellsOne}
 use Rattle.sedck_explain_cli.specs.CallStatus.{HasCallStatus}
+use Rattle.sedck_explain_cli.specs.Mended.{IsOfMended, IsOfAnswerUnder, IsUnder}
 use Rattle.sedck_explain_cli.specs.Requests.{certificate_of}
 use Rattle.sedck_explain_cli.specs.Statuses.{IsGiven}
 use Rattle.sedck_explain_cli.specs.declared.request.Request.{Request}
@@ -36,12 +36,26 @@ pub record WritesSame (script : List ℕ) (out : Output) (status : Status) : Typ
   pub spelled : status ≡ Accepted → Copies script out
   pub kept : status ≢ Accepted → Keeps out.before out.after
 
+-- a text is written that spells what another text spells, which is explained and accepted
+pub record CopiesMended (denied : Denied) (out : Output) : Type 0 where
+  pub mended : List ℕ
+  pub explanation : Explanation
+  pub is_explanation : IsExplanation mended None denied explanation
+  pub is_yes : explanation.status ≡ Accepted
+  pub copies : Copies mended out
+
+-- the script's copy is written where it is accepted; where mends are asked for, that of another text under a condition; else nothing is
+pub record WritesUnder (mends : Bool) (denied : Denied) (script : List ℕ) (out : Output) (status : Status) : Type 0 where
+  pub spelled : status ≡ Accepted → Copies script out
+  pub mended : status ≡ Unknown → (mends ≡ true) × CopiesMended denied out
+  pub kept : status ≢ Accepted → status ≢ Unknown → Keeps out.before out.after
+
 -- the explanation of a script's text, and of a certificate's where there is one, has this status; and this is written
-pub record IsSpelled (text : List ℕ) (given : Option (List ℕ)) (denied : Denied) (out : Output) (status : Status) : Type 0 where
+pub record IsSpelled (mends : Bool) (text : List ℕ) (given : Option (List ℕ)) (denied : Denied) (out : Output) (status : Status) : Type 0 where
   pub explanation : Explanation
   pub is_explanation : IsExplanation text given denied explanation
-  pub is_status : IsPlainStatus explanation.status status
-  pub writes : WritesSame text out status
+  pub is_status : IsPlainly (IsUnder mends (IsOfMended denied) explanation.status) status
+  pub writes : WritesUnder mends denied text out status
 
 -- so it is for what is read of the script at the path, and of the request's certificate, whose explanation the status is of
 pub record SpellsAt (k : Known) (request : Request) (path : List ℕ) (out : Output) (status : Status) : Type 0 where
@@ -49,7 +63,7 @@ pub record SpellsAt (k : Known) (request : Request) (path : List ℕ) (out : Out
   pub is_text : IsRead 1048577 (known_bytes k path) text
   pub given : Option (List ℕ)
   pub is_given : IsGiven k (certificate_of request) given
-  pub is_spelled : IsSpelled text given request.denied out status
+  pub is_spelled : IsSpelled request.mends text given request.denied out status
 
 -- and of the only script at these paths
 abbrev pub SpellsScript : Known → Request → List (List ℕ) → Output → Status → Type 0
@@ -65,16 +79,17 @@ SpellsFound k found denied _ out status = ⊥
 abbrev pub CopiesCall : Known → Denied → List (List ℕ) → Output → Type 0
 CopiesCall k denied words out = (yes : IsAcceptedCall k denied words) × Copies (joined_texts yes.parts) out
 
--- that is so where it is accepted; else nothing is written
-pub record SpellsCall (k : Known) (denied : Denied) (words : List (List ℕ)) (out : Output) (status : Status) : Type 0 where
+-- that is so where it is accepted; where mends are asked for, a copy of another text is written under a condition; else nothing is
+pub record SpellsCall (mends : Bool) (k : Known) (denied : Denied) (words : List (List ℕ)) (out : Output) (status : Status) : Type 0 where
   pub spelled : status ≡ Accepted → CopiesCall k denied words out
-  pub kept : status ≢ Accepted → Keeps out.before out.after
+  pub mended : status ≡ Unknown → (mends ≡ true) × CopiesMended denied out
+  pub kept : status ≢ Accepted → status ≢ Unknown → Keeps out.before out.after
 
 -- What holds of the call with these words where it is explained, in the format `sed` or in another one: its status is one of an answer,
 -- that of the call; in that format what its script spells is written, and only then anything is on standard error; and what a yes says.
-pub record IsAnsweredCall (plain : Bool) (k : Known) (denied : Denied) (words : List (List ℕ)) (out err : Output) (status : Status) : Type 0 where
-  pub few : IsOfAnswer status
-  pub has_status : IsIn plain (HasCallStatus k denied words) status
-  pub spelled : plain ≡ true → SpellsCall k denied words out status
+pub record IsAnsweredCall (mends plain : Bool) (k : Known) (denied : Denied) (words : List (List ℕ)) (out err : Output) (status : Status) : Type 0 where
+  pub few : IsOfAnswerUnder mends status
+  pub has_status : IsIn plain (HasCallStatus mends k denied words) status
+  pub spelled : plain ≡ true → SpellsCall mends k denied words out status
   pub silent : (plain ≡ false) ⊎ (status ≡ Accepted) → Keeps err.before err.after
   pub yes : status ≡ Accepted → IsAcceptedCall k denied words

@@ -1,11 +1,14 @@
 //! A call of sed, explained by its words.
 
 ghost use Rattle.std.specs.Prelude.{◌≡◌, ◌≢◌, map, IfOk, OnOk};
-ghost use Rattle.sedck_explain_cli.specs.Private.Said.{IsSaid};
+ghost use Rattle.sedck_answer.specs.Status.{IsOfAnswer};
+ghost use Rattle.sedck_explain_cli.specs.Private.Said.{IsSaid, IsJudgedCall, IsDeliveredUnder};
 ghost use Rattle.sedck_explain_cli.specs.Requests.{is_plain};
 ghost use Rattle.sedck_explain_cli.specs.Spelled.{IsAnsweredCall};
 
+use crate::delivering::deliver_under;
 use crate::format::Style;
+use crate::mending::mend_of;
 use crate::session::Session;
 use sedck_call::{Call, CallFault, Origin, Piece, call_of, joined};
 use sedck_calls_in_files::{Named, deliver};
@@ -29,15 +32,16 @@ struct Said<'a> {
 
 /// Writes what is said of the call of sed with these words after its name, and answers its exit status.
 ///
-/// It is accepted only where its script, its parts joined, is accepted, and its options let sed read it as the model does.
+/// It is accepted only where its script, its parts joined, is accepted, and its options let sed read it as the model does. Where that is
+/// refused, and mends are asked for, the status may be that of another script, under a condition.
 pub fn explain_words<R: Input + AllocGlobal, O: Opener, F, W: Sink, E: Sink>(
     session: &Session<R, O, F>,
     words: &[&[u8]],
     out: &mut W,
     err: &mut E,
 ) -> Result<Status, Unexplained>
-    ensures { IfOk result (IsAnsweredCall (is_plain session.now.request.now.format) (O.known session.now.files.now) session.now.request.now.denied
-        (map (λ word. word.now) words.now) (record { before = W.taken out.old; after = W.taken out.new })
+    ensures { IfOk result (IsAnsweredCall session.now.request.now.mends (is_plain session.now.request.now.format) (O.known session.now.files.now)
+        session.now.request.now.denied (map (λ word. word.now) words.now) (record { before = W.taken out.old; after = W.taken out.new })
         (record { before = E.taken err.old; after = E.taken err.new })) }
 {
     let alloc = session.alloc();
@@ -56,7 +60,20 @@ pub fn explain_words<R: Input + AllocGlobal, O: Opener, F, W: Sink, E: Sink>(
     let text = joined(alloc, &read)?;
     let explanation = explain_called(alloc, &text, words, &call, session.request.denied)?;
     let parts = part_names(alloc, session.style(), words, &call.pieces, &read)?;
-    shown(session, words, &Said { parts, explanation }, out, err)
+    let judged = Judged {
+        call: &call,
+        text: &text,
+        said: Said { parts, explanation },
+    };
+    shown_judged(session, words, judged, out, err)
+}
+
+/// A call that is judged: its script, and what is said of it.
+#[derive(Drop)]
+struct Judged<'a, 'b> {
+    call: &'b Call,
+    text: &'a [u8],
+    said: Said<'a>,
 }
 
 /// What is said of words that no sed takes.
@@ -87,6 +104,62 @@ fn unjudged(alloc: Global, findings: Vec<Finding>) -> Said<'static>
     }
 }
 
+/// Writes what is said of a call that is judged, or of it with another script, and answers the exit status.
+fn shown_judged<R: AllocGlobal, O: Opener, F, W: Sink, E: Sink>(
+    session: &Session<R, O, F>,
+    words: &[&[u8]],
+    judged: Judged,
+    out: &mut W,
+    err: &mut E,
+) -> Result<Status, Unexplained>
+    requires { IsJudgedCall (O.known session.now.files.now) session.now.request.now.denied (map (λ word. word.now) words.now)
+        judged.call.now judged.text.now judged.said.explanation }
+    ensures { IfOk result (IsAnsweredCall session.now.request.now.mends (is_plain session.now.request.now.format) (O.known session.now.files.now)
+        session.now.request.now.denied (map (λ word. word.now) words.now) (record { before = W.taken out.old; after = W.taken out.new })
+        (record { before = E.taken err.old; after = E.taken err.new })) }
+{
+    let Judged { call, text, said } = judged;
+    let request = session.request;
+    let alloc = session.alloc();
+    let Some(mended) = mend_of(alloc, request.mends, &said.explanation)? else {
+        return shown(session, words, &said, out, err);
+    };
+    let explanation = explain_called(alloc, &mended.text, words, call, request.denied)?;
+    if matches!(explanation.status, Status::Refused) {
+        return shown(session, words, &said, out, err);
+    }
+    let explanation = mended.reported(alloc, text, explanation)?;
+    shown_under(session, &said.parts, explanation, out, err)
+}
+
+/// Writes what is said of the call under a condition, and answers the exit status.
+fn shown_under<R: AllocGlobal, O, F, W: Sink, E: Sink>(
+    session: &Session<R, O, F>,
+    parts: &[PartName],
+    explanation: Explanation,
+    out: &mut W,
+    err: &mut E,
+) -> Result<Status, Unexplained>
+    requires { IsOfAnswer explanation.status }
+    ensures { IfOk result (IsDeliveredUnder (is_plain session.now.request.now.format) explanation.entry
+        (record { before = W.taken out.old; after = W.taken out.new })
+        (record { before = E.taken err.old; after = E.taken err.new })) }
+{
+    let style = session.style();
+    let named = Named {
+        alloc: session.alloc(),
+        reporter: &style,
+        name: "sed",
+        parts,
+        plain: session.request.format.plain(Comments::LeftOut),
+    };
+    match deliver_under(&named, explanation, out, err) {
+        Ok(status) => Ok(status),
+        Err(RunFault::Write) => Err(Unexplained::Write),
+        Err(_) => Err(Unexplained::OutOfMemory),
+    }
+}
+
 /// Writes what is said of the call with these words, and answers the exit status.
 fn shown<R: AllocGlobal, O: Opener, F, W: Sink, E: Sink>(
     session: &Session<R, O, F>,
@@ -95,9 +168,10 @@ fn shown<R: AllocGlobal, O: Opener, F, W: Sink, E: Sink>(
     out: &mut W,
     err: &mut E,
 ) -> Result<Status, Unexplained>
-    requires { IsSaid (O.known session.now.files.now) session.now.request.now.denied (map (λ word. word.now) words.now) said.now.explanation }
-    ensures { IfOk result (IsAnsweredCall (is_plain session.now.request.now.format) (O.known session.now.files.now) session.now.request.now.denied
-        (map (λ word. word.now) words.now) (record { before = W.taken out.old; after = W.taken out.new })
+    requires { IsSaid session.now.request.now.mends (O.known session.now.files.now) session.now.request.now.denied
+        (map (λ word. word.now) words.now) said.now.explanation }
+    ensures { IfOk result (IsAnsweredCall session.now.request.now.mends (is_plain session.now.request.now.format) (O.known session.now.files.now)
+        session.now.request.now.denied (map (λ word. word.now) words.now) (record { before = W.taken out.old; after = W.taken out.new })
         (record { before = E.taken err.old; after = E.taken err.new })) }
 {
     let style = session.style();

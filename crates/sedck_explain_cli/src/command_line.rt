@@ -153,7 +153,6 @@ fn misplaced(request: &Request) -> Option<&'static str> {
         _ if !calls && (request.kind.is_some() || !request.assumed.is_empty()) => {
             "--as, --assume and --assume-set are for --calls\n"
         }
-        _ if !calls && request.mends => "--mend is for --calls\n",
         _ if request.comments == Comments::LeftOut && !plain => {
             "--no-comments is for --format sed\n"
         }
@@ -162,6 +161,7 @@ fn misplaced(request: &Request) -> Option<&'static str> {
         }
         _ if calls && sed => "--calls and --sed are two things\n",
         _ if (calls || sed) && certificate => "--cert is for a script\n",
+        _ if request.mends && certificate => "--cert is for a script without --mend\n",
         _ if calls && scripts == 0 => "--calls is followed by files or folders\n",
         _ if sed && scripts > 0 => "--sed is for no script\n",
         _ if calls || plain || scripts < 2 => return None,
@@ -173,18 +173,18 @@ fn misplaced(request: &Request) -> Option<&'static str> {
 }
 
 /// Explains the call of sed with these words after its name, and answers the exit status: `Failed` where a file of its script can't be
-/// read, a write fails, or memory runs out.
+/// read, a write fails, or memory runs out; `Unknown` only where mends are asked for, and it is accepted under a condition.
 pub fn explain_call<R: Input + AllocGlobal, O: Opener, F, W: Sink, E: Sink>(
     session: &Session<R, O, F>,
     call: &[Vec<u8>],
     out: &mut W,
     err: &mut E,
 ) -> Status
-    ensures within { result ≢ Status.Unknown }
+    ensures within { session.now.request.now.mends ≡ false → result ≢ Status.Unknown }
     ensures known { result ≢ Status.Misused }
     ensures answered { result ≢ Status.Failed
-        → IsAnsweredCall (is_plain session.now.request.now.format) (O.known session.now.files.now) session.now.request.now.denied
-        (map (λ word. word.items) call.now) (record { before = W.taken out.old; after = W.taken out.new })
+        → IsAnsweredCall session.now.request.now.mends (is_plain session.now.request.now.format) (O.known session.now.files.now)
+        session.now.request.now.denied (map (λ word. word.items) call.now) (record { before = W.taken out.old; after = W.taken out.new })
         (record { before = E.taken err.old; after = E.taken err.new }) result }
 {
     let Ok(words) = slices_of(session.alloc(), call) else {
@@ -197,14 +197,14 @@ pub fn explain_call<R: Input + AllocGlobal, O: Opener, F, W: Sink, E: Sink>(
 }
 
 /// Explains each script of the request, in the order in which they are given, and answers the exit status: of theirs the one that tells
-/// most, or `Failed` where one can't be read, a write fails, or memory runs out. The report of several for people ends with how many there
-/// are of each answer.
+/// most, or `Failed` where one can't be read, a write fails, or memory runs out. It is `Unknown` only where mends are asked for. The report of
+/// several for people ends with how many there are of each answer.
 pub fn explain_all<R: Input + AllocGlobal, O: Opener, F, W: Sink, E: Sink>(
     session: &Session<R, O, F>,
     out: &mut W,
     err: &mut E,
 ) -> Status
-    ensures within { result ≢ Status.Unknown }
+    ensures within { session.now.request.now.mends ≡ false → result ≢ Status.Unknown }
     ensures known { result ≢ Status.Misused }
     ensures greatest { result ≢ Status.Failed
         → IsWorstOf (StatusAt (O.known session.now.files.now) session.now.request.now) Status.Accepted (scripts_of session.now.request.now) result }
@@ -261,13 +261,14 @@ fn summed<R: AllocGlobal, O, F, W: Sink, E: Sink>(
 
 /// Writes the script of the request in its plain spelling, if it is accepted, and else a report on it to standard error. Answers the exit
 /// status: that of the script, but `Refused` where it is accepted and has no plain spelling; `Misused` where there are several; `Failed`
-/// where it can't be read, the write fails or memory runs out.
+/// where it can't be read, the write fails or memory runs out. Where mends are asked for, and it is refused, another script may be written,
+/// with the status `Unknown`.
 pub fn spell_script<R: Input + AllocGlobal, O: Opener, F, W: Sink, E: Sink>(
     session: &Session<R, O, F>,
     out: &mut W,
     err: &mut E,
 ) -> Status
-    ensures within { result ≢ Status.Unknown }
+    ensures within { session.now.request.now.mends ≡ false → result ≢ Status.Unknown }
     ensures status { result ≢ Status.Misused → result ≢ Status.Failed
         → IsPlainly (IsWorstOf (StatusAt (O.known session.now.files.now) session.now.request.now) Status.Accepted
         (scripts_of session.now.request.now)) result }

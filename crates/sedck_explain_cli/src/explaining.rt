@@ -1,6 +1,6 @@
 //! A script, from the files of the request to what is written of it.
 
-ghost use Rattle.std.specs.Prelude.{◌≡◌, ◌≢◌, ◌⊎◌, is_some, IsTrue, IfOk, IfErr};
+ghost use Rattle.std.specs.Prelude.{◌≡◌, ◌≢◌, ◌⊎◌, true, is_some, IsTrue, IfOk, IfErr};
 ghost use Rattle.std.specs.Option.{option_map};
 ghost use Rattle.std.specs.Io.KnownBytes.{Keeps};
 ghost use Rattle.sedck_answer.specs.Status.{IsOfAnswer};
@@ -8,10 +8,12 @@ ghost use Rattle.sedck_engines.specs.Inputs.{IsRead};
 ghost use Rattle.sedck_engines.specs.declared.answer.RunFault.TheVariants as fault;
 ghost use Rattle.sedck_explanation.specs.Called.{known_bytes};
 ghost use Rattle.sedck_explain_cli.specs.Explained.{IsExplained, IsReason, IsReasonOf};
-ghost use Rattle.sedck_explain_cli.specs.Private.Said.{IsExplainedAt};
+ghost use Rattle.sedck_explain_cli.specs.Private.Said.{IsExplainedAt, IsExplainedUnder};
 ghost use Rattle.sedck_explain_cli.specs.Requests.{certificate_of};
 ghost use Rattle.sedck_explain_cli.specs.Statuses.{IsGiven};
 
+use crate::delivering::deliver_under;
+use crate::mending::mend_of;
 use crate::session::Session;
 use sedck_calls_in_files::{Named, Reporter, deliver};
 use sedck_cert::streams::{FromRead, Sink, Source};
@@ -27,7 +29,8 @@ pub struct Inputs {
     pub certificate: Option<Vec<u8>>,
 }
 
-/// Explains the script at the path, with the certificate where one is given, and writes what is said of it.
+/// Explains the script at the path, with the certificate where one is given, and writes what is said of it, or of another script where mends
+/// are asked for.
 pub(crate) fn explain_path<R: Input + AllocGlobal, O: Opener, F, W: Sink, E: Sink>(
     session: &Session<R, O, F>,
     path: &str,
@@ -35,8 +38,7 @@ pub(crate) fn explain_path<R: Input + AllocGlobal, O: Opener, F, W: Sink, E: Sin
     out: &mut W,
     err: &mut E,
 ) -> Result<Status, RunFault>
-    ensures few { IfOk result IsOfAnswer }
-    ensures explained { IfOk result (IsExplainedAt (O.known session.now.files.now) session.now.request.now path.now (is_some plain)
+    ensures { IfOk result (IsExplainedAt (O.known session.now.files.now) session.now.request.now path.now (is_some plain)
         (record { before = W.taken out.old; after = W.taken out.new })
         (record { before = E.taken err.old; after = E.taken err.new })) }
 {
@@ -49,6 +51,9 @@ pub(crate) fn explain_path<R: Input + AllocGlobal, O: Opener, F, W: Sink, E: Sin
         parts: &[],
         plain,
     };
+    if session.request.mends {
+        return explain_under(&named, &inputs, session.request.denied, out, err);
+    }
     explain_inputs(&named, &inputs, session.request.denied, out, err)
 }
 
@@ -119,6 +124,34 @@ pub fn explain_inputs<F: Reporter, W: Sink, E: Sink>(
     let own = own_path(named.name);
     let explanation = explain(named.alloc, own, &inputs.text, certificate, denied)?;
     deliver(named, &explanation, out, err)
+}
+
+/// The same, but where the script is refused it is explained with another delimiter for each command that has its own in a list: what is said
+/// then holds under a condition.
+fn explain_under<F: Reporter, W: Sink, E: Sink>(
+    named: &Named<F>,
+    inputs: &Inputs,
+    denied: Denied,
+    out: &mut W,
+    err: &mut E,
+) -> Result<Status, RunFault>
+    ensures { IfOk result (IsExplainedUnder true (is_some named.now.plain) inputs.now.text.items
+        (option_map (λ bytes. bytes.items) inputs.now.certificate) denied
+        (record { before = W.taken out.old; after = W.taken out.new })
+        (record { before = E.taken err.old; after = E.taken err.new })) }
+{
+    let given = inputs.certificate.as_deref();
+    let own = own_path(named.name);
+    let explanation = explain(named.alloc, own, &inputs.text, given, denied)?;
+    let Some(mended) = mend_of(named.alloc, true, &explanation)? else {
+        return deliver(named, &explanation, out, err);
+    };
+    let other = explain(named.alloc, own, &mended.text, None, denied)?;
+    if matches!(other.status, Status::Refused) {
+        return deliver(named, &explanation, out, err);
+    }
+    let other = mended.reported(named.alloc, &inputs.text, other)?;
+    deliver_under(named, other, out, err)
 }
 
 /// The path of the script's own file, unless the name is that of standard input.

@@ -23,6 +23,7 @@ pub(crate) struct Reading<'a> {
     pub(crate) format: Option<&'a str>,
     pub(crate) sed: bool,
     pub(crate) calls: bool,
+    pub(crate) mends: bool,
     pub(crate) paths: Vec<&'a str>,
     pub(crate) next: Next,
 }
@@ -60,6 +61,7 @@ pub(crate) fn read_words<'a>(alloc: Global, words: &'a [String]) -> Result<Readi
         format: None,
         sed: false,
         calls: false,
+        mends: false,
         paths: Vec::new(alloc),
         next: Next::Any,
     };
@@ -120,6 +122,7 @@ impl<'a> Reading<'a> {
             "--format" => self.next = Next::Format,
             "--sed" => self.sed = true,
             "--calls" => self.calls = true,
+            "--mend" => self.mends = true,
             "--" => self.next = Next::Path,
             "--level" | "--stdin-filename" | "--as" | "--assume" | "--at" | "--assume-set" => {
                 self.next = Next::Other

@@ -39,7 +39,7 @@ pub struct Request<'a> {
     pub kind: Option<Kind>,
     /// Values of variables in them.
     pub assumed: Vec<Assumed<'a>>,
-    /// Whether commands in them are read with other delimiters, where they have their own in lists.
+    /// Whether commands are read with other delimiters, where they have their own in lists.
     pub mends: bool,
     /// Where the call is whose script is written in its plain spelling.
     pub at: Option<At>,
@@ -69,6 +69,7 @@ pub fn request_of<'a>(alloc: Global, words: &'a [String]) -> Result<Request<'a>,
         format,
         sed,
         calls,
+        mends,
         paths,
         ..
     } = read_words(alloc, words)?;
@@ -84,7 +85,7 @@ pub fn request_of<'a>(alloc: Global, words: &'a [String]) -> Result<Request<'a>,
         calls,
         kind: kind_of(&matches),
         assumed: assumed_of(alloc, &matches)?,
-        mends: matches.get_flag("mend"),
+        mends,
         at: at_of(&matches),
         scripts: scripts_of(paths, sed || calls)?,
     })
@@ -356,7 +357,7 @@ static CHOICES: [Choice; 15] = [
     Choice {
         name: "mend",
         takes: Takes::Nothing,
-        help: "Read commands of --calls that have their delimiter in a list as with\nanother one, under a condition",
+        help: "Read commands that have their delimiter in a list as with another one,\nunder a condition",
     },
     Choice {
         name: "at",
@@ -383,7 +384,7 @@ fn described<'a>(alloc: Global) -> Command<'a> {
             "Says where and why a sed script is refused or may run for ever, which files\nit touches, and what to write instead",
         )
         .after_help(
-            "Exit status, of several scripts the greatest:\n  0 accepted\n  1 rejected, a loop, or what --deny names\n  2 a script or a certificate that is refused\n  3 an invalid command line\n  4 a file that can't be read, or a report that can't be written\n  5 a call in a file of which something is unknown before a run",
+            "Exit status, of several scripts the one that tells most:\n  0 accepted\n  1 rejected, a loop, or what --deny names\n  2 a script or a certificate that is refused\n  3 an invalid command line\n  4 a file that can't be read, or a report that can't be written\n  5 a call in a file of which something is unknown before a run; with\n    --mend also what is accepted under a condition",
         )
 }
 

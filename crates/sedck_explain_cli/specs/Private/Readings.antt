@@ -24,6 +24,7 @@ asked_of r = record {
   format = option_map (λ name. name.now) r.format;
   sed = r.sed;
   calls = r.calls;
+  mends = r.mends;
   paths = map (λ path. path.now) r.paths.items;
   next = awaited_of r.next;
 }

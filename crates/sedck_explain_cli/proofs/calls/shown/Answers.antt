@@ -1,4 +1,4 @@
-use Rattle.std.proofs.Common.{map, sym, subst}
+use Rattle.std.proofs.Common.{map, subst}
 use Rattle.sedck_formats.specs.Plain.{Output}
 use Rattle.sedck_explain_cli.specs.Spelled.{IsAnsweredCall}
 use Rattle.sedck_explain_cli.proofs.Spelled.{answered_call}
@@ -11,5 +11,6 @@ returns-in-Ok g c =
     let words = map (λ word. word.now) c.args.words.now in
     let out : Output = record { before = g.W.Sink.taken c.args.out.now; after = g.W.Sink.taken c.deliver.new.out } in
     let err : Output = record { before = g.E.Sink.taken c.args.err.now; after = g.E.Sink.taken c.deliver.new.err } in
-    subst (λ plain. IsAnsweredCall plain k denied words out err c.in-Ok.status) c.plain.ensures
-    (answered_call _ _ k denied words c.args.said.now.explanation out err c.in-Ok.status c.requires c.in-Ok.ensures.delivered)
+    let mends = c.args.session.now.request.now.mends in
+    subst (λ plain. IsAnsweredCall mends plain k denied words out err c.in-Ok.status) c.plain.ensures
+    (answered_call mends _ _ k denied words c.args.said.now.explanation out err c.in-Ok.status c.requires c.in-Ok.ensures.delivered)

@@ -25,7 +25,7 @@ returns-then-request-2-clause-status g c valid whole =
     let request = c.args.session.now.request.now in
     let out : Output = record { before = g.W.Sink.taken c.args.out.now; after = g.W.Sink.taken c.explain_call.new.out } in
     let err : Output = record { before = g.E.Sink.taken c.args.err.now; after = g.E.Sink.taken c.explain_call.new.err } in
-    let answered = subst (λ call. IsAnsweredCall (is_plain request.format) k request.denied (map (λ word. word.items) call) out err c.explain_call.result)
+    let answered = subst (λ call. IsAnsweredCall request.mends (is_plain request.format) k request.denied (map (λ word. word.items) call) out err c.explain_call.result)
     c.deref.ensures.value (c.explain_call.ensures.answered whole) in
     call_status k (g.F.Finder.found c.args.session.now.finder.now) request (call_of c.args.words.now) (map (λ word. word.items) c.in-Some-call.call.items)
     c.explain_call.result c.if-request.false c.if-request-2.true (ap (option_map (λ call. map (λ word. word.items) call.items)) c.in-Some-call.is) answered.has_status
@@ -36,7 +36,7 @@ returns-then-request-2-clause-spelled g c valid whole plain =
     let request = c.args.session.now.request.now in
     let out : Output = record { before = g.W.Sink.taken c.args.out.now; after = g.W.Sink.taken c.explain_call.new.out } in
     let err : Output = record { before = g.E.Sink.taken c.args.err.now; after = g.E.Sink.taken c.explain_call.new.err } in
-    let answered = subst (λ call. IsAnsweredCall (is_plain request.format) k request.denied (map (λ word. word.items) call) out err c.explain_call.result)
+    let answered = subst (λ call. IsAnsweredCall request.mends (is_plain request.format) k request.denied (map (λ word. word.items) call) out err c.explain_call.result)
     c.deref.ensures.value (c.explain_call.ensures.answered whole) in
     call_spelled k (g.F.Finder.found c.args.session.now.finder.now) request (call_of c.args.words.now) (map (λ word. word.items) c.in-Some-call.call.items)
     out c.explain_call.result c.if-request.false c.if-request-2.true (ap (option_map (λ call. map (λ word. word.items) call.items)) c.in-Some-call.is)

@@ -24,19 +24,19 @@ loop-path-preserved g c =
           let not_failed : c.match-explain_path.status ≢ Failed → c.loop-path.status ≢ Failed =
           λ whole failed. whole (is ∙ ap (λ s. worse s one) failed ∙ failed_stays one) in
           record {
-            within = subst (λ s. s ≢ Unknown) (sym is)
-                (worse_has (λ s. s ≢ Unknown) c.loop-path.status one before.within w.in-Ok.ensures.few.2);
+            within = λ none. subst (λ s. s ≢ Unknown) (sym is)
+                (worse_has (λ s. s ≢ Unknown) c.loop-path.status one (before.within none) (w.in-Ok.ensures.is_explained.few.2 none));
             known = subst (λ s. s ≢ Misused) (sym is)
-                (worse_has (λ s. s ≢ Misused) c.loop-path.status one before.known w.in-Ok.ensures.few.0);
+                (worse_has (λ s. s ≢ Misused) c.loop-path.status one before.known w.in-Ok.ensures.is_explained.few.0);
             greatest = λ whole. subst (IsWorstOf Has Accepted (map (λ path. path.now) (take (c.loop-path.path-index + 1) paths))) (sym is)
                 (worst_item Has (λ path. path.now) c.deref-path-items.result.now paths c.loop-path.path-index c.loop-path.status one _
                 c.deref-path-items.ensures.value c.loop-path-test.true (before.greatest (not_failed whole))
-                (report_status k request _ _ _ one w.in-Ok.ensures.explained));
+                (report_status k request _ _ _ one w.in-Ok.ensures));
             silent = λ whole. subst (λ err. Keeps (g.E.Sink.taken c.args.err.now) (g.E.Sink.taken err)) (sym w.err-is)
-                (Keeps-trans _ _ _ (before.silent (not_failed whole)) (w.in-Ok.ensures.explained.is_explained.silent (inl refl)));
+                (Keeps-trans _ _ _ (before.silent (not_failed whole)) (w.in-Ok.ensures.is_explained.silent (inl refl)));
           }
       | in-Err+else-not-report_fault w ↦ record {
-        within = λ unknown. let clash : Failed ≡ Unknown = sym w.status-is ∙ unknown in cc clash;
+        within = λ none unknown. let clash : Failed ≡ Unknown = sym w.status-is ∙ unknown in cc clash;
         known = λ misused. let clash : Failed ≡ Misused = sym w.status-is ∙ misused in cc clash;
         greatest = λ whole. absurd {A = IsWorstOf Has Accepted (map (λ path. path.now) (take (c.loop-path.path-index + 1) paths)) c.match-explain_path.status} (whole w.status-is);
         silent = λ whole. absurd {A = Keeps (g.E.Sink.taken c.args.err.now) (g.E.Sink.taken c.match-explain_path.err)} (whole w.status-is);

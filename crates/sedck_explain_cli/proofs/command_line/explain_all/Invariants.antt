@@ -1,4 +1,4 @@
-use Rattle.std.proofs.Common.{◌≢◌, map, take}
+use Rattle.std.proofs.Common.{◌≡◌, ◌≢◌, false, map, take}
 use Rattle.std.specs.Io.KnownBytes.{Keeps}
 use Rattle.sedck_answer.specs.declared.status.Status.TheVariants.{Accepted, Misused, Failed, Unknown}
 use Rattle.sedck_calls_in_files.specs.Scanned.{IsWorstOf}
@@ -8,7 +8,7 @@ use Rattle.sedck_explain_cli.proofs.command_line.explain_all.Given as goal
 -- the status so far
 abbrev pub invariant-loop-path : goal.invariant-loop-path
 invariant-loop-path g l = record {
-  within : l.status ≢ Unknown;
+  within : l.session.request.now.mends ≡ false → l.status ≢ Unknown;
   known : l.status ≢ Misused;
   greatest : l.status ≢ Failed → IsWorstOf (StatusAt (g.O.Opener.known l.session.files.now) l.session.request.now) Accepted
       (map (λ path. path.now) (take l.path-index l.session.request.now.scripts.items)) l.status;

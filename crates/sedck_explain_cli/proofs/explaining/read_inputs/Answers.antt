@@ -1,9 +1,6 @@
-use Rattle.std.proofs.Common.{◌≡◌, None, Some, List, ℕ, Option, refl, sym, ap, subst, inl, inr}
+use Rattle.std.proofs.Common.{None, Some, refl, sym, ap, subst}
 use Rattle.std.specs.Option.{option_map}
-use Rattle.std.specs.Prelude.{IsSomeAnd}
 use Rattle.sedck_explanation.proofs.KnownBytes.{read_known}
-use Rattle.sedck_explain_cli.specs.Explained.{MayBeUnread}
-use Rattle.sedck_explain_cli.specs.Requests.{certificate_of}
 use Rattle.sedck_explain_cli.specs.Statuses.{IsGiven}
 use Rattle.sedck_explain_cli.proofs.explaining.read_inputs.Goals as goal
 

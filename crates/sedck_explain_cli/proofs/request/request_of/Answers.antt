@@ -15,5 +15,6 @@ returns c =
       plain = c.format_of-format.ensures ∙ ap (λ (a : Asked). is_plain_name a.format) same;
       sed = ap (λ (a : Asked). a.sed) same;
       calls = ap (λ (a : Asked). a.calls) same;
+      mends = ap (λ (a : Asked). a.mends) same;
       scripts = first_of (search rules, grind (arith, common_steps));
     }
