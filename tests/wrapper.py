@@ -754,6 +754,43 @@ def check_sandbox(place):
         expect(found[0] == 1 and not list(place.here.glob("gnu/*")), "sandbox: the real sed writes a file: %s" % (found,))
 
 
+# Calls with their delimiter in a list, an input, and the script that sed gets in the mode `refuse`.
+MENDED = [
+    (["s/[^/]*$//"], "/usr/bin/sed\nsed\n", "s,[^/]*$,,\n"), (["-n", "/[/]/p"], "a/b\nb\n", "\\,[/],p\n"), (["-e", "p", "-e", "s/[/]x/\\/&/g"], "a/x/x\n", "p\ns,[/]x,/&,g\n"),
+    (["-nf", "mend.sed"], "Xa/b//\n", None), (["--posix", "s/[/]/x/2"], "a/b/c\n", "s,[/],x,2\n"), (["-s", "--", "s/[/]/x/;$!d"], "/\n/\n", "s,[/],x,\n$!d\n"),
+]
+
+
+def check_mends(place):
+    """With SEDCK_MEND=1 such a call is accepted under a condition, and without it refused. In each mode it makes what sed makes of it."""
+    keeping = place.top / "real/keeping"
+    place.install(keeping, KEEPING_SED)
+    (place.here / "mend.sed").write_text("/^X\\(.*[^/]\\)\\/\\/*$/{\n  s//\\1/p\n  q\n}\n")
+    place.lines()
+    for words, text, script in MENDED:
+        due = real(*words, given=text.encode(), here=place.here)
+        for mode in ("log", "warn", "refuse"):
+            found = place.call(*words, mode=mode, given=text.encode(), MEND=1)
+            expect(found[:2] == due[:2] and (b"[open-hole]\n" in found[2]) == (mode == "warn"), "mends, %s, %s: %s" % (mode, words, found))
+            line = place.lines()[0]
+            expect((line["answer"], line["accepted"], line["report"]["status"]) == ("accepted-if", True, 5), "mends, %s, %s: the log has %s" % (mode, words, line))
+        for value in ("", "0"):
+            found = place.call(*words, mode="refuse", given=text.encode(), MEND=value)
+            expect(found[:2] == (120, b"") and [line["accepted"] for line in place.lines()] == [False], "mends, %r, %s: %s" % (value, words, found))
+        place.call(*words, mode="refuse", SED=keeping, MEND=1)
+        got = place.note("text").decode()
+        expect(got == script or script is None and "[^/]" in got and "\\/" not in got, "mends, %s: sed gets %r" % (words, got))
+    place.lines()
+    for words, code in (([":a;s/[/]*/x/;ta"], "loop-growing"), (["s/[[:alpha:]/]//"], "unclosed-bracket"), (["s/[/]/x/;b x"], "unclosed-bracket")):
+        found = place.call(*words, mode="refuse", given=b"a\n", MEND=1)
+        expect(found[:2] == (120, b"") and b"[%s]\n" % code.encode() in found[2], "mends, %s: %s" % (words, found))
+    # A script that sed reads otherwise in UTF-8 is refused there with other delimiters, too.
+    for script, is_due in (("s/[/]é*/x/", True), ("# sedck: ignore locale\ns/[/]é*/x/", True), ("s/[/]é/x/", False)):
+        status, _, said = place.call(script, mode="refuse", LC_ALL="C.UTF-8", SED="/bin/true", MEND=1)
+        expect((status, b"[locale]\n" in said) == ((120, True) if is_due else (0, False)), "mends: %r in UTF-8: %d, %s" % (script, status, said))
+    place.lines()
+
+
 def check_own(place):
     """What sedck-sed prints."""
     expect(place.first == str((place.top / "libexec/sedck").resolve()), "sedck-sed: %s" % place.first)
@@ -764,7 +801,7 @@ def check_own(place):
 
 
 # Checks of one place, one after another.
-ANSWERS = (check_answers, check_refused_calls, check_calls_above_ascii, check_lists, check_own_scripts, check_several_files)
+ANSWERS = (check_answers, check_refused_calls, check_calls_above_ascii, check_lists, check_own_scripts, check_several_files, check_mends)
 SPELLINGS = (check_spelled, check_drawn_words, check_texts, check_outputs)
 
 
