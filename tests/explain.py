@@ -14,6 +14,7 @@ import explain_findings
 import explain_itself
 import explain_json
 import explain_listed
+import explain_mends
 import explain_pages
 import explain_plain
 import explain_refused
@@ -41,6 +42,7 @@ def main():
         explain_itself.check(tools)
         explain_listed.check(tools)
         explain_plain.check(tools, asked.scripts)
+        explain_mends.check(tools)
         explain_streams.check(tools)
         explain_sarif.check(tools, 100)
         has_graphviz = explain_pages.check(tools)
