@@ -17,8 +17,7 @@ pub(crate) fn call_report(
     found: &FoundCall,
     explanation: &Explanation,
 ) -> Result<Vec<u8>, AllocError> {
-    let alloc = asked.alloc;
-    let least = asked.scan.least;
+    let (alloc, least) = (asked.alloc, asked.scan.least);
     match asked.scan.look {
         Look::Json => {
             let call = CallAt {
@@ -65,8 +64,7 @@ fn text_report(
     position: Position,
     explanation: &Explanation,
 ) -> Result<Vec<u8>, AllocError> {
-    let alloc = asked.alloc;
-    let least = asked.scan.least;
+    let (alloc, least) = (asked.alloc, asked.scan.least);
     let shown = shown_path(alloc, asked.file.path)?;
     let path = shown.as_str();
     let mut report = text_findings(alloc, Names::of_file(path), explanation, least, colour)?;

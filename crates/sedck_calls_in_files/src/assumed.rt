@@ -13,9 +13,8 @@ pub(crate) fn assumed_texts(
     for one in assumed.variables {
         let mut text = shown_name(alloc, one.name)?;
         if let Some(value) = one.value {
-            let value = shown_name(alloc, value)?;
             text.push_str("=")?;
-            text.push_str(value.as_str())?;
+            text.push_str(shown_name(alloc, value)?.as_str())?;
         }
         texts.push(text)?;
     }

@@ -2,7 +2,7 @@
 
 use crate::holes::{followed_words, hole_words};
 use crate::request::{FileScan, Look};
-use sedck_explanation::{Code, Explanation, Finding};
+use sedck_explanation::{Explanation, Finding};
 use sedck_find::{FoundCall, FoundScript, KnownValue, Role};
 use sedck_formats::{ConditionKind, Counts};
 use std::alloc::{AllocError, Global};
@@ -22,7 +22,7 @@ pub(crate) struct Conditions {
 struct Condition {
     /// How many calls depend on it.
     calls: usize,
-    /// The number of the last one of them, from 1.
+    /// The number of the last one of them.
     last: usize,
     is_reported: bool,
 }
@@ -39,9 +39,7 @@ impl Conditions {
             is_for_people: asked.scan.look != Look::Json,
             by_words: BTreeMap::new(asked.alloc),
         };
-        let mut number = 0usize;
-        for call in calls {
-            number = number.saturating_add(1);
+        for (number, call) in calls.iter().enumerate() {
             conditions.add_call(asked.file.text, call, number, counts)?;
         }
         Ok(conditions)
@@ -66,7 +64,10 @@ impl Conditions {
         }
         for one in &call.followed {
             let words = followed_words(self.alloc, file, *one)?;
-            let kind = kind_of_value(one.value);
+            let kind = match one.value {
+                KnownValue::Given | KnownValue::Unset => ConditionKind::Assumed,
+                _ => ConditionKind::Value,
+            };
             counts.add_condition(kind, self.add(words, number)?);
             kinds.push(kind)?;
         }
@@ -113,9 +114,6 @@ impl Conditions {
 
     /// The finding as it is reported, if it is.
     fn reported(&mut self, finding: Finding) -> Result<Option<Finding>, AllocError> {
-        if !matches!(finding.code, Code::OpenHole | Code::KnownValue) {
-            return Ok(Some(finding));
-        }
         let Some(condition) = self.by_words.get_mut(finding.message.as_bytes()) else {
             return Ok(Some(finding));
         };
@@ -146,13 +144,5 @@ fn kind_of_role(role: Role) -> ConditionKind {
         Role::Runner => ConditionKind::Runner,
         Role::Options => ConditionKind::Order,
         Role::Delimiter { .. } => ConditionKind::Delimiter,
-    }
-}
-
-/// The same of a value.
-fn kind_of_value(value: KnownValue) -> ConditionKind {
-    match value {
-        KnownValue::Given | KnownValue::Unset => ConditionKind::Assumed,
-        _ => ConditionKind::Value,
     }
 }

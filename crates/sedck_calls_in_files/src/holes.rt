@@ -216,12 +216,9 @@ fn with_assumption(
     name: &[u8],
     value: &str,
 ) -> Result<String, AllocError> {
-    let mut message = message;
     let name = shown_name(alloc, name)?;
-    message.push_str("; or give --assume ")?;
-    message.push_str(name.as_str())?;
-    message.push_str(value)?;
-    Ok(message)
+    let (message, name) = (message.as_str(), name.as_str());
+    format!(in alloc; "{message}; or give --assume {name}{value}")
 }
 
 /// On what the answer depends where a command has its delimiter in a list, and the command with another delimiter, where the file has it
@@ -232,9 +229,9 @@ fn mend_words(alloc: Global, written: &str, mended: Option<&[u8]>) -> Result<Str
     )?;
     if let Some(mended) = mended {
         let mended = shown_name(alloc, mended)?;
-        message.push_str("; for all seds write \"")?;
-        message.push_str(mended.as_str())?;
-        message.push_str("\"")?;
+        let mended = mended.as_str();
+        let more = format!(in alloc; "; for all seds write \"{mended}\"")?;
+        message.push_str(more.as_str())?;
     }
     Ok(message)
 }
@@ -243,7 +240,6 @@ fn mend_words(alloc: Global, written: &str, mended: Option<&[u8]>) -> Result<Str
 fn condition(alloc: Global, written: &str, hole: OpenHole) -> Result<String, AllocError> {
     let delimiter = shown_name(alloc, &[hole.delimiter])?;
     let mark = delimiter.as_str();
-    let mut message = format!(in alloc; "\"{written}\" isn't known: the answer holds if ")?;
     let rest = match hole.role {
         Role::Expression => format!(in alloc;
             "it isn't empty, and has no `{mark}`, no newline, and none of `\\[.*^$`"
@@ -256,9 +252,8 @@ fn condition(alloc: Global, written: &str, hole: OpenHole) -> Result<String, All
         }
         role => String::from_str(alloc, words_of_role(role))?,
     };
-    message.push_str(rest.as_str())?;
-    message.push_str(words_of_way(hole.hole.way, hole.role))?;
-    Ok(message)
+    let (rest, way) = (rest.as_str(), words_of_way(hole.hole.way, hole.role));
+    format!(in alloc; "\"{written}\" isn't known: the answer holds if {rest}{way}")
 }
 
 /// What a hole must be that isn't in an expression or a replacement.

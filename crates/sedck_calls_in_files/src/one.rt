@@ -111,7 +111,9 @@ fn place_of_one(text: &[u8], calls: &[FoundCall], at: At) -> Option<usize> {
     for (place, call) in calls.iter().enumerate() {
         position = call_position(text, position, call.start);
         // A call may be there once for each value of a variable.
-        if is_at(position, at) && start != Some(call.start) {
+        let is_there = position.line == at.line
+            && at.column.is_none_or(|column| position.column == column);
+        if is_there && start != Some(call.start) {
             if found.is_some() {
                 return None;
             }
@@ -120,10 +122,6 @@ fn place_of_one(text: &[u8], calls: &[FoundCall], at: At) -> Option<usize> {
         }
     }
     found
-}
-
-fn is_at(position: Position, at: At) -> bool {
-    position.line == at.line && at.column.is_none_or(|column| position.column == column)
 }
 
 /// The same for this call.

@@ -168,11 +168,10 @@ impl Names<'_> {
             Unit::Escape(..) => false,
             Unit::Hole(hole) => self.variable_at(hole).is_some(),
         });
-        Ok(if is_written {
-            Some(Vec::from_slice(self.alloc, units)?)
-        } else {
-            None
-        })
+        if !is_written {
+            return Ok(None);
+        }
+        Ok(Some(Vec::from_slice(self.alloc, units)?))
     }
 
     /// Whether the value after the sign that assigns it begins with the name of a sed, or with a variable that has one.
@@ -280,7 +279,7 @@ impl Names<'_> {
                 self.note(name, None, assigns_sed(sign))?;
             }
             if is_set && before.starts_with(b"{!") {
-                self.note_setting(from);
+                self.open = Some(self.open.unwrap_or(from).min(from));
             }
             from = index.saturating_add(1);
             let last = file.get(index.saturating_sub(1)..from).unwrap_or(&[]);

@@ -105,10 +105,7 @@ fn read_file(names: Names<'_>) -> Result<Texts<'_>> {
 fn found_in(texts: &Texts<'_>) -> Result<Found> {
     let names = &texts.names;
     let mut unread = Vec::from_slice(names.alloc, &texts.unread)?;
-    let mut calls = Calls {
-        found: Vec::new(names.alloc),
-        starts: BTreeMap::new(names.alloc),
-    };
+    let mut calls = Vec::new(names.alloc);
     let mut filler = Filler {
         names,
         left: names.file.len().saturating_mul(2).saturating_add(SPARE),
@@ -118,16 +115,15 @@ fn found_in(texts: &Texts<'_>) -> Result<Found> {
         case: 0,
         cases: 1,
         chosen: None,
+        starts: BTreeMap::new(names.alloc),
     };
     for held in &texts.held {
         let parts = parts_of(names, &held.command.words)?;
         for part in &parts {
-            let is_only = parts.len() == 1;
-            calls.add(&mut filler, held, part, is_only)?;
+            add_call(&mut calls, &mut filler, held, part, parts.len() == 1)?;
         }
         add_mentions(&mut unread, names, held, &parts)?;
     }
-    let mut calls = calls.found;
     calls.sort_by_key(|call| call.start)?;
     unread.sort()?;
     unread.dedup();
@@ -172,49 +168,39 @@ fn read_assignment(texts: &mut Texts<'_>, assignment: &Assignment) -> Result<()>
     texts.read(Text::Units(&assignment.value), true)
 }
 
-/// The calls that were found.
-#[derive(Drop)]
-struct Calls {
-    found: Vec<FoundCall>,
-    /// Where their names are in the file.
-    starts: BTreeMap<usize, ()>,
-}
-
-impl Calls {
-    /// Adds the call that a part of a command is, if it is one and isn't there yet: once for each value of a variable that has several. The
-    /// part may be the only one of its command.
-    fn add(
-        &mut self,
-        filler: &mut Filler<'_>,
-        held: &Held,
-        part: &Part,
-        is_only: bool,
-    ) -> Result<()> {
-        let start = name_of(part).start;
-        let is_prose = filler.names.macros.is_prose(part.name, part.others);
-        let is_call = matches!(part.program, Program::Sed) && !is_prose;
-        if !is_call || self.starts.get(&start).is_some() {
-            return Ok(());
-        }
-        for case in 0..MOST {
-            filler.begin(case);
-            let here = match &held.command.here {
-                Some(units) if is_only && !held.command.has_other_here => {
-                    Some(CallWord::of(filler.filled(units)?, quoted(0, 0)))
-                }
-                _ => None,
-            };
-            let call = found_call(filler, held, part, here.as_ref())?;
-            if !held.is_value || !matches!(&call.script, FoundScript::Refused(_)) {
-                self.starts.insert(start, ())?;
-                self.found.push(call)?;
-            }
-            if case.saturating_add(1) >= filler.cases {
-                break;
-            }
-        }
-        Ok(())
+/// Adds the call that a part of a command is, if it is one and isn't there yet: once for each value of a variable that has several. The
+/// part may be the only one of its command.
+fn add_call(
+    calls: &mut Vec<FoundCall>,
+    filler: &mut Filler<'_>,
+    held: &Held,
+    part: &Part,
+    is_only: bool,
+) -> Result<()> {
+    let start = name_of(part).start;
+    let is_prose = filler.names.macros.is_prose(part.name, part.others);
+    let is_call = matches!(part.program, Program::Sed) && !is_prose;
+    if !is_call || filler.starts.get(&start).is_some() {
+        return Ok(());
     }
+    for case in 0..MOST {
+        filler.begin(case);
+        let here = match &held.command.here {
+            Some(units) if is_only && !held.command.has_other_here => {
+                Some(CallWord::of(filler.filled(units)?, quoted(0, 0)))
+            }
+            _ => None,
+        };
+        let call = found_call(filler, held, part, here.as_ref())?;
+        if !held.is_value || !matches!(&call.script, FoundScript::Refused(_)) {
+            filler.starts.insert(start, ())?;
+            calls.push(call)?;
+        }
+        if case.saturating_add(1) >= filler.cases {
+            break;
+        }
+    }
+    Ok(())
 }
 
 /// The call that a part of a command is.

@@ -8,6 +8,7 @@ use crate::units::{
     begins_name, has_hole, hole_of, is_letters, is_option, is_word_in, last_part, lone_hole, rest,
     variable_of,
 };
+use crate::values::Value;
 use sedck_origin::{Result, Unit, begins_with, byte_at, hole_name, is_name_byte, is_text};
 use sedck_shell::ShellWord;
 
@@ -111,12 +112,10 @@ fn has_value(names: &Names<'_>, units: &[Unit]) -> bool {
     let mut holes = units.iter().take(LONGEST).filter_map(hole_of);
     holes.any(|hole| {
         let name = hole_name(names.written_hole(hole)).unwrap_or(&[]);
-        let Some(fact) = names.facts.get(name) else {
-            return false;
-        };
-        fact.values.iter().any(|value| {
-            has_name(value.units.get(..LONGEST).unwrap_or(&value.units))
-        })
+        names
+            .facts
+            .get(name)
+            .is_some_and(|fact| fact.values.iter().any(has_name))
     })
 }
 
@@ -164,8 +163,9 @@ fn has_call(units: &[Unit]) -> bool {
     (0..units.len()).any(|index| begins_call(units, index))
 }
 
-/// Whether the units have `sed` as a word, which may be the last one.
-fn has_name(units: &[Unit]) -> bool {
+/// Whether the value has `sed` as a word, which may be the last one.
+fn has_name(value: &Value) -> bool {
+    let units = value.units.get(..LONGEST).unwrap_or(&value.units);
     let end = units.len().saturating_sub(3);
     let is_inside = end > 0 && byte_at(units, end.saturating_sub(1)).is_some_and(is_name_byte);
     (begins_with(rest(units, end), "sed") && !is_inside) || has_call(units)

@@ -84,11 +84,6 @@ impl<'a> Names<'a> {
     /// Notes that a command at the offset may set variables which it doesn't name, and may make some read-only.
     pub fn note_open(&mut self, offset: usize) {
         self.may_fix_locale = true;
-        self.note_setting(offset);
-    }
-
-    /// Notes that what is at the offset may set variables which it doesn't name.
-    pub fn note_setting(&mut self, offset: usize) {
         self.open = Some(self.open.unwrap_or(offset).min(offset));
     }
 

@@ -50,9 +50,8 @@ pub(crate) fn settings_of(alloc: Global, file: &[u8]) -> Result<Settings> {
 /// Whether one of the names, which have spaces between, is in these bytes: in any letters, and with underscores, as zsh has them.
 fn has_names(alloc: Global, bytes: &[u8], names: &str) -> Result<bool> {
     let letters = bytes.iter().filter(|byte| **byte != b'_');
-    let letters: Vec<u8> = letters
-        .map(|byte| byte.to_ascii_lowercase())
-        .collect(alloc)?;
+    let letters = letters.map(|byte| byte.to_ascii_lowercase());
+    let letters: Vec<u8> = letters.collect(alloc)?;
     let is_part = |name: &str| letters
         .windows(name.len().max(1))
         .any(|part| part == name.as_bytes());

@@ -32,14 +32,6 @@ pub(crate) struct Inner {
     form: Form,
 }
 
-/// The form of a text of another shell, which is called in a text of this form, and may read `$'..'` or not.
-fn other_form(form: Form, reads_dollar_quotes: bool) -> Form {
-    Form {
-        has_dollar_quotes: form.has_dollar_quotes && reads_dollar_quotes,
-        ..form
-    }
-}
-
 /// What was read of a file.
 #[derive(Drop)]
 pub(crate) struct Texts<'a> {
@@ -106,15 +98,14 @@ impl Texts<'_> {
     /// Notes the text that a part of a command has for a shell. A here-document or a here-string that `.` reads isn't understood, and none that
     /// a shell reads by a name.
     fn note_part(&mut self, part: &Part, command: &ShellCommand, form: Form) -> Result<()> {
+        let path = bytes_of(self.names.alloc, last_part(&part.name.units))?;
+        let mut other = form;
+        other.has_dollar_quotes &= path.is_some_and(|path| is_dollar_quoting(&path));
         match part.program {
-            Program::Shell => {
-                let path = bytes_of(self.names.alloc, last_part(&part.name.units))?;
-                let reads_dollar_quotes = path.is_some_and(|path| is_dollar_quoting(&path));
-                self.note_shell(part, command, other_form(form, reads_dollar_quotes))
-            }
+            Program::Shell => self.note_shell(part, command, other),
             Program::Again => self.note_again(part, form),
             Program::User => match user_text(part.others) {
-                Some(text) => self.note_other(text, part, other_form(form, false)),
+                Some(text) => self.note_other(text, part, other),
                 None => Ok(()),
             },
             Program::Sourcing if is_fed(command) => {

@@ -8,6 +8,7 @@ use crate::values::{SPECIAL, Value, is_blank};
 use sedck_origin::{Hole, Origin, Result, Traced, Unit, Way, hole_name};
 use sedck_shell::{Pattern, ShellWord};
 use std::alloc::Global;
+use std::collections::BTreeMap;
 
 /// A word of a call.
 #[derive(Drop)]
@@ -104,6 +105,8 @@ pub(crate) struct Filler<'a> {
     pub cases: usize,
     /// That variable; any other one with several values is a hole.
     pub chosen: Option<&'a [u8]>,
+    /// Where the names of the calls are in the file that were found.
+    pub starts: BTreeMap<usize, ()>,
 }
 
 impl<'a> Filler<'a> {
@@ -120,11 +123,10 @@ impl<'a> Filler<'a> {
     fn value_of(&mut self, hole: Hole) -> Option<&'a Value> {
         let names = self.names;
         let values = names.values_of(hole)?;
-        let number = match values {
-            [_] => 0,
-            _ => self.choose(hole, values)?,
-        };
-        values.get(number)
+        match values {
+            [value] => Some(value),
+            _ => values.get(self.choose(hole, values)?),
+        }
     }
 
     /// The number of the one of these values that replaces the hole in this case, if the call has no other such variable, and a shell leaves
