@@ -190,7 +190,9 @@ impl Names<'_> {
         };
         let written = self.written_hole(hole);
         let is_named = hole_name(written).is_some_and(|name| {
-            is_sed_variable(name) || self.may_be_sed(name)
+            let fact = self.facts.get(name);
+            let is_one = fact.is_some_and(|one| one.is_sed && one.are_all && one.values.len() == 1);
+            is_sed_variable(name) || is_one
         });
         is_named || (written.len() <= LONGEST && writes_sed(written))
     }

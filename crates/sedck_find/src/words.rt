@@ -122,10 +122,9 @@ impl<'a> Filler<'a> {
     /// The value that replaces the hole in this case.
     fn value_of(&mut self, hole: Hole) -> Option<&'a Value> {
         let names = self.names;
-        let values = names.values_of(hole)?;
-        match values {
+        match names.values_of(hole)? {
             [value] => Some(value),
-            _ => values.get(self.choose(hole, values)?),
+            values => values.get(self.choose(hole, values)?),
         }
     }
 
