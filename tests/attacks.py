@@ -635,6 +635,7 @@ def is_here(program):
 def missing(row):
     """The programs of the run that aren't here."""
     programs = split(row.run)[1][:1] + re.findall(r"\b(?:find|xargs|su|flock|toybox|ssed)\b", row.text)
+    programs += re.findall(r"(?m)^SHELL = (\w+)", row.text)
     return [program for program in programs if not is_here(program)]
 
 
