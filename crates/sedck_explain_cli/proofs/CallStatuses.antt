@@ -1,9 +1,7 @@
 -- From what is said of a call to its exit status.
-use Rattle.std.proofs.Common.{◌≡◌, ◌≢◌, ◌∙◌, ℕ, Bool, true, List, None, inl, inr, refl, sym, subst}
-use Rattle.sedck_call.specs.Calls.{IsCall, IsFault, LacksScript}
+use Rattle.std.proofs.Common.{◌≡◌, ◌∙◌, ℕ, Bool, true, List, None, inl, refl, sym, subst}
+use Rattle.sedck_call.specs.Calls.{IsCall}
 use Rattle.sedck_call.specs.declared.call.Call.{Call}
-use Rattle.sedck_call.specs.declared.call.CallFault.{CallFault}
-use Rattle.sedck_call.specs.declared.call.CallFault.TheVariants as fault
 use Rattle.sedck_explanation.specs.Called.{has_foreign, IsCalled}
 use Rattle.sedck_explanation.specs.Explanations.{IsExplanation}
 use Rattle.sedck_engines.specs.Opened.{Known}
@@ -16,14 +14,6 @@ use Rattle.sedck_explain_cli.specs.CallStatus.{HasCallStatus}
 use Rattle.sedck_explain_cli.specs.Mended.{IsOfMendedCall, IsUnder}
 use Rattle.sedck_explain_cli.specs.Private.Said.{IsSaid, IsJudgedCall}
 
--- words with a fault are no call
-no_call : (words : List (List ℕ)) (why : CallFault) → IsFault words why → why ≢ fault.OutOfMemory → (call : Call) → IsCall words call → ⊥
-no_call words (fault.BadWord n) is other call called = let e = sym called.given ∙ is in cc e
-no_call words fault.NoScript is other call called =
-    let e : is.0 ≡ call.given.items = cc (sym is.1 ∙ called.given) in
-    called.has_script (subst LacksScript e is.2)
-no_call words fault.OutOfMemory is other call called = absurd (other refl)
-
 -- what is refused is no yes
 refused_said : (mends : Bool) (k : Known) (denied : Denied) (words : List (List ℕ)) (e : Explanation) → e.status ≡ Refused
     → HasCallStatus mends k denied words Refused → IsSaid mends k denied words e
@@ -32,10 +22,6 @@ refused_said mends k denied words e refused has = record {
   has_status = subst (HasCallStatus mends k denied words) (sym refused) has;
   yes = λ accepted. let clash : Refused ≡ Accepted = sym refused ∙ accepted in cc clash;
 }
-
-pub fault_said : (mends : Bool) (k : Known) (denied : Denied) (words : List (List ℕ)) (why : CallFault) (e : Explanation) → IsFault words why
-    → why ≢ fault.OutOfMemory → e.status ≡ Refused → IsSaid mends k denied words e
-fault_said mends k denied words why e is other refused = refused_said mends k denied words e refused (inr (no_call words why is other, refl))
 
 pub foreign_said : (mends : Bool) (k : Known) (denied : Denied) (words : List (List ℕ)) (call : Call) (e : Explanation) → IsCall words call
     → has_foreign call.given.items ≡ true → e.status ≡ Refused → IsSaid mends k denied words e

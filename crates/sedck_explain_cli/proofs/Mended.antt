@@ -13,7 +13,7 @@ use Rattle.sedck_answer.specs.Status.{IsOfAnswer}
 use Rattle.sedck_answer.specs.declared.explanation.Explanation.{Explanation}
 use Rattle.sedck_answer.specs.declared.status.Status.{Status}
 use Rattle.sedck_answer.specs.declared.status.Status.TheVariants as exit
-use Rattle.sedck_formats.specs.Plain.{Output, IsPlainStatus, Writes}
+use Rattle.sedck_formats.specs.Plain.{Output, Writes}
 use Rattle.sedck_calls_in_files.specs.Delivered.{IsDelivered}
 use Rattle.sedck_explain_cli.specs.CallStatus.{HasCallStatus}
 use Rattle.sedck_explain_cli.specs.Explained.{IsExplained}
@@ -21,7 +21,7 @@ use Rattle.sedck_explain_cli.specs.Mended.{under_condition, IsOfMended, IsOfMend
 use Rattle.sedck_explain_cli.specs.Private.Said.{IsExplainedUnder, IsJudgedCall, IsDeliveredUnder}
 use Rattle.sedck_explain_cli.specs.Spelled.{IsIn, CopiesMended, IsAnsweredCall}
 use Rattle.sedck_explain_cli.proofs.CallStatuses.{under_text}
-use Rattle.sedck_explain_cli.proofs.Spelled.{judged_yes, of_answer, delivered_few, copied_yes, explained}
+use Rattle.sedck_explain_cli.proofs.Spelled.{delivered_few, copied_yes, explained}
 
 -- ---- The status
 
@@ -90,45 +90,6 @@ stays_under exit.Refused other = refl
 stays_under exit.Misused other = refl
 stays_under exit.Failed other = refl
 stays_under exit.Unknown other = refl
-
-plain_status_under : (judged status : Status) → status ≢ exit.Accepted → IsPlainStatus judged status → IsStatusUnder true judged status
-plain_status_under judged status other (inl same) = inl (same ∙ sym (stays_under judged (λ accepted. other (same ∙ accepted))))
-plain_status_under judged status other (inr both) = inr (refl, both.0, both.1)
-
--- a report
-pub report_under : (plain : Bool) (known : Option (List ℕ)) (e made : Explanation) (out err : Output) (status : Status) → plain ≡ false
-    → made.status ≡ under_condition e.status → IsDelivered plain known made out err status → IsDeliveredUnder plain e out err status
-report_under true known e made out err status other same d = absurd (false≢true (sym other))
-report_under false known e made out err status other same d = record {
-  is_status = inl (d.is_status ∙ same);
-  writes = λ plainly unknown. absurd (false≢true plainly);
-  kept = λ plainly known. absurd (false≢true plainly);
-  silent = λ _. d.silent (inl refl);
-}
-
--- no script
-pub plain_under : (plain : Bool) (known : Option (List ℕ)) (e : Explanation) (out err : Output) (status : Status) → plain ≡ true → IsOfAnswer e.status
-    → status ≢ exit.Accepted → IsDelivered plain known e out err status → IsDeliveredUnder plain e out err status
-plain_under false known e out err status plainly few other d = absurd (false≢true plainly)
-plain_under true known e out err status plainly few other d =
-    let few_status = of_answer e.status status d.is_status few in
-    record {
-      is_status = plain_status_under e.status status other d.is_status;
-      writes = λ _ unknown. absurd (few_status.2 unknown);
-      kept = λ _ _. (d.writes refl).kept other;
-      silent = λ report. absurd (false≢true (sym report));
-    }
-
--- the script, and then the report
-pub accepted_under : (plain : Bool) (known : Option (List ℕ)) (e : Explanation) (out err later : Output) (status : Status) → plain ≡ true
-    → status ≡ exit.Accepted → IsDelivered plain known e out err status → IsDeliveredUnder plain e out later exit.Unknown
-accepted_under false known e out err later status plainly accepted d = absurd (false≢true plainly)
-accepted_under true known e out err later status plainly accepted d = record {
-  is_status = inl (sym (ap under_condition (judged_yes e.status status d.is_status accepted)));
-  writes = λ _ _. (d.writes refl).spelled accepted;
-  kept = λ _ known. absurd (known refl);
-  silent = λ report. absurd (false≢true (sym report));
-}
 
 -- ---- What is written
 
