@@ -2,7 +2,7 @@
 use Rattle.std.proofs.Common.{ℕ, Bool, List}
 use Rattle.sedck_commands.specs.Narrowings.{Narrowings, nothing_asked}
 use Rattle.sedck_commands.specs.Program.{Pattern, Place, Address, Part, Substitution}
-use Rattle.sedck_commands.specs.Parts.{ExpressionTextIn, IsPatternIn, FirstListIn, NameIn, FlagsIn, PlaceTextIn, AddressTextIn}
+use Rattle.sedck_commands.specs.Parts.{ExpressionTextIn, IsPatternIn, NameIn, FlagsIn, PlaceTextIn, AddressTextIn}
 use Rattle.sedck_commands.specs.Parts as p
 use Rattle.sedck_commands.specs.Items.{WrittenVerb, Item, VerbTextIn, CommandTextIn, ItemsIn}
 use Rattle.sedck_commands.specs.Items as w
@@ -13,9 +13,6 @@ expression_read x = record { cut = x.cut; alike = tt }
 pattern_read : {asks : Narrowings} {text : List ℕ} {q : Pattern} → IsPatternIn asks text q → IsPatternIn nothing_asked text q
 pattern_read p.previous = p.previous
 pattern_read (p.expression read) = p.expression (read.0, tt)
-
-list_read : {asks : Narrowings} {d : ℕ} {text bytes rest : List ℕ} → FirstListIn asks d text bytes rest → FirstListIn nothing_asked d text bytes rest
-list_read x = record { list = x.list; alike = tt }
 
 name_read : {asks : Narrowings} {text name rest : List ℕ} → NameIn asks text name rest → NameIn nothing_asked text name rest
 name_read n = record { blanks = n.blanks; begins = n.begins; skipped = n.skipped; run = n.run; some = n.some; alike = tt }
@@ -41,17 +38,17 @@ address_read (p.two x c h d y) = p.two (place_read x) c h d (place_read y)
 
 verb_read : {asks : Narrowings} {text rest : List ℕ} {v : WrittenVerb} → VerbTextIn asks text v rest → VerbTextIn nothing_asked text v rest
 verb_read (w.simple x e) = w.simple x e
-verb_read (w.label h l n e) = w.label h l n e
-verb_read (w.jump h l n e brace) = w.jump h l n (e.0, tt) brace
-verb_read (w.jump_to_end h n e brace) = w.jump_to_end h n (e.0, tt) brace
+verb_read (w.label h l n e) = w.label h l tt e
+verb_read (w.jump h l n e brace) = w.jump h l tt e brace
+verb_read (w.jump_to_end h n e brace) = w.jump_to_end h tt e brace
 verb_read (w.opening h) = w.opening h
 verb_read (w.append h l g) = w.append h l g
 verb_read (w.change h l g) = w.change h l g
 verb_read (w.insert h l g) = w.insert h l g
 verb_read (w.read h n) = w.read h (name_read n)
 verb_read (w.write h n) = w.write h (name_read n)
-verb_read (w.substitute h d x y z g f) = w.substitute h d (expression_read x) (pattern_read y) z g (flags_read f)
-verb_read (w.transliterate h d x y l e) = w.transliterate h d (list_read x) y l e
+verb_read (w.substitute h d x y z g f) = w.substitute h d (expression_read x) (pattern_read y) z tt (flags_read f)
+verb_read (w.transliterate h d x m y l e) = w.transliterate h d x tt y l e
 
 command_read : {asks : Narrowings} {text rest : List ℕ} {a : Address} {m : Bool} {v : WrittenVerb} → CommandTextIn asks text a m v rest
     → CommandTextIn nothing_asked text a m v rest
@@ -63,7 +60,7 @@ command_read c = record {
   run = c.run;
   mark = c.mark;
   verbs = verb_read c.verbs;
-  taken = c.taken;
+  taken = tt;
 }
 
 pub items_read : {asks : Narrowings} {text : List ℕ} {items : List Item} → ItemsIn asks text items → ItemsIn nothing_asked text items

@@ -88,8 +88,8 @@ pub verb_takes : {asks : Narrowings} {text rest : List ℕ} {v : WrittenVerb} �
     → (b : ℕ) × (behind : List ℕ) × (text ≡ b ∷ behind) × EndsIn behind rest
 verb_takes (w.simple x e) = (_, _, refl, ends_tail e)
 verb_takes (w.label h l n e) = (_, _, refl, tail_tail (label_text_tail l) (ends_tail e))
-verb_takes (w.jump h l n e brace) = (_, _, refl, tail_tail (label_text_tail l) (ends_tail e.0))
-verb_takes (w.jump_to_end h n e brace) = (_, _, refl, ends_tail e.0)
+verb_takes (w.jump h l n e brace) = (_, _, refl, tail_tail (label_text_tail l) (ends_tail e))
+verb_takes (w.jump_to_end h n e brace) = (_, _, refl, ends_tail e)
 verb_takes (w.opening h) = (_, _, refl, ([], refl))
 verb_takes (w.append h l g) = (_, _, refl, tail_tail (tail_cut l) (given_tail g))
 verb_takes (w.change h l g) = (_, _, refl, tail_tail (tail_cut l) (given_tail g))
@@ -98,7 +98,7 @@ verb_takes (w.read h n) = (_, _, refl, name_tail n)
 verb_takes (w.write h n) = (_, _, refl, name_tail n)
 verb_takes (w.substitute {delimiter = d} h t x y z g f) =
     (_, _, refl, tail_cons d (tail_tail (expression_tail x.cut) (tail_tail (replacement_tail z) (flags_tail f))))
-verb_takes (w.transliterate {delimiter = d} h t x y l e) = (_, _, refl, tail_cons d (tail_tail (list_tail x.list) (tail_tail (list_tail y) (ends_tail e))))
+verb_takes (w.transliterate {delimiter = d} h t x m y l e) = (_, _, refl, tail_cons d (tail_tail (list_tail x) (tail_tail (list_tail y) (ends_tail e))))
 
 pub verb_text_tail : {text rest : List ℕ} {v : WrittenVerb} → VerbText text v rest → EndsIn text rest
 verb_text_tail {rest = rest} x = let t = verb_takes x in subst (λ u. EndsIn u rest) (sym t.2) (tail_cons t.0 t.3)

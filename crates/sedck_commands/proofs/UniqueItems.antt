@@ -41,7 +41,7 @@ verb_no_other e (w.insert h l g) = ap is_other (sym (heads e) ∙ h)
 verb_no_other e (w.read h n) = ap is_other (sym (heads e) ∙ h)
 verb_no_other e (w.write h n) = ap is_other (sym (heads e) ∙ h)
 verb_no_other e (w.substitute h d x y z g f) = ap is_other (sym (heads e) ∙ h)
-verb_no_other e (w.transliterate h d x y l f) = ap is_other (sym (heads e) ∙ h)
+verb_no_other e (w.transliterate h d x m y l f) = ap is_other (sym (heads e) ∙ h)
 
 pub place_first : {asks : Narrowings} {text rest : List ℕ} {q : Place} → PlaceTextIn asks text q rest
     → (b : ℕ) × (more : List ℕ) × (text ≡ b ∷ more) × (begins_address b ≡ true)

@@ -49,7 +49,7 @@ class_of (w.insert h l g) = 105
 class_of (w.read h n) = 114
 class_of (w.write h n) = 119
 class_of (w.substitute h d x y z g f) = 115
-class_of (w.transliterate h d x y l e) = 121
+class_of (w.transliterate h d x m y l e) = 121
 
 pub simple_class : {b : ℕ} {v : Verb} → Simple b v → class b ≡ 0
 simple_class w.line_number = refl
@@ -71,7 +71,7 @@ begins (w.insert h l g) = ap class h
 begins (w.read h n) = ap class h
 begins (w.write h n) = ap class h
 begins (w.substitute h d x y z g f) = ap class h
-begins (w.transliterate h d x y l e) = ap class h
+begins (w.transliterate h d x m y l e) = ap class h
 
 -- no verb begins the text
 abbrev pub NoVerb : List ℕ → Type 0
@@ -121,10 +121,10 @@ pub verb_one : {asks : Narrowings} {text r s : List ℕ} {v u : WrittenVerb} →
 verb_one (w.simple x e) (w.simple y f) = (ap Known (simple_one x y), ends_one e f)
 verb_one (w.label h l n e) (w.label i m o f) = let one = label_one l m in (ap (λ t. Known (Label t)) one.0, ends_one (rw one.1 at e) f)
 verb_one (w.jump {tests = t} {braced = c} h l n e p) (w.jump i m o f q) = let one = label_one l m in
-    (ap (λ name. JumpTo t (Some name) c) one.0 ∙ jump_one h i one.1 p q, ends_one (rw one.1 at e.0) f.0)
-verb_one (w.jump h l n e p) (w.jump_to_end i o f q) = absurd (label_or_end l f.0)
-verb_one (w.jump_to_end h n e p) (w.jump i m o f q) = absurd (label_or_end m e.0)
-verb_one (w.jump_to_end h n e p) (w.jump_to_end i o f q) = let one = ends_one e.0 f.0 in (jump_one h i one p q, one)
+    (ap (λ name. JumpTo t (Some name) c) one.0 ∙ jump_one h i one.1 p q, ends_one (rw one.1 at e) f)
+verb_one (w.jump h l n e p) (w.jump_to_end i o f q) = absurd (label_or_end l f)
+verb_one (w.jump_to_end h n e p) (w.jump i m o f q) = absurd (label_or_end m e)
+verb_one (w.jump_to_end h n e p) (w.jump_to_end i o f q) = let one = ends_one e f in (jump_one h i one p q, one)
 verb_one (w.opening h) (w.opening i) = (refl, refl)
 verb_one (w.append h l g) (w.append i m k) = let one = given_one (rw (longest_one l m).1 at g) k in (ap (λ t. Known (Append t)) one.0, one.1)
 verb_one (w.change h l g) (w.change i m k) = let one = given_one (rw (longest_one l m).1 at g) k in (ap (λ t. Known (Change t)) one.0, one.1)
@@ -133,8 +133,8 @@ verb_one (w.read h n) (w.read i o) = let one = name_one n o in (ap (λ t. Known 
 verb_one (w.write h n) (w.write i o) = let one = name_one n o in (ap (λ t. Known (Write t)) one.0, one.1)
 verb_one (w.substitute h d x p z g f) (w.substitute i e y q t k j) = let one =
     substitute_one (no_backslash d) x p z f y q t j in (ap (λ t. Known (Substitute t)) one.0, one.1)
-verb_one (w.transliterate {delimiter = c} {behind = b} h d x y l e) (w.transliterate {to = o} {after = a} i k z t j f) =
-    let from = list_one (no_backslash d) x.list z.list in
+verb_one (w.transliterate {delimiter = c} {behind = b} h d x m y l e) (w.transliterate {to = o} {after = a} i k z n t j f) =
+    let from = list_one (no_backslash d) x z in
     let to = list_one (no_backslash d) y (subst (λ m. DelimitedList c m o a) (sym from.1) t) in
     (λ i. Known (Transliterate (from.0 i) (to.0 i)), ends_one (rw to.1 at e) f)
 verb_one x y = absurd (differ (class_of x) (class_of y) refl (sym (begins x) ∙ begins y))

@@ -68,7 +68,7 @@ byte_of e (w.insert h l g) = along (sym (heads e) ∙ h) (any_addresses 105 refl
 byte_of e (w.read h n) = along (sym (heads e) ∙ h) (any_addresses 114 refl (λ a n. refl) (λ a n. tt) refl (λ e. cc e))
 byte_of e (w.write h n) = along (sym (heads e) ∙ h) (any_addresses 119 refl (λ a n. refl) (λ a n. tt) refl (λ e. cc e))
 byte_of e (w.substitute h d x y z g f) = along (sym (heads e) ∙ h) (any_addresses 115 refl (λ a n. refl) (λ a n. tt) refl (λ e. cc e))
-byte_of e (w.transliterate h d x y l f) = along (sym (heads e) ∙ h) (any_addresses 121 refl (λ a n. refl) (λ a n. tt) refl (λ e. cc e))
+byte_of e (w.transliterate h d x m y l f) = along (sym (heads e) ∙ h) (any_addresses 121 refl (λ a n. refl) (λ a n. tt) refl (λ e. cc e))
 
 -- a byte that takes not all addresses is one of four
 pub not_taken : (b : ℕ) (a : Address) (n : Bool) → takes b a n ≡ false → one_of "q:}#" b ≡ true

@@ -70,12 +70,12 @@ defines_known labels l some verb rest x = absurd (differ 58 (class_of x) refl (b
 
 pub jump_read : {text rest : List ℕ} {tests braced : Bool} (label : Option (List ℕ)) → BranchText text label braced rest
     → VerbText (jump_byte tests ∷ text) (JumpTo tests label braced) rest
-jump_read (Some name) x = w.jump refl x.1 x.2 x.3 x.4
-jump_read None x = w.jump_to_end refl x.0 x.1 x.2
+jump_read (Some name) x = w.jump refl x.1 (x.2, x.3.1) x.3.0 x.4
+jump_read None x = w.jump_to_end refl (x.0, x.1.1) x.1.0 x.2
 
 -- a `b` or a `t`, after which no label is
 pub no_jump : {b : ℕ} {text : List ℕ} (tests : Bool) → b ≡ jump_byte tests
     → ((label : Option (List ℕ)) (braced : Bool) (rest : List ℕ) → BranchText text label braced rest → ⊥) → NoVerb (b ∷ text)
-no_jump tests h n verb rest (w.jump {name = a} i l k e brace) = n (Some a) _ rest (_, l, k, e, brace)
-no_jump tests h n verb rest (w.jump_to_end i k e brace) = n None _ rest (k, e, brace)
+no_jump tests h n verb rest (w.jump {name = a} i l k e brace) = n (Some a) _ rest (_, l, k.0, (e, k.1), brace)
+no_jump tests h n verb rest (w.jump_to_end i k e brace) = n None _ rest (k.0, (e, k.1), brace)
 no_jump tests h n verb rest x = differ 98 (class_of x) refl (sym (jump_class tests) ∙ ap class (sym h) ∙ begins x)

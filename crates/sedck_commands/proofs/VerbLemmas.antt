@@ -69,16 +69,17 @@ record TransliterateInside (d : ℕ) (opened rest : List ℕ) : Type 0 where
   ends : Ends after rest
 
 transliterate_at : {d : ℕ} {opened rest : List ℕ} {verb : WrittenVerb} → VerbText (121 ∷ d ∷ opened) verb rest → TransliterateInside d opened rest
-transliterate_at (w.transliterate {from = f} {behind = b} {to = o} {after = a} h i x y l e) =
-    record { after = a; from = f; to = o; lists = record { behind = b; first = x; second = y; equal = l }; ends = e }
+transliterate_at (w.transliterate {from = f} {behind = b} {to = o} {after = a} h i x m y l e) =
+    record { after = a; from = f; to = o; lists = record { behind = b; first = record { list = x; alike = m }; second = y; equal = l }; ends = e }
 transliterate_at x = absurd (differ 121 (class_of x) refl (begins x))
 
 pub transliterate_read : {d : ℕ} {text opened after from to rest : List ℕ} → text ≡ d ∷ opened → IsTrue (is_delimiter d)
     → AreLists d opened from to after → Ends after rest → VerbText (121 ∷ text) (Known (Transliterate from to)) rest
-transliterate_read {from = from} {to = to} {rest = rest} e h l f = rw (← e) at (w.transliterate refl h l.first l.second l.equal f)
+transliterate_read {from = from} {to = to} {rest = rest} e h l f = subst (λ t. VerbText (121 ∷ t) (Known (Transliterate from to)) rest) (sym e)
+    (w.transliterate refl h l.first.list l.first.alike l.second l.equal f)
 
 pub transliterate_no_delimiter : {text : List ℕ} → ((d : ℕ) (rest : List ℕ) → text ≡ d ∷ rest → IsTrue (is_delimiter d) → ⊥) → NoVerb (121 ∷ text)
-transliterate_no_delimiter n verb rest (w.transliterate h i x y l e) = n _ _ refl i
+transliterate_no_delimiter n verb rest (w.transliterate h i x m y l e) = n _ _ refl i
 transliterate_no_delimiter n verb rest x = differ 121 (class_of x) refl (begins x)
 
 pub transliterate_no_lists : {d : ℕ} {text opened : List ℕ} → text ≡ d ∷ opened → ((from to r : List ℕ) → AreLists d opened from to r → ⊥)

@@ -5,16 +5,12 @@ use Rattle.std.specs.List.{list_any}
 use Rattle.sedck_text.specs.Text.{begins}
 use Rattle.sedck_text.specs.Bytes.{ascii}
 use Rattle.sedck_commands.specs.Cuts.{is_newline, is_blank, is_separator, is_delimiter, IsEmptyOr, Longest}
-use Rattle.sedck_commands.specs.Program.{Pattern, Address, NoAddress, Two, Part, Substitution, Verb, Label, Append, Change, Insert, Read, Write, Substitute, Transliterate, Delete, DeleteFirstLine, Get, GetAppend, Hold, HoldAppend, List', Next, NextAppend, Print, PrintFirstLine, Quit, Exchange, LineNumber}
-use Rattle.sedck_commands.specs.Narrowings.{Narrowings}
+use Rattle.sedck_commands.specs.Program.{Pattern, Address, Part, Substitution, Verb, Label, Append, Change, Insert, Read, Write, Substitute, Transliterate, Delete, DeleteFirstLine, Get, GetAppend, Hold, HoldAppend, List', Next, NextAppend, Print, PrintFirstLine, Quit, Exchange, LineNumber}
+pub use Rattle.sedck_commands.specs.Program.{WrittenVerb, Known, JumpTo, Opening}
+use Rattle.sedck_commands.specs.Narrowings.{Listed, Replaced, AfterLabel, AfterJump, Taken, Commented, Narrowings}
 use Rattle.sedck_commands.specs.ReadAlike.{read_alike}
-use Rattle.sedck_commands.specs.Parts.{Ends, ExpressionTextIn, IsPatternIn, DelimitedList, FirstListIn, Replacement, HasGroups, NameIn, FlagsIn, GivenText, LabelText, AddressTextIn}
-
--- A verb as it is written. A branch or a test names a label, or none for the end of the script, and says whether a `}` is right after it.
-pub data WrittenVerb : Type 0 where
-  Known : Verb → WrittenVerb
-  JumpTo : (tests : Bool) → Option (List ℕ) → Bool → WrittenVerb
-  Opening : WrittenVerb
+pub use Rattle.sedck_commands.specs.ReadAlike.{IsNoComment, IsNoBrace, Takes}
+use Rattle.sedck_commands.specs.Parts.{Ends, ExpressionTextIn, IsPatternIn, DelimitedList, Replacement, NameIn, FlagsIn, GivenText, LabelText, AddressTextIn}
 
 -- an item of a script: a command as it is written, or the `}` of a block
 pub data Item : Type 0 where
@@ -38,27 +34,15 @@ pub data Simple : ℕ → Verb → Type 0 where
   quit : Simple (ascii "q") Quit
   exchange : Simple (ascii "x") Exchange
 
--- the text doesn't begin with a comment
-abbrev pub IsNoComment : List ℕ → Type 0
-IsNoComment text = IsEmptyOr (λ b. not (b == ascii "#")) text
-
--- the text begins neither with a comment nor with the end of a block
-abbrev pub IsNoBrace : List ℕ → Type 0
-IsNoBrace text = IsEmptyOr (λ b. not ((b == ascii "#") || (b == ascii "}"))) text
-
--- the end of a branch or a test
-abbrev pub EndsJumpIn : Narrowings → List ℕ → List ℕ → Type 0
-EndsJumpIn n text rest = Ends text rest × n.AfterJump rest
-
--- A verb with what it takes and its end. No comment is after a `b` or a `t` without a label (ours): some seds take the `#` for one, up to the next `;`.
+-- a verb with what it takes and its end
 pub data VerbTextIn (n : Narrowings) : List ℕ → WrittenVerb → List ℕ → Type 0 where
   simple : {b : ℕ} {text rest : List ℕ} {verb : Verb} → Simple b verb → Ends text rest → VerbTextIn n (b ∷ text) (Known verb) rest
-  label : {b : ℕ} {text name behind rest : List ℕ} → b ≡ ascii ":" → LabelText text name behind → IsNoBrace behind → Ends behind rest
+  label : {b : ℕ} {text name behind rest : List ℕ} → b ≡ ascii ":" → LabelText text name behind → n (AfterLabel behind) → Ends behind rest
       → VerbTextIn n (b ∷ text) (Known (Label name)) rest
   jump : {b : ℕ} {text name behind rest : List ℕ} {tests braced : Bool} → b ≡ (if tests then ascii "t" else ascii "b") → LabelText text name behind
-      → IsNoComment behind → EndsJumpIn n behind rest → braced ≡ begins "}" behind → VerbTextIn n (b ∷ text) (JumpTo tests (Some name) braced) rest
-  jump_to_end : {b : ℕ} {text rest : List ℕ} {tests braced : Bool} → b ≡ (if tests then ascii "t" else ascii "b") → IsNoComment rest
-      → EndsJumpIn n text rest → braced ≡ begins "}" rest → VerbTextIn n (b ∷ text) (JumpTo tests None braced) rest
+      → n (AfterJump behind rest) → Ends behind rest → braced ≡ begins "}" behind → VerbTextIn n (b ∷ text) (JumpTo tests (Some name) braced) rest
+  jump_to_end : {b : ℕ} {text rest : List ℕ} {tests braced : Bool} → b ≡ (if tests then ascii "t" else ascii "b") → n (AfterJump rest rest)
+      → Ends text rest → braced ≡ begins "}" rest → VerbTextIn n (b ∷ text) (JumpTo tests None braced) rest
   opening : {b : ℕ} {rest : List ℕ} → b ≡ ascii "{" → VerbTextIn n (b ∷ rest) Opening rest
   append : {b : ℕ} {text blanks begins bytes rest : List ℕ} → b ≡ ascii "a" → Longest is_blank text blanks begins → GivenText begins bytes rest
       → VerbTextIn n (b ∷ text) (Known (Append bytes)) rest
@@ -71,19 +55,13 @@ pub data VerbTextIn (n : Narrowings) : List ℕ → WrittenVerb → List ℕ →
   substitute : {b delimiter : ℕ} {text expression behind flags rest : List ℕ} {pattern : Pattern} {parts : List Part} {substitution : Substitution}
       → b ≡ ascii "s" → IsTrue (is_delimiter delimiter)
       → ExpressionTextIn n delimiter text expression behind → IsPatternIn n expression pattern
-      → Replacement delimiter behind parts flags → HasGroups pattern parts
+      → Replacement delimiter behind parts flags → n (Replaced pattern parts)
       → FlagsIn n pattern parts flags substitution rest
       → VerbTextIn n (b ∷ delimiter ∷ text) (Known (Substitute substitution)) rest
   transliterate : {b delimiter : ℕ} {text from behind to after rest : List ℕ}
       → b ≡ ascii "y" → IsTrue (is_delimiter delimiter)
-      → FirstListIn n delimiter text from behind → DelimitedList delimiter behind to after → length from ≡ length to → Ends after rest
+      → DelimitedList delimiter text from behind → n (Listed delimiter text behind) → DelimitedList delimiter behind to after → length from ≡ length to → Ends after rest
       → VerbTextIn n (b ∷ delimiter ∷ text) (Known (Transliterate from to)) rest
-
--- The verb takes these addresses and this `!`: a label takes none, and `q` no two addresses.
-abbrev pub Takes : WrittenVerb → Address → Bool → Type 0
-Takes (Known (Label name)) given negated = (given ≡ NoAddress) × (negated ≡ false)
-Takes (Known Quit) given negated = (p q : _) → given ≢ Two p q
-Takes _ given negated = Unit {0}
 
 -- A command: its addresses, then blanks (ours) and any number of `!`, then its verb. It is negated where there is a `!`.
 pub record CommandTextIn (n : Narrowings) (text : List ℕ) (address : Address) (negated : Bool) (verb : WrittenVerb) (rest : List ℕ) : Type 0 where
@@ -94,13 +72,13 @@ pub record CommandTextIn (n : Narrowings) (text : List ℕ) (address : Address) 
   pub run : Longest (λ b. is_blank b || (b == ascii "!")) behind marks begins
   pub mark : negated ≡ list_any (λ b. b == ascii "!") marks
   pub verbs : VerbTextIn n begins verb rest
-  pub taken : Takes verb address negated
+  pub taken : n (Taken verb address negated)
 
 -- The items of a text. Any number of blanks, newlines and `;` may precede an item, and a comment runs to the end of its line.
 pub data ItemsIn (n : Narrowings) : List ℕ → List Item → Type 0 where
   nothing : {text separators : List ℕ} → Longest is_separator text separators [] → ItemsIn n text []
   comment : {b : ℕ} {text separators begins line rest : List ℕ} {items : List Item} → Longest is_separator text separators (b ∷ begins) → b ≡ ascii "#"
-      → Longest (λ c. not (is_newline c)) begins line rest → n.Commented line → ItemsIn n rest items → ItemsIn n text items
+      → Longest (λ c. not (is_newline c)) begins line rest → n (Commented line) → ItemsIn n rest items → ItemsIn n text items
   closing : {b : ℕ} {text separators begins rest : List ℕ} {items : List Item} → Longest is_separator text separators (b ∷ begins) → b ≡ ascii "}"
       → Ends begins rest → ItemsIn n rest items → ItemsIn n text (Closing ∷ items)
   command : {text separators begins rest : List ℕ} {address : Address} {negated : Bool} {verb : WrittenVerb} {items : List Item}

@@ -3,13 +3,13 @@
 -- leaves open or undefined.
 use Rattle.std.specs.Prelude.{◌≡◌, ◌≢◌, ℕ, ◌<◌, ◌≤◌, ◌^◌, ◌-◌, true, false, not, List, [], ◌∷◌, length, Some, None, IsTrue, Contains}
 use Rattle.std.specs.Str.Parse.{digits_value}
-use Rattle.sedck_bre.specs.Tree.{group_count}
 use Rattle.sedck_bre.specs.Shape.{Shape}
 use Rattle.sedck_text.specs.Bytes.{ascii}
 pub use Rattle.sedck_text.specs.Classes.{is_plain}
 use Rattle.sedck_commands.specs.Cuts.{newline, backslash, is_newline, is_blank, is_digit, is_letter, is_label_byte, is_ending, can_be_escaped, is_delimiter, IsEmptyOr, Longest}
-use Rattle.sedck_commands.specs.Narrowings.{Narrowings}
+use Rattle.sedck_commands.specs.Narrowings.{Cut, Matched, Listed, Named, AfterFlags, Narrowings}
 use Rattle.sedck_commands.specs.ReadAlike.{read_alike}
+pub use Rattle.sedck_commands.specs.ReadAlike.{greatest_group, HasGroups}
 use Rattle.sedck_commands.specs.Program.{Pattern, Previous, Expression, Place, Line, Last, Context, Address, NoAddress, One, Two, Part, Text, Newline, Tab, Whole, Group, Substitution}
 
 -- The end of a command: blanks, and then what ends one or the end of the script, where the rest begins.
@@ -40,12 +40,12 @@ pub data DelimitedExpression (delimiter : ℕ) : List ℕ → List ℕ → List 
 -- an expression as it may be cut out
 pub record ExpressionTextIn (n : Narrowings) (delimiter : ℕ) (text expression rest : List ℕ) : Type 0 where
   pub cut : DelimitedExpression delimiter text expression rest
-  pub alike : n.Cut delimiter text expression rest
+  pub alike : n (Cut delimiter text expression rest)
 
 -- the pattern of an expression: the empty one stands for another of the script
 pub data IsPatternIn (n : Narrowings) : List ℕ → Pattern → Type 0 where
   previous : IsPatternIn n [] Previous
-  expression : {b : ℕ} {bytes : List ℕ} {tree : _} → Shape (b ∷ bytes) tree × n.Matched tree → IsPatternIn n (b ∷ bytes) (Expression tree)
+  expression : {b : ℕ} {bytes : List ℕ} {tree : _} → Shape (b ∷ bytes) tree × n (Matched tree) → IsPatternIn n (b ∷ bytes) (Expression tree)
 
 -- One list of a `y` command after its opening delimiter.
 pub data DelimitedList (delimiter : ℕ) : List ℕ → List ℕ → List ℕ → Type 0 where
@@ -58,11 +58,6 @@ pub data DelimitedList (delimiter : ℕ) : List ℕ → List ℕ → List ℕ �
       → DelimitedList delimiter text bytes rest → DelimitedList delimiter (a ∷ b ∷ text) (backslash ∷ bytes) rest
   line : {a b : ℕ} {text bytes rest : List ℕ} → a ≡ backslash → b ≢ delimiter → b ≡ ascii "n"
       → DelimitedList delimiter text bytes rest → DelimitedList delimiter (a ∷ b ∷ text) (newline ∷ bytes) rest
-
--- the first list of `y`
-pub record FirstListIn (n : Narrowings) (delimiter : ℕ) (text bytes rest : List ℕ) : Type 0 where
-  pub list : DelimitedList delimiter text bytes rest
-  pub alike : n.Listed delimiter text rest
 
 -- what a backslash and this byte mean in a replacement; the tab is ours
 pub data EscapedPart : ℕ → Part → Type 0 where
@@ -88,15 +83,6 @@ pub data Replacement (delimiter : ℕ) : List ℕ → List Part → List ℕ →
   run : {b : ℕ} {text bytes behind rest : List ℕ} {parts : List Part} → Longest (is_plain delimiter) text (b ∷ bytes) behind
       → Replacement delimiter behind parts rest → Replacement delimiter text (Text (b ∷ bytes) ∷ parts) rest
 
--- the greatest group that a replacement may name
-abbrev pub greatest_group : Pattern → ℕ
-greatest_group Previous = 9
-greatest_group (Expression tree) = group_count tree
-
--- the replacement names only groups that the expression has
-abbrev pub HasGroups : Pattern → List Part → Type 0
-HasGroups pattern parts = (k : ℕ) → Contains parts (Group k) → k ≤ greatest_group pattern
-
 -- A file name: blanks, and then all of the line, at least a byte.
 pub record NameIn (n : Narrowings) (text name rest : List ℕ) : Type 0 where
   pub blanks : List ℕ
@@ -104,11 +90,11 @@ pub record NameIn (n : Narrowings) (text name rest : List ℕ) : Type 0 where
   pub skipped : Longest is_blank text blanks begins
   pub run : Longest (λ b. not (is_newline b)) begins name rest
   pub some : 0 < length name
-  pub alike : n.Named name rest
+  pub alike : n (Named name rest)
 
 -- The flags of a substitution, in any order, each at most once; a file's name is the last.
 pub data FlagsIn (n : Narrowings) (pattern : Pattern) (parts : List Part) : List ℕ → Substitution → List ℕ → Type 0 where
-  none : {text rest : List ℕ} → Ends text rest → n.AfterFlags rest
+  none : {text rest : List ℕ} → Ends text rest → n (AfterFlags rest)
       → FlagsIn n pattern parts text (record { pattern = pattern; parts = parts; global = false; print = false; nth = None; file = None }) rest
   file : {b : ℕ} {text name rest : List ℕ} → b ≡ ascii "w" → NameIn n text name rest
       → FlagsIn n pattern parts (b ∷ text) (record { pattern = pattern; parts = parts; global = false; print = false; nth = None; file = Some name }) rest
@@ -164,8 +150,10 @@ pub data AddressTextIn (n : Narrowings) : List ℕ → Address → List ℕ → 
 abbrev pub ExpressionText : ℕ → List ℕ → List ℕ → List ℕ → Type 0
 ExpressionText = ExpressionTextIn read_alike
 
-abbrev pub FirstList : ℕ → List ℕ → List ℕ → List ℕ → Type 0
-FirstList = FirstListIn read_alike
+-- the first list of `y`
+pub record FirstList (delimiter : ℕ) (text bytes rest : List ℕ) : Type 0 where
+  pub list : DelimitedList delimiter text bytes rest
+  pub alike : read_alike (Listed delimiter text rest)
 
 abbrev pub PlaceText : List ℕ → Place → List ℕ → Type 0
 PlaceText = PlaceTextIn read_alike

@@ -1,13 +1,15 @@
--- What is refused since some sed reads it otherwise than the standard has it, or its matcher gets it wrong. This project's own (docs/GRAMMAR.md): no
--- promise rests on it, since a yes speaks of the text as the grammar reads it, with nothing of this asked.
-use Rattle.std.specs.Prelude.{◌≡◌, ℕ, ◌≤◌, Bool, true, false, not, ◌&&◌, ◌||◌, ◌==◌, if◌then◌else◌, List, [], ◌∷◌, ◌++◌, IsTrue, ◌⊎◌}
+-- What is refused since no sed takes it, since some sed reads it otherwise than the standard has it, or since a matcher gets it wrong. Mostly this
+-- project's own (docs/GRAMMAR.md): no promise rests on it, since a yes speaks of the text as the grammar reads it, with nothing of this asked.
+use Rattle.std.specs.Prelude.{◌≡◌, ◌≢◌, ℕ, ◌≤◌, length, Contains, Bool, true, false, not, ◌&&◌, ◌||◌, ◌==◌, if◌then◌else◌, List, [], ◌∷◌, ◌++◌, IsTrue, ◌⊎◌}
 use Rattle.sedck_text.specs.Text.{is_in, one_of, begins}
 use Rattle.sedck_text.specs.Bytes.{vertical_tab, carriage_return, ascii}
 use Rattle.sedck_bre.specs.Brackets.{is_from}
 use Rattle.sedck_expressions.specs.Misjudged.{is_misjudged}
 use Rattle.sedck_commands.specs.Cuts.{backslash, is_newline, is_letter, is_digit, is_continued, IsEmptyOr, Longest}
 use Rattle.sedck_commands.specs.BracketLists.{BracketsClose}
-use Rattle.sedck_commands.specs.Narrowings.{Narrowings}
+use Rattle.sedck_bre.specs.Tree.{group_count}
+use Rattle.sedck_commands.specs.Program.{Pattern, Previous, Expression, Part, Group, Address, NoAddress, Two, Label, Quit, WrittenVerb, Known, Command, patterns, expressions}
+use Rattle.sedck_commands.specs.Narrowings.{Script, Cut, Matched, Listed, Replaced, Named, AfterFlags, AfterLabel, AfterJump, Taken, Commented, Braced, Resolved, Narrowings}
 
 -- ---- Expressions
 
@@ -73,17 +75,56 @@ MayBeBraced braced depth = braced ≡ true → depth ≤ 1
 abbrev pub HasNoInnerReturn : List ℕ → Type 0
 HasNoInnerReturn comment = (front behind : List ℕ) → comment ≡ front ++ carriage_return ∷ behind → behind ≡ []
 
+-- ---- What no sed takes, or not each
+
+-- a text that may be a script's: it isn't too long and holds no byte 0
+pub record IsScriptText (text : List ℕ) : Type 0 where
+  pub fits : length text ≤ 1048576
+  pub no_zero : Contains text 0 → ⊥
+
+-- the greatest group that a replacement may name
+abbrev pub greatest_group : Pattern → ℕ
+greatest_group Previous = 9
+greatest_group (Expression tree) = group_count tree
+
+-- the replacement names only groups that the expression has
+abbrev pub HasGroups : Pattern → List Part → Type 0
+HasGroups pattern parts = (k : ℕ) → Contains parts (Group k) → k ≤ greatest_group pattern
+
+-- the text doesn't begin with a comment
+abbrev pub IsNoComment : List ℕ → Type 0
+IsNoComment text = IsEmptyOr (λ b. not (b == ascii "#")) text
+
+-- the text begins neither with a comment nor with the end of a block
+abbrev pub IsNoBrace : List ℕ → Type 0
+IsNoBrace text = IsEmptyOr (λ b. not ((b == ascii "#") || (b == ascii "}"))) text
+
+-- The verb takes these addresses and this `!`: a label takes none, and `q` no two addresses.
+abbrev pub Takes : WrittenVerb → Address → Bool → Type 0
+Takes (Known (Label name)) given negated = (given ≡ NoAddress) × (negated ≡ false)
+Takes (Known Quit) given negated = (p q : _) → given ≢ Two p q
+Takes _ given negated = Unit {0}
+
+-- an empty expression has another one to stand for, and there aren't too many commands
+pub record AreUsable (commands : List Command) : Type 0 where
+  pub expression : Contains (patterns commands) Previous → expressions commands ≢ []
+  pub count : length commands ≤ 4095
+
 -- ---- All of it
 
 abbrev pub read_alike : Narrowings
-read_alike = record {
-  Cut = IsAsWritten;
-  -- an expression is none that matchers of real seds get wrong: `\(a*\)*\1` may never end in GNU sed
-  Matched = λ tree. is_misjudged tree ≡ false;
-  Listed = ClosesBrackets;
-  Named = IsNameAlike;
-  AfterFlags = HasSingleComment;
-  AfterJump = λ rest. begins_braced_comment rest ≡ false;
-  Braced = MayBeBraced;
-  Commented = HasNoInnerReturn;
-}
+read_alike (Script text) = IsScriptText text
+read_alike (Cut delimiter text expression rest) = IsAsWritten delimiter text expression rest
+-- an expression is well formed, and none that matchers of real seds get wrong: `\(a*\)*\1` may never end in GNU sed
+read_alike (Matched tree) = is_misjudged tree ≡ false
+read_alike (Listed delimiter text rest) = ClosesBrackets delimiter text rest
+read_alike (Replaced pattern parts) = HasGroups pattern parts
+read_alike (Named name rest) = IsNameAlike name rest
+read_alike (AfterFlags rest) = HasSingleComment rest
+read_alike (AfterLabel after) = IsNoBrace after
+-- no comment is after a `b` or a `t` without a label: some seds take the `#` for one, up to the next `;`
+read_alike (AfterJump after rest) = IsNoComment after × (begins_braced_comment rest ≡ false)
+read_alike (Taken verb address negated) = Takes verb address negated
+read_alike (Commented comment) = HasNoInnerReturn comment
+read_alike (Braced braced depth) = MayBeBraced braced depth
+read_alike (Resolved commands) = AreUsable commands

@@ -145,7 +145,7 @@ left_verb (w.change e blanks text) = c.other (ap is_other e)
 left_verb (w.insert e blanks text) = c.other (ap is_other e)
 left_verb (w.read e name) = c.other (ap is_other e)
 left_verb (w.write e name) = c.other (ap is_other e)
-left_verb (w.transliterate e d from to same ends) = c.other (ap is_other e)
+left_verb (w.transliterate e d from alike to same ends) = c.other (ap is_other e)
 
 pub left_command : {text rest : List ℕ} {address : Address} {negated : Bool} {verb : WrittenVerb} (here : CommandText text address negated verb rest)
     → HasLeft text (command_lists here)

@@ -26,7 +26,7 @@ use Rattle.sedck_script.proofs.UniqueCommands.{commands_one}
 -- a text without items spells no program
 pub no_program : {text : List ℕ} → HasNoItems text → (other : Program) → Spells text other → ⊥
 no_program none other s =
-    none s.items s.spelled (omega (arith, resolves_length s.commands.resolved, s.commands.count)) (labels_once s.commands.resolved s.commands.labels)
+    none s.items s.spelled (omega (arith, resolves_length s.commands.resolved, s.commands.allowed.count)) (labels_once s.commands.resolved s.commands.labels)
     (resolves_nests s.commands.resolved)
 
 -- ---- Labels
@@ -128,7 +128,7 @@ no_expression {items = items} {cs = cs} x r h none other s =
     let same : s.items ≡ items = items_one s.spelled x in
     let commands : cs ≡ other.commands = commands_one r (rw same at s.commands.resolved) s.commands.labels in
     let previous : Contains (patterns cs) Previous = previous_contained (patterns cs) (ap has_previous (resolved_patterns r) ∙ h) in
-    s.commands.expression (rw commands at previous) (rw commands at (none_empty (expressions cs) none))
+    s.commands.allowed.expression (rw commands at previous) (rw commands at (none_empty (expressions cs) none))
 
 -- the items are these commands, where each empty expression has another one
 pub are_commands : {S : Type 0} (labels : HashMap (Bor (List ℕ)) ℕ S) {items : List Item} {cs : List Command}
@@ -137,6 +137,8 @@ pub are_commands : {S : Type 0} (labels : HashMap (Bor (List ℕ)) ℕ S) {items
 are_commands labels {cs = cs} h r few other = record {
   resolved = r;
   labels = distinct labels h r;
-  expression = λ k. some_not_empty (expressions cs) (other (sym (ap has_previous (resolved_patterns r)) ∙ contains_previous (patterns cs) k));
-  count = omega (arith, resolves_length r, few);
+  allowed = record {
+    expression = λ k. some_not_empty (expressions cs) (other (sym (ap has_previous (resolved_patterns r)) ∙ contains_previous (patterns cs) k));
+    count = omega (arith, resolves_length r, few);
+  };
 }

@@ -18,14 +18,13 @@ resolves_read (closing h r) = closing h (resolves_read r)
 
 pub spelled_read : {asks : Narrowings} {text : List ℕ} {p : Program} → SpellsIn asks text p → IsReadAs text p
 spelled_read s = record {
-  allowed = s.allowed;
+  allowed = tt;
   items = s.items;
   spelled = items_read s.spelled;
   commands = record {
     resolved = resolves_read s.commands.resolved;
     labels = s.commands.labels;
-    expression = s.commands.expression;
-    count = s.commands.count;
+    allowed = tt;
   };
   quiet = s.quiet;
 }

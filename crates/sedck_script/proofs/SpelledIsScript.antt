@@ -142,13 +142,13 @@ spelled_script {text} {p} s =
     let read_size = sorted_sum (λ n. length n + 1) (all_reads p.commands) in
     let written_size = sorted_sum (λ n. length n + 1) (all_writes p.commands) in
     record {
-      count = s.commands.count;
+      count = s.commands.allowed.count;
       targets = spelled_targets s;
       formed = spelled_formed s;
       replacements = All-from_recursion _ p.commands (all_weaker _ (λ c. IsReplacement c.verb) (λ c h. h.replacement) p.commands commands.0);
       transliterations = spelled_transliterations s;
-      expression = s.commands.expression;
-      read = are_names (all_reads p.commands) read.0 (omega (arith, read.1, s.commands.count));
-      written = are_names (all_writes p.commands) written.0 (omega (arith, written.1, s.commands.count));
+      expression = s.commands.allowed.expression;
+      read = are_names (all_reads p.commands) read.0 (omega (arith, read.1, s.commands.allowed.count));
+      written = are_names (all_writes p.commands) written.0 (omega (arith, written.1, s.commands.allowed.count));
       names = omega (arith, read_size, written_size, costs p.commands, commands.1, items.1, s.allowed.fits);
     }

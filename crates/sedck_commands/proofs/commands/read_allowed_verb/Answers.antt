@@ -10,6 +10,10 @@ use Rattle.sedck_commands.proofs.commands.read_allowed_verb.Goals as goal
 pub read_verb-requires : goal.read_verb-requires
 read_verb-requires c = let at = c.in_ok-form.ensures.begins in (at.byte, at.is, at.follows)
 
+pub returns-in_err-form-clause-refused : goal.returns-in_err-form-clause-refused
+returns-in_err-form-clause-refused c =
+    if_err_each _ c.from_residual.result (λ fault memory verb rest x taken. inr (c.in_err-form.ensures.refused verb rest x taken))
+
 pub returns-in_err-verb-clause-refused : goal.returns-in_err-verb-clause-refused
 returns-in_err-verb-clause-refused c =
     let at = c.in_ok-form.ensures.begins in
