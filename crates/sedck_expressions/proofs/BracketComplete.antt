@@ -1,11 +1,13 @@
 -- What is written as a bracket list is read, whatever follows it.
-use Rattle.std.proofs.Common.{◌≡◌, ℕ, ◌≤◌, Bool, true, false, List, [], ◌∷◌, ◌++◌, drop, Some, inl, inr, refl, ap, ◌∙◌, arith, append_assoc}
-use Rattle.std.specs.Prelude.{◌&&◌, ◌⊎◌, not, nat_le, codes, IsTrue}
+use Rattle.std.proofs.Common.{◌≡◌, ℕ, ◌≤◌, Bool, true, false, List, [], ◌∷◌, ◌++◌, drop, Some, inl, inr, refl, ap, ◌∙◌, arith, rules, append_assoc}
+use Rattle.std.specs.Prelude.{◌&&◌, ◌⊎◌, not, nat_le, codes, IsTrue, Contains}
+use Rattle.std.specs.List.{AllByRecursion}
 use Rattle.std.proofs.lemmas.Bool.Decides.{nat_tests}
+use Rattle.std.proofs.lemmas.List.Elements.{All-contains, All-from_recursion}
 use Rattle.sedck_text.specs.Text.{begins}
-use Rattle.sedck_expressions.specs.Brackets.{Class, upper, Element, One, Range, Members, WritesByte, begins_range, WritesElement}
+use Rattle.sedck_expressions.specs.Brackets.{classes, Element, One, Range, Members, WritesByte, begins_range, WritesElement}
 use Rattle.sedck_expressions.specs.Private.Reading.{◌>>=◌}
-use Rattle.sedck_expressions.specs.Private.BracketReading.{symbol_at, byte_at, ranges, no_range, class_from, classes, one, range_or_one, element_at, class_name}
+use Rattle.sedck_expressions.specs.Private.BracketReading.{symbol_at, byte_at, ranges, no_range, class_from, one, range_or_one, element_at}
 use Rattle.sedck_expressions.proofs.BracketLemmas.{plain_before, writes_alike, range_behind}
 
 -- ---- One byte
@@ -62,10 +64,15 @@ range_again first x y v rest a z byte place second no_bracket le =
     ∙ byte_first first x next a wide (first_dash first x next (y ++ v) a wide place)
     ∙ rw (range_dash y v (v ++ 93 ∷ rest) z second no_bracket, byte_again y (v ++ 93 ∷ rest) z (writes_behind y v rest z second), ordered) refl
 
-class_again : (class : Class) (t : List ℕ) → ranges t ≡ false
-    → (class_from classes ((class_name class ++ codes ":]") ++ t) >>= no_range) ≡ Some (Members class, t)
-class_again upper t h = rw h refl
-class_again _ t h = rw h refl
+-- what a class is written as is read as that class
+abbrev IsReadAgain : List ℕ → List ℕ × (ℕ → Bool) → Type 0
+IsReadAgain t class = (class_from classes ((class.0 ++ codes ":]") ++ t) >>= no_range) ≡ Some (Members class, t)
+
+each_again : (t : List ℕ) → ranges t ≡ false → AllByRecursion (IsReadAgain t) classes
+each_again t h = rw h (search rules)
+
+class_again : (class : List ℕ × (ℕ → Bool)) (t : List ℕ) → Contains classes class → ranges t ≡ false → IsReadAgain t class
+class_again class t listed h = All-contains (IsReadAgain t) classes class (All-from_recursion (IsReadAgain t) classes (each_again t h)) listed
 
 same_again : (c : ℕ) (t : List ℕ) → (c ≡ 61 → ⊥) → ranges t ≡ false → (symbol_at 61 (c ∷ 61 ∷ 93 ∷ t) >>= one >>= no_range) ≡ Some (One c, t)
 same_again c t h k = grind (arith, nat_tests)
@@ -77,5 +84,5 @@ element_again first u v rest (One c) (inr same, place, range) =
     ap (λ x. element_at first (x ++ (v ++ 93 ∷ rest))) same.0 ∙ same_again c (v ++ 93 ∷ rest) same.1 (range_behind v rest range)
 element_again first u v rest (Range a z) (x, y, is, place, byte, second, no_bracket, le) =
     ap (λ t. element_at first (t ++ (v ++ 93 ∷ rest))) is ∙ range_again first x y v rest a z byte place.1 second no_bracket le
-element_again first u v rest (Members class) (is, range) =
-    ap (λ t. element_at first (t ++ (v ++ 93 ∷ rest))) is ∙ class_again class (v ++ 93 ∷ rest) (range_behind v rest range)
+element_again first u v rest (Members class) (listed, is, range) =
+    ap (λ t. element_at first (t ++ (v ++ 93 ∷ rest))) is ∙ class_again class (v ++ 93 ∷ rest) listed (range_behind v rest range)

@@ -1,15 +1,16 @@
 -- What is read as a bracket list is written so.
 use Rattle.std.proofs.Common.{◌≡◌, ◌≢◌, ℕ, suc, zero, Bool, true, false, List, [], ◌∷◌, ◌++◌, length, drop, Option, Some, None, IfSome, inl, inr, refl, sym, ap, ◌∙◌, subst, arith, append_assoc, length-append}
-use Rattle.std.specs.Prelude.{◌&&◌, ◌⊎◌, not, nat_eq, nat_le, codes}
+use Rattle.std.specs.Prelude.{◌&&◌, ◌⊎◌, not, nat_eq, nat_le, codes, Contains}
 use Rattle.std.specs.List.{starts_with}
 use Rattle.std.proofs.lemmas.Bool.{false≢true}
 use Rattle.std.proofs.lemmas.Bool.Decides.{nat_tests, Decides-eqb}
+use Rattle.std.proofs.lemmas.List.Elements.{Contains-get_or, Contains-append_right}
 use Rattle.std.proofs.lemmas.Option.{IfSome_then}
 use Rattle.std.proofs.lemmas.Slice.Eq.{starts_is}
 use Rattle.sedck_text.specs.Text.{begins}
-use Rattle.sedck_expressions.specs.Brackets.{Class, Element, One, Members, is_bare, WritesByte, begins_range, IsInPlace, WritesElement, WritesElements}
+use Rattle.sedck_expressions.specs.Brackets.{classes, Element, One, Members, is_bare, WritesByte, begins_range, IsInPlace, WritesElement, WritesElements}
 use Rattle.sedck_expressions.specs.Private.Reading.{◌>>=◌}
-use Rattle.sedck_expressions.specs.Private.BracketReading.{symbol_at, byte_at, ranges, no_range, class_from, classes, one, range_or_one, element_at, last_dash_at, elements_at, class_name}
+use Rattle.sedck_expressions.specs.Private.BracketReading.{symbol_at, byte_at, ranges, no_range, class_from, one, range_or_one, element_at, last_dash_at, elements_at}
 use Rattle.sedck_expressions.proofs.ReadLemmas.{bind_holds, cond_holds, and_left, nat_le_of}
 use Rattle.sedck_expressions.proofs.BracketLemmas.{one_front, plain_before, writes_alike, is_closing_front, range_before}
 
@@ -57,17 +58,18 @@ IsElementBefore first text x = (u : List ℕ) × (text ≡ u ++ x.1)
 range_ends : (v rest after : List ℕ) → after ≡ v ++ 93 ∷ rest → is_closing_front v ≡ false → ranges after ≡ false → begins_range v ≡ false
 range_ends v rest after e h k = range_before v rest h (sym (ap ranges e) ∙ k)
 
--- a class's name and its end are before the rest
-abbrev IsClassBefore : List ℕ → Element × List ℕ → Type 0
-IsClassBefore text x = (c : Class) × (x.0 ≡ Members c) × (text ≡ (class_name c ++ codes ":]") ++ x.1)
+-- the name and the end of one of these classes are before the rest
+abbrev IsClassBefore : List (List ℕ × (ℕ → Bool)) → List ℕ → Element × List ℕ → Type 0
+IsClassBefore cs text x = (c : List ℕ × (ℕ → Bool)) × (x.0 ≡ Members c) × Contains cs c × (text ≡ (c.0 ++ codes ":]") ++ x.1)
 
-class_takes : (cs : List Class) (text : List ℕ) → IfSome (class_from cs text) (IsClassBefore text)
+class_takes : (cs : List (List ℕ × (ℕ → Bool))) (text : List ℕ) → IfSome (class_from cs text) (IsClassBefore cs text)
 class_takes [] text = tt
 class_takes (c ∷ cs) text =
-    let name = class_name c ++ codes ":]" in
+    let name = c.0 ++ codes ":]" in
     let cut = (starts_is Decides-eqb text name (starts_with nat_eq text name) refl).0 in
-    let size = length-append (class_name c) (codes ":]") in
-    cond_holds (starts_with nat_eq text name) _ _ _ (λ h. (c, refl, cut h ∙ ap (λ n. name ++ drop n text) size)) (λ _. class_takes cs text)
+    let size = length-append c.0 (codes ":]") in
+    cond_holds (starts_with nat_eq text name) _ _ _ (λ h. (c, refl, Contains-get_or (c ∷ cs) 0 c (omega arith), cut h ∙ ap (λ n. name ++ drop n text) size))
+    (λ _. IfSome_then (class_from cs text) (class_takes cs text) (λ x (d, is, listed, more). (d, is, Contains-append_right (c ∷ []) cs d listed, more)))
 
 abbrev pub IsFirstBracket : Bool → List ℕ → Type 0
 IsFirstBracket first text = (begins "]" text && not first) ≡ false
@@ -80,10 +82,10 @@ in_place first text u after next e bracket dash = grind (arith, nat_tests)
 class_element : (first : Bool) (text : List ℕ) → text ≡ 91 ∷ 58 ∷ drop 2 text
     → IfSome (class_from classes (drop 2 text) >>= no_range) (IsElementBefore first text)
 class_element first text front =
-    bind_holds _ _ _ (IsClassBefore (drop 2 text)) (class_takes classes (drop 2 text)) (λ x (class, is, cut). cond_holds (ranges x.1) _ _ _ (λ _. tt) (λ k. (
-      codes "[:" ++ class_name class ++ codes ":]",
+    bind_holds _ _ _ (IsClassBefore classes (drop 2 text)) (class_takes classes (drop 2 text)) (λ x (class, is, listed, cut). cond_holds (ranges x.1) _ _ _ (λ _. tt) (λ k. (
+      codes "[:" ++ class.0 ++ codes ":]",
       front ∙ ap (λ t. 91 ∷ 58 ∷ t) cut,
-      λ v rest e closing. subst (WritesElement first (codes "[:" ++ class_name class ++ codes ":]") v) (sym is) (refl, range_ends v rest x.1 e closing k),
+      λ v rest e closing. subst (WritesElement first (codes "[:" ++ class.0 ++ codes ":]") v) (sym is) (listed, refl, range_ends v rest x.1 e closing k),
     )))
 
 same_element : (first : Bool) (text : List ℕ) → text ≡ 91 ∷ 61 ∷ drop 2 text

@@ -3,20 +3,19 @@ use Rattle.std.proofs.Common.{◌≡◌, ℕ, suc, ◌+◌, ◌<◌, Bool, cond,
 use Rattle.std.proofs.Math.Seq.{drop-cons}
 use Rattle.std.specs.Prelude.{nat_eq, codes}
 use Rattle.std.specs.List.{starts_with}
-use Rattle.sedck_expressions.specs.Brackets as brackets
-use Rattle.sedck_expressions.specs.Brackets.{Members}
-use Rattle.sedck_expressions.specs.Private.BracketReading.{class_from, class_name}
+use Rattle.sedck_expressions.specs.Brackets.{Element, Members}
+use Rattle.sedck_expressions.specs.Private.BracketReading.{class_from}
 use Rattle.sedck_expressions.specs.Private.BracketCode.{class_of, closed_name, behind_name}
 use Rattle.sedck_expressions.specs.declared.brackets.elements.Class.{Class}
 
-abbrev class_or : brackets.Class → Option (brackets.Element × List ℕ) → Option (List ℕ) → Option (brackets.Element × List ℕ)
+abbrev class_or : List ℕ × (ℕ → Bool) → Option (Element × List ℕ) → Option (List ℕ) → Option (Element × List ℕ)
 class_or class others None = others
 class_or class others (Some rest) = Some (Members class, rest)
 
 -- one class before others
-class_step : (class : brackets.Class) (cs : List brackets.Class) (text : List ℕ)
+class_step : (class : List ℕ × (ℕ → Bool)) (cs : List (List ℕ × (ℕ → Bool))) (text : List ℕ)
     → class_from (class ∷ cs) text ≡ class_or class (class_from cs text) (behind_name class text)
-class_step class cs text = rw (← length-append (class_name class) (codes ":]")) (go (starts_with nat_eq text (closed_name class)))
+class_step class cs text = rw (← length-append class.0 (codes ":]")) (go (starts_with nat_eq text (closed_name class)))
   where
     go : (b : Bool) → cond b (Some (Members class, drop (length (closed_name class)) text)) (class_from cs text) ≡ class_or class (class_from cs text)
         (cond b (Some (drop (length (closed_name class)) text)) None)

@@ -1,5 +1,5 @@
 -- Bracket lists (XBD 9.3.5).
-use Rattle.std.specs.Prelude.{◌≡◌, ◌≢◌, ℕ, ◌≤◌, ◌==◌, Bool, true, false, not, ◌&&◌, ◌||◌, nat_eq, nat_le, IsTrue, if◌then◌else◌, List, [], ◌∷◌, ◌++◌, codes, ◌⊎◌}
+use Rattle.std.specs.Prelude.{◌≡◌, ◌≢◌, ℕ, ◌≤◌, ◌==◌, Bool, true, false, not, ◌&&◌, ◌||◌, nat_eq, nat_le, IsTrue, if◌then◌else◌, List, [], ◌∷◌, ◌++◌, codes, ◌⊎◌, Contains}
 use Rattle.std.specs.List.{list_any, ends_with}
 use Rattle.sedck_text.specs.Bytes.{tab, newline, carriage_return, backslash, ascii}
 use Rattle.sedck_text.specs.Bytes as bytes
@@ -7,39 +7,26 @@ use Rattle.sedck_text.specs.Text.{begins}
 use Rattle.sedck_text.specs.Classes.{is_digit, is_letter}
 use Rattle.sedck_expressions.specs.Tree.{bytes_where}
 
--- the character classes of the POSIX locale
-pub data Class : Type 0 where
-  upper : Class
-  lower : Class
-  alpha : Class
-  digit : Class
-  alnum : Class
-  xdigit : Class
-  space : Class
-  blank : Class
-  punct : Class
-  graph : Class
-  print : Class
-  cntrl : Class
-
 -- the byte is from a to z, both included
 abbrev pub is_from : ℕ → ℕ → ℕ → Bool
 is_from a z b = nat_le a b && nat_le b z
 
--- the name of each, and its bytes (XBD 7.3.1)
-abbrev pub class_row : Class → List ℕ × (ℕ → Bool)
-class_row upper = (codes "upper", is_from (ascii "A") (ascii "Z"))
-class_row lower = (codes "lower", is_from (ascii "a") (ascii "z"))
-class_row alpha = (codes "alpha", is_letter)
-class_row digit = (codes "digit", is_digit)
-class_row alnum = (codes "alnum", λ b. is_digit b || is_from (ascii "A") (ascii "Z") b || is_from (ascii "a") (ascii "z") b)
-class_row xdigit = (codes "xdigit", λ b. is_digit b || is_from (ascii "A") (ascii "F") b || is_from (ascii "a") (ascii "f") b)
-class_row space = (codes "space", λ b. is_from tab carriage_return b || (b == bytes.space))
-class_row blank = (codes "blank", λ b. (b == tab) || (b == bytes.space))
-class_row punct = (codes "punct", λ b. is_from (ascii "!") (ascii "/") b || is_from (ascii ":") (ascii "@") b || is_from (ascii "[") (ascii "`") b || is_from (ascii "{") (ascii "~") b)
-class_row graph = (codes "graph", is_from (ascii "!") (ascii "~"))
-class_row print = (codes "print", is_from bytes.space (ascii "~"))
-class_row cntrl = (codes "cntrl", λ b. is_from 0 31 b || (b == 127))
+-- the character classes of the POSIX locale: the name of each, and its bytes (XBD 7.3.1)
+abbrev pub classes : List (List ℕ × (ℕ → Bool))
+classes =
+    (codes "upper", is_from (ascii "A") (ascii "Z"))
+    ∷ (codes "lower", is_from (ascii "a") (ascii "z"))
+    ∷ (codes "alpha", is_letter)
+    ∷ (codes "digit", is_digit)
+    ∷ (codes "alnum", λ b. is_digit b || is_from (ascii "A") (ascii "Z") b || is_from (ascii "a") (ascii "z") b)
+    ∷ (codes "xdigit", λ b. is_digit b || is_from (ascii "A") (ascii "F") b || is_from (ascii "a") (ascii "f") b)
+    ∷ (codes "space", λ b. is_from tab carriage_return b || (b == bytes.space))
+    ∷ (codes "blank", λ b. (b == tab) || (b == bytes.space))
+    ∷ (codes "punct", λ b. is_from (ascii "!") (ascii "/") b || is_from (ascii ":") (ascii "@") b || is_from (ascii "[") (ascii "`") b || is_from (ascii "{") (ascii "~") b)
+    ∷ (codes "graph", is_from (ascii "!") (ascii "~"))
+    ∷ (codes "print", is_from bytes.space (ascii "~"))
+    ∷ (codes "cntrl", λ b. is_from 0 31 b || (b == 127))
+    ∷ []
 
 -- an element of a bracket list
 pub data Element : Type 0 where
@@ -48,12 +35,12 @@ pub data Element : Type 0 where
   -- the bytes from the first to the second
   Range : ℕ → ℕ → Element
   -- the bytes of a class
-  Members : Class → Element
+  Members : List ℕ × (ℕ → Bool) → Element
 
 abbrev pub in_element : ℕ → Element → Bool
 in_element b (One c) = b == c
 in_element b (Range a z) = is_from a z b
-in_element b (Members class) = (class_row class).1 b
+in_element b (Members class) = class.1 b
 
 -- A byte that stands for itself before the text next: a bare `[` begins neither `[:`, `[.` nor `[=`, and a bare `\` neither `\n`
 -- nor `\\`. Before `c`, `d`, `o` and `x` a backslash has no meaning here (ours), since GNU sed reads `\cX`, `\dNNN`, `\oNNN`
@@ -92,7 +79,7 @@ WritesElement first text next (Range a z) =
     (u v : List ℕ) × (text ≡ u ++ codes "-" ++ v) × IsInPlace first u (codes "-" ++ v ++ next)
     × WritesByte u (codes "-" ++ v ++ next) a × WritesByte v next z × (v ≢ codes "]") × (a ≤ z)
 WritesElement first text next (Members class) =
-    (text ≡ codes "[:" ++ (class_row class).0 ++ codes ":]") × (begins_range next ≡ false)
+    Contains classes class × (text ≡ codes "[:" ++ class.0 ++ codes ":]") × (begins_range next ≡ false)
 
 -- the text writes the elements, one after another
 abbrev pub WritesElements : Bool → List ℕ → List Element → Type 0

@@ -1,11 +1,12 @@
 -- A walk through a bracket list of the grammar ends with it.
-use Rattle.std.proofs.Common.{◌≡◌, ◌≢◌, ℕ, Bool, true, false, eqb, cond, List, [], ◌∷◌, ◌++◌, refl, ap, sym, ◌∙◌, subst, inl, inr, ◌⊎◌, arith, append_assoc}
-use Rattle.std.specs.Prelude.{IsTrue}
+use Rattle.std.proofs.Common.{◌≡◌, ◌≢◌, ℕ, Bool, true, false, eqb, cond, List, [], ◌∷◌, ◌++◌, refl, ap, sym, ◌∙◌, subst, inl, inr, ◌⊎◌, arith, rules, append_assoc}
+use Rattle.std.specs.Prelude.{IsTrue, Contains}
+use Rattle.std.specs.List.{AllByRecursion}
 use Rattle.std.proofs.lemmas.Bool.{false≢true, eq-eqb}
 use Rattle.std.proofs.lemmas.Bool.Decides.{nat_tests}
+use Rattle.std.proofs.lemmas.List.Elements.{All-contains, All-from_recursion}
 use Rattle.sedck_text.specs.Text.{begins, one_of}
-use Rattle.sedck_expressions.specs.Brackets as b
-use Rattle.sedck_expressions.specs.Brackets.{Class, Element, One, Range, Members, class_row, is_bare, WritesByte, WritesElement, WritesElements, IsBracketList}
+use Rattle.sedck_expressions.specs.Brackets.{classes, Element, One, Range, Members, is_bare, WritesByte, WritesElement, WritesElements, IsBracketList}
 use Rattle.sedck_plain.specs.WrittenLists.{after, after_member, is_in_list, lists_from}
 use Rattle.sedck_plain.specs.declared.written.Position.{Position}
 use Rattle.sedck_plain.specs.declared.written.Position.TheVariants.{Outside, Opened, Negated, Inside, Bracket, Symbol}
@@ -83,19 +84,18 @@ pass_written first p c text next ready (inr (inr (inr (is, n)))) h =
 
 -- ---- Elements
 
-pass_class : (class : Class) → Passes Bracket (58 ∷ (class_row class).0 ++ 58 ∷ 93 ∷ []) Inside
-pass_class b.upper v = refl
-pass_class b.lower v = refl
-pass_class b.alpha v = refl
-pass_class b.digit v = refl
-pass_class b.alnum v = refl
-pass_class b.xdigit v = refl
-pass_class b.space v = refl
-pass_class b.blank v = refl
-pass_class b.punct v = refl
-pass_class b.graph v = refl
-pass_class b.print v = refl
-pass_class b.cntrl v = refl
+-- what follows the bracket of a class
+abbrev class_text : List ℕ × (ℕ → Bool) → List ℕ
+class_text class = 58 ∷ class.0 ++ 58 ∷ 93 ∷ []
+
+abbrev PassesClass : List ℕ → List ℕ × (ℕ → Bool) → Type 0
+PassesClass v class = lists_from Bracket (class_text class ++ v) ≡ class_text class ++ lists_from Inside v
+
+pass_classes : (v : List ℕ) → AllByRecursion (PassesClass v) classes
+pass_classes v = search rules
+
+pass_class : (class : List ℕ × (ℕ → Bool)) → Contains classes class → Passes Bracket (class_text class) Inside
+pass_class class listed v = All-contains (PassesClass v) classes class (All-from_recursion (PassesClass v) classes (pass_classes v)) listed
 
 -- the hyphen of a range
 pass_hyphen : (q : Position) (text : List ℕ) → IsReady false q (45 ∷ text) → Passes q (45 ∷ []) Inside
@@ -115,11 +115,11 @@ pass_element first p (Range a z) text next ready (u, v, is, place, from, to, oth
     let end = pass_written false Inside z v next (inl refl) to (λ e. absurd (other e)) in
     let both = pass_more head.0 Inside end.0 (45 ∷ []) v hyphen end.1 in
     (end.0, subst (λ t. Passes p t end.0) (sym all) (pass_more p head.0 end.0 u (45 ∷ v) head.1 both), end.2)
-pass_element first p (Members class) text next ready (is, range) =
+pass_element first p (Members class) text next ready (listed, is, range) =
     let here = subst (λ t. IsReady first p (t ++ next)) is ready in (
       Inside,
-      subst (λ t. Passes p t Inside) (sym is) (pass_more p Bracket Inside (91 ∷ []) (58 ∷ (class_row class).0 ++ 58 ∷ 93 ∷ [])
-          (pass_step first p 91 _ here (λ e. absurd (omega arith))) (pass_class class)),
+      subst (λ t. Passes p t Inside) (sym is) (pass_more p Bracket Inside (91 ∷ []) (class_text class)
+          (pass_step first p 91 _ here (λ e. absurd (omega arith))) (pass_class class listed)),
       inl refl,
     )
 

@@ -1,9 +1,8 @@
 -- How the code's values relate to what is read of a bracket list.
-use Rattle.std.specs.Prelude.{◌≡◌, ℕ, ◌-◌, ◌<◌, ◌≤◌, not, Bool, List, ◌++◌, codes, length, drop, nat_eq, if◌then◌else◌, Option, Some, None, Result, Ok, Err}
+use Rattle.std.specs.Prelude.{◌≡◌, ℕ, ◌-◌, ◌<◌, ◌≤◌, not, Bool, false, List, [], ◌++◌, codes, length, drop, nat_eq, slice_index_or, if◌then◌else◌, Option, Some, None, Result, Ok, Err}
 use Rattle.std.specs.List.{list_any, starts_with}
 use Rattle.sedck_expressions.specs.Brackets as brackets
-use Rattle.sedck_expressions.specs.Brackets.{class_row, in_element}
-use Rattle.sedck_expressions.specs.Private.BracketReading.{class_name}
+use Rattle.sedck_expressions.specs.Brackets.{classes, in_element}
 use Rattle.sedck_expressions.specs.Faults.{HasOneAt}
 use Rattle.sedck_expressions.specs.Private.Sets.{HasJust}
 use Rattle.sedck_expressions.specs.declared.brackets.elements.Class.{Class}
@@ -13,22 +12,23 @@ use Rattle.sedck_expressions.specs.declared.brackets.symbols.Flaw.{Flaw}
 use Rattle.sedck_expressions.specs.declared.brackets.symbols.Flaw.TheVariants.{Escape}
 use Rattle.sedck_expressions.specs.declared.brackets.elements.Element.TheVariants.{One, Range, Members}
 
-abbrev pub class_of : Class → brackets.Class
-class_of Upper = brackets.upper
-class_of Lower = brackets.lower
-class_of Alpha = brackets.alpha
-class_of Digit = brackets.digit
-class_of Alnum = brackets.alnum
-class_of Xdigit = brackets.xdigit
-class_of Space = brackets.space
-class_of Blank = brackets.blank
-class_of Punct = brackets.punct
-class_of Graph = brackets.graph
-class_of Print = brackets.print
-class_of Cntrl = brackets.cntrl
+-- the row of the table
+abbrev pub row_at : ℕ → List ℕ × (ℕ → Bool)
+row_at i = slice_index_or classes i ([], λ b. false)
 
-abbrev pub in_class : brackets.Class → ℕ → Bool
-in_class class = (class_row class).1
+abbrev pub class_of : Class → List ℕ × (ℕ → Bool)
+class_of Upper = row_at 0
+class_of Lower = row_at 1
+class_of Alpha = row_at 2
+class_of Digit = row_at 3
+class_of Alnum = row_at 4
+class_of Xdigit = row_at 5
+class_of Space = row_at 6
+class_of Blank = row_at 7
+class_of Punct = row_at 8
+class_of Graph = row_at 9
+class_of Print = row_at 10
+class_of Cntrl = row_at 11
 
 abbrev pub element_of : Element → brackets.Element
 element_of (One c) = brackets.One c
@@ -36,11 +36,11 @@ element_of (Range a z) = brackets.Range a z
 element_of (Members class) = brackets.Members (class_of class)
 
 -- what a class's name and the `:]` after it are
-abbrev pub closed_name : brackets.Class → List ℕ
-closed_name class = class_name class ++ codes ":]"
+abbrev pub closed_name : List ℕ × (ℕ → Bool) → List ℕ
+closed_name class = class.0 ++ codes ":]"
 
 -- what follows the closed name, if it is at the start
-abbrev pub behind_name : brackets.Class → List ℕ → Option (List ℕ)
+abbrev pub behind_name : List ℕ × (ℕ → Bool) → List ℕ → Option (List ℕ)
 behind_name class text = if starts_with nat_eq text (closed_name class) then Some (drop (length (closed_name class)) text) else None
 
 -- what a function returned, seen by view, is what is read

@@ -3,7 +3,7 @@ use Rattle.std.specs.Prelude.{ℕ, zero, suc, ◌+◌, ◌-◌, ◌==◌, nat_eq
 use Rattle.std.specs.List.{starts_with}
 use Rattle.sedck_text.specs.Text.{begins}
 use Rattle.sedck_expressions.specs.Tree.{bytes_where}
-use Rattle.sedck_expressions.specs.Brackets.{Class, upper, lower, alpha, digit, alnum, xdigit, space, blank, punct, graph, print, cntrl, class_row, Element, One, Range, Members, is_mistakable, is_listed}
+use Rattle.sedck_expressions.specs.Brackets.{classes, Element, One, Range, Members, is_mistakable, is_listed}
 use Rattle.sedck_expressions.specs.Private.Reading.{◌>>=◌}
 
 -- one byte that isn't the mark, the mark and a `]`
@@ -36,16 +36,11 @@ ranges _ = false
 abbrev pub no_range : Element × List ℕ → Option (Element × List ℕ)
 no_range (e, text) = if ranges text then None else Some (e, text)
 
-abbrev pub class_name : Class → List ℕ
-class_name class = (class_row class).0
-
-abbrev pub class_from : List Class → List ℕ → Option (Element × List ℕ)
+-- the first of these classes whose name and end the text begins with
+abbrev pub class_from : List (List ℕ × (ℕ → Bool)) → List ℕ → Option (Element × List ℕ)
 class_from [] text = None
 class_from (c ∷ cs) text =
-    if starts_with nat_eq text (class_name c ++ codes ":]") then Some (Members c, drop (length (class_name c) + 2) text) else class_from cs text
-
-abbrev pub classes : List Class
-classes = upper ∷ lower ∷ alpha ∷ digit ∷ alnum ∷ xdigit ∷ space ∷ blank ∷ punct ∷ graph ∷ print ∷ cntrl ∷ []
+    if starts_with nat_eq text (c.0 ++ codes ":]") then Some (Members c, drop (length c.0 + 2) text) else class_from cs text
 
 abbrev pub one : ℕ × List ℕ → Option (Element × List ℕ)
 one (c, text) = Some (One c, text)

@@ -2,10 +2,10 @@
 
 ghost use Rattle.std.specs.Prelude.{◌≡◌, ℕ, ◌==◌, ◌≤◌, length, drop, true, IsTrue, IfOk, IfErr, Err};
 ghost use Rattle.sedck_text.specs.Text.{begins};
-ghost use Rattle.sedck_expressions.specs.Brackets.{in_element, punct};
+ghost use Rattle.sedck_expressions.specs.Brackets.{in_element};
 ghost use Rattle.sedck_expressions.specs.Private.Sets.{HasJust};
 ghost use Rattle.sedck_expressions.specs.Private.BracketReading.{ranges, no_range, range_end_at, byte_or_range_at, whole_class_at, equivalents_at, last_dash_at, element_at};
-ghost use Rattle.sedck_expressions.specs.Private.BracketCode.{class_of, element_of, in_class, closed_name, Reads, IsTaken, HasNoEscape, IsFlawIn};
+ghost use Rattle.sedck_expressions.specs.Private.BracketCode.{class_of, element_of, closed_name, Reads, IsTaken, HasNoEscape, IsFlawIn};
 
 use super::sets::{range, union};
 use super::symbols::{Flaw, missing_end, read_byte, read_class, read_symbol};
@@ -68,7 +68,7 @@ fn single(byte: u8) -> ByteSet
 
 /// The bytes of the class.
 fn class_members(class: Class) -> ByteSet
-    ensures { HasJust result.0 (in_class (class_of class)) }
+    ensures { HasJust result.0 (class_of class).1 }
 {
     match class {
         Class::Upper => range(b'A', b'Z'),
@@ -93,7 +93,7 @@ fn class_members(class: Class) -> ByteSet
 }
 
 fn punctuation() -> ByteSet
-    ensures { HasJust result.0 (in_class punct) }
+    ensures { HasJust result.0 (class_of Class.Punct).1 }
 {
     let low = union(range(33, 47), range(58, 64));
     union(union(low, range(91, 96)), range(123, 126))

@@ -2,7 +2,8 @@
 
 ghost use Rattle.std.specs.Prelude.{◌≡◌, ◌≤◌, true, false, length, drop, IfOk, IfErr, IfSome, Err};
 ghost use Rattle.std.specs.Option.{option_map};
-ghost use Rattle.sedck_expressions.specs.Private.BracketReading.{classes, class_from, symbol_at, opened_at, escaped_at, byte_at};
+ghost use Rattle.sedck_expressions.specs.Brackets.{classes};
+ghost use Rattle.sedck_expressions.specs.Private.BracketReading.{class_from, symbol_at, opened_at, escaped_at, byte_at};
 ghost use Rattle.sedck_text.specs.Text.{begins};
 ghost use Rattle.sedck_expressions.specs.Private.BracketCode.{class_of, element_of, behind_name, Reads, IsTaken, HasNoEscape, IsFlawIn};
 

@@ -1,5 +1,6 @@
 use Rattle.std.proofs.Common.{◌≡◌, map, drop}
-use Rattle.sedck_expressions.specs.Private.BracketReading.{classes, class_from}
+use Rattle.sedck_expressions.specs.Brackets.{classes}
+use Rattle.sedck_expressions.specs.Private.BracketReading.{class_from}
 use Rattle.sedck_expressions.specs.Private.BracketCode.{class_of}
 use Rattle.sedck_expressions.proofs.brackets.symbols.read_class.Given as goal
 
