@@ -28,13 +28,10 @@ classes =
     ∷ (codes "cntrl", λ b. is_from 0 31 b || (b == 127))
     ∷ []
 
--- an element of a bracket list
+-- an element of a bracket list: one byte, the bytes from the first to the second, or those of a class
 pub data Element : Type 0 where
-  -- one byte
   One : ℕ → Element
-  -- the bytes from the first to the second
   Range : ℕ → ℕ → Element
-  -- the bytes of a class
   Members : List ℕ × (ℕ → Bool) → Element
 
 abbrev pub in_element : ℕ → Element → Bool
@@ -42,14 +39,10 @@ in_element b (One c) = b == c
 in_element b (Range a z) = is_from a z b
 in_element b (Members class) = class.1 b
 
--- A byte that stands for itself before the text next: a bare `[` begins neither `[:`, `[.` nor `[=`, and a bare `\` neither `\n`
--- nor `\\`. Before `c`, `d`, `o` and `x` a backslash has no meaning here (ours), since GNU sed reads `\cX`, `\dNNN`, `\oNNN`
--- and `\xHH` as a byte before it looks for the end of the list.
+-- A byte that stands for itself before the text next: a bare `[` begins neither `[:`, `[.` nor `[=`, and a bare `\` neither `\n` nor `\\`, nor (ours) `\c`,
+-- `\d`, `\o` or `\x`, since GNU sed reads `\cX`, `\dNNN`, `\oNNN` and `\xHH` as a byte before it looks for the end of the list.
 abbrev pub is_bare : ℕ → List ℕ → Bool
-is_bare c next =
-    if c == ascii "[" then not (begins ":.=" next)
-    else if c == backslash then not (begins "n\\cdox" next)
-    else true
+is_bare c next = not (((c == ascii "[") && begins ":.=" next) || ((c == backslash) && begins "n\\cdox" next))
 
 -- The text writes one byte, before the text next: itself, a collating symbol `[.c.]`, or, as in XCU sed, `\n` or `\\`. No
 -- symbol is `[...]` (ours): GNU sed doesn't see its end when it looks for the delimiter after the list.
@@ -67,11 +60,9 @@ begins_range _ = false
 
 -- a bare `]` is first, and a bare `-` first or last
 abbrev pub IsInPlace : Bool → List ℕ → List ℕ → Type 0
-IsInPlace first text next =
-    (text ≡ codes "]" → IsTrue first) × (text ≡ codes "-" → IsTrue first ⊎ (next ≡ []))
+IsInPlace first text next = (text ≡ codes "]" → IsTrue first) × (text ≡ codes "-" → IsTrue first ⊎ (next ≡ []))
 
--- The text writes the element, before the text next; the flag says that it is the first of its list. No equivalence class is
--- `[===]`, for the same reason (ours).
+-- The text writes the element before the text next; the flag says that it is first in its list. No equivalence class is `[===]`, for the same reason (ours).
 abbrev pub WritesElement : Bool → List ℕ → List ℕ → Element → Type 0
 WritesElement first text next (One c) =
     (WritesByte text next c ⊎ ((text ≡ codes "[=" ++ c ∷ codes "=]") × (c ≢ ascii "="))) × IsInPlace first text next × (begins_range next ≡ false)
@@ -84,22 +75,16 @@ WritesElement first text next (Members class) =
 -- the text writes the elements, one after another
 abbrev pub WritesElements : Bool → List ℕ → List Element → Type 0
 WritesElements first text [] = text ≡ []
-WritesElements first text (e ∷ es) =
-    (u v : List ℕ) × (text ≡ u ++ v) × WritesElement first u v e × WritesElements false v es
+WritesElements first text (e ∷ es) = (u v : List ℕ) × (text ≡ u ++ v) × WritesElement first u v e × WritesElements false v es
 
 -- a class, an equivalence class or a collating symbol is in the text of a list
 abbrev pub has_symbol : List ℕ → Bool
 has_symbol [] = false
 has_symbol (c ∷ text) = ((c == ascii "[") && begins ":.=" text) || has_symbol text
 
--- the text of a list ends in `[` or `[^`
-abbrev pub ends_open : List ℕ → Bool
-ends_open text = ends_with nat_eq text (codes "[") || ends_with nat_eq text (codes "[^")
-
--- BusyBox takes a list for closed after a class or a symbol where `[` or `[^` is last in it, and that for the beginning of
--- another list. Such a list is refused (ours).
+-- BusyBox takes a list for closed after a class or a symbol, and a `[` or `[^` that is last in it for the beginning of another. Such a list is refused (ours).
 abbrev pub is_mistakable : List ℕ → Bool
-is_mistakable text = ends_open text && has_symbol text
+is_mistakable text = (ends_with nat_eq text (codes "[") || ends_with nat_eq text (codes "[^")) && has_symbol text
 
 -- whether a byte is a member of the list, or of its complement
 abbrev pub is_listed : Bool → List Element → ℕ → Bool
