@@ -22,7 +22,7 @@ classes =
     ∷ (codes "xdigit", λ b. is_digit b || is_from (ascii "A") (ascii "F") b || is_from (ascii "a") (ascii "f") b)
     ∷ (codes "space", λ b. is_from tab carriage_return b || (b == bytes.space))
     ∷ (codes "blank", λ b. (b == tab) || (b == bytes.space))
-    ∷ (codes "punct", λ b. is_from (ascii "!") (ascii "/") b || is_from (ascii ":") (ascii "@") b || is_from (ascii "[") (ascii "`") b || is_from (ascii "{") (ascii "~") b)
+    ∷ (codes "punct", λ b. is_from (ascii "!") (ascii "~") b && not (is_letter b || is_digit b))
     ∷ (codes "graph", is_from (ascii "!") (ascii "~"))
     ∷ (codes "print", is_from bytes.space (ascii "~"))
     ∷ (codes "cntrl", λ b. is_from 0 31 b || (b == 127))
