@@ -10,8 +10,7 @@ use Rattle.sedck_expressions.specs.Faults.{HasOneAt}
 use Rattle.sedck_expressions.specs.Private.Reading.{begins_pair}
 use Rattle.sedck_expressions.proofs.OffsetLemmas.{stands_at, stands_behind}
 use Rattle.sedck_expressions.specs.Tree.{Tree, Trees, Then, Nil, Seq, Group, Repeat}
-use Rattle.sedck_expressions.specs.WellFormed.{AreSound}
-use Rattle.sedck_expressions.specs.Shape.{Level, Position, SpellsItem, SpellsItems, SpellsCount, behind}
+use Rattle.sedck_expressions.specs.Shape.{Level, Position, SpellsItems, SpellsCount, behind}
 use Rattle.sedck_expressions.specs.Misjudged.{has_part, one_has_part, is_reference, is_anchor, repeats_anchor, has_misjudged_reference, is_misjudged, IsMisjudgedAt}
 use Rattle.sedck_expressions.specs.Private.Along.{HasNone, StopsAt}
 use Rattle.sedck_expressions.specs.declared.fault.ReFault.{ReFault}
@@ -24,19 +23,17 @@ pub record IsLeft (sought : Sought) (level : Level) (after text : List ℕ) (all
   pub own : List ℕ
   pub cut : text ≡ own ++ after
   pub spelled : SpellsItems level position own ts
-  pub sound : AreSound ts
   pub references : IsTrue sought.references → one_has_part is_reference ts ≡ one_has_part is_reference all
   pub anchors : IsTrue sought.anchors → one_has_part is_anchor ts ≡ one_has_part is_anchor all
   pub repeated : one_has_part repeats_anchor ts ≡ one_has_part repeats_anchor all
 
 pub left_first : (sought : Sought) (level : Level) (position : Position) (own after text : List ℕ) (ts : Trees) → text ≡ own ++ after
-    → SpellsItems level position own ts → AreSound ts → IsLeft sought level after text ts ts
-left_first sought level position own after text ts cut spelled sound = record {
+    → SpellsItems level position own ts → IsLeft sought level after text ts ts
+left_first sought level position own after text ts cut spelled = record {
   position = position;
   own = own;
   cut = cut;
   spelled = spelled;
-  sound = sound;
   references = λ _. refl;
   anchors = λ _. refl;
   repeated = refl;
@@ -50,7 +47,6 @@ left_more more t ts left is none = record {
   own = left.spelled.1;
   cut = is;
   spelled = left.spelled.4;
-  sound = left.sound.1;
   references = λ s. sym (ap (λ b. b || one_has_part is_reference ts) (none.references s)) ∙ left.references s;
   anchors = λ s. sym (ap (λ b. b || one_has_part is_anchor ts) (none.anchors s)) ∙ left.anchors s;
   repeated = sym (ap (λ b. b || one_has_part repeats_anchor ts) none.repeated) ∙ left.repeated;

@@ -12,7 +12,6 @@ use Rattle.sedck_expressions.specs.Shape.{is_empty, IsNumber, SpellsCount}
 use Rattle.sedck_expressions.specs.Private.Reading.{begins_pair}
 use Rattle.sedck_expressions.specs.Private.IntervalReading.{digits_at, number_of, number_at, bounds_of, interval_at}
 use Rattle.sedck_expressions.proofs.ReadLemmas.{bind_holds, cond_holds, and_left, pair_text, IsIntervalBefore}
-use Rattle.sedck_expressions.specs.WellFormed.{AreBounds}
 use Rattle.std.proofs.lemmas.Option.{IfSome_then}
 
 -- the digits are cut off the text in no other way
@@ -42,21 +41,21 @@ regroup m n r = simp append_assoc
 -- what follows the first number of an interval is before the rest, and ends an interval of these bounds
 abbrev IsEndBefore : ℕ → List ℕ → ℕ × Option ℕ × List ℕ → Type 0
 IsEndBefore least text x = (v : List ℕ) × (text ≡ v ++ x.2)
-    × ((m : List ℕ) → IsNumber m least → SpellsCount (codes "\\{" ++ m ++ v) x.0 x.1) × AreBounds x.0 x.1
+    × ((m : List ℕ) → IsNumber m least → SpellsCount (codes "\\{" ++ m ++ v) x.0 x.1)
 
-bounds_take : (least : ℕ) (text : List ℕ) → least ≤ 255 → IfSome (bounds_of (least, text)) (IsEndBefore least text)
-bounds_take least text few =
+bounds_take : (least : ℕ) (text : List ℕ) → IfSome (bounds_of (least, text)) (IsEndBefore least text)
+bounds_take least text =
     cond_holds (begins_pair 125 text) _ _ _
-    (λ e. (codes "\\}", pair_text 125 text e, (λ m h. inl (m, h, refl, refl)), (omega arith, few)))
+    (λ e. (codes "\\}", pair_text 125 text e, λ m h. inl (m, h, refl, refl)))
     (λ _. cond_holds (begins "," text) _ _ _
     (λ c. let comma = λ (t : List ℕ) (is : drop 1 text ≡ t). comma_text text c ∙ ap (λ t. 44 ∷ t) is in
     cond_holds (begins_pair 125 (drop 1 text)) _ _ _
-    (λ e. (codes ",\\}", comma _ (pair_text 125 (drop 1 text) e), (λ m h. inr (m, h, refl)), few))
+    (λ e. (codes ",\\}", comma _ (pair_text 125 (drop 1 text) e), λ m h. inr (m, h, refl)))
     (λ _. bind_holds _ _ _ (IsNumberBefore (drop 1 text)) (number_takes (drop 1 text)) (λ y (n, cut, number).
     cond_holds (begins_pair 125 y.1 && nat_le least y.0) _ _ _
     (λ e. let both : (begins_pair 125 y.1 ≡ true) × (least ≤ y.0) = grind (arith, nat_tests) in
     let is = cut ∙ ap (λ t. n ++ t) (pair_text 125 y.1 both.0) ∙ sym (append_assoc n (codes "\\}") (drop 2 y.1)) in
-    (codes "," ++ n ++ codes "\\}", comma _ is, (λ m h. inr (m, n, h, number, both.1, simp append_assoc)), (both.1, number.3)))
+    (codes "," ++ n ++ codes "\\}", comma _ is, λ m h. inr (m, n, h, number, both.1, simp append_assoc)))
     (λ _. tt))))
     (λ _. tt))
 
@@ -64,9 +63,9 @@ pub interval_takes : (text : List ℕ) → IfSome (interval_at text) (IsInterval
 unfolding interval_at
 interval_takes text = cond_holds (begins_pair 123 text) _ _ _
     (λ b. bind_holds _ _ _ (IsNumberBefore (drop 2 text)) (number_takes (drop 2 text)) (λ x (m, cut, number).
-    IfSome_then (bounds_of x) (bounds_take x.0 x.1 number.3) (λ y (v, behind, spells, bounds).
+    IfSome_then (bounds_of x) (bounds_take x.0 x.1) (λ y (v, behind, spells).
     let is = pair_text 123 text b ∙ ap (λ t. 92 ∷ 123 ∷ t) (cut ∙ ap (λ t. m ++ t) behind ∙ sym (append_assoc m v y.2)) in
-    (codes "\\{" ++ m ++ v, is, spells m number, bounds))))
+    (codes "\\{" ++ m ++ v, is, spells m number))))
     (λ _. tt)
 
 number_again : (m rest : List ℕ) (n : ℕ) → IsNumber m n → IsEmptyOr (λ b. not (is_digit b)) rest → number_at (m ++ rest) ≡ Some (n, rest)

@@ -31,7 +31,7 @@ bracket_begins place text u tail is = grind (arith, nat_tests)
 
 pub item_front : (t : Tree) (level : Level) (place : Position) (text w tail : List ℕ) → SpellsItem level place text w t → Front place (text ++ tail)
 item_front (Byte c) level place text w tail h = byte_front place text w c tail h
-item_front (Set words) level place text w tail h = let b = bracket_front text words h in bracket_begins place text b.0 tail b.1
+item_front (Set words) level place text w tail h = let b = bracket_front text words h.0 in bracket_begins place text b.0 tail b.1
 item_front (Repeat body least most) level place text w tail h =
     subst (Front place) (sym (ap (λ x. x ++ tail) h.2 ∙ append_assoc h.0 h.1 tail)) (item_front body level place h.0 (h.1 ++ w) (h.1 ++ tail) h.4)
 item_front t level place text w tail h = grind (arith, nat_tests)

@@ -5,7 +5,7 @@ use Rattle.std.proofs.lemmas.Bool.Decides.{nat_tests}
 use Rattle.sedck_text.specs.Text.{begins}
 use Rattle.sedck_expressions.specs.Private.Numbering.{CountsFrom}
 use Rattle.sedck_expressions.specs.Tree.{Tree, Trees, Seq, Then, groups_in, groups_in_all, depth}
-use Rattle.sedck_expressions.specs.WellFormed.{RefersBack, IsSound, AreBounds}
+use Rattle.sedck_expressions.specs.WellFormed.{RefersBack}
 use Rattle.sedck_expressions.specs.Shape.{is_empty, SpellsCount, IsRepeatable}
 use Rattle.sedck_expressions.specs.Brackets.{IsBracketList}
 use Rattle.sedck_expressions.specs.Private.Reading.{◌>>=◌, Readers, begins_pair, is_repeatable}
@@ -33,7 +33,7 @@ IsListBefore text x = (u : List ℕ) × (text ≡ u ++ x.1) × IsBracketList u x
 
 -- and an interval is
 abbrev pub IsIntervalBefore : List ℕ → ℕ × Option ℕ × List ℕ → Type 0
-IsIntervalBefore text x = (u : List ℕ) × (text ≡ u ++ x.2) × SpellsCount u x.0 x.1 × AreBounds x.0 x.1
+IsIntervalBefore text x = (u : List ℕ) × (text ≡ u ++ x.2) × SpellsCount u x.0 x.1
 
 -- what is read as a bracket list is one, and an interval is one
 pub record Takes (readers : Readers) : Type 0 where
@@ -62,7 +62,6 @@ length_some u h = grind arith
 pub record Fit (deep opened : ℕ) (closed : List ℕ) (t : Tree) : Type 0 where
   pub counted : CountsFrom (opened + 1) (groups_in t)
   pub back : RefersBack closed t
-  pub sound : IsSound t
   pub few : opened + length (groups_in t) ≤ 99
   pub shallow : deep + depth t ≤ 32
 

@@ -74,7 +74,7 @@ module _ (readers : Readers) (reads : Reads readers) where
       let limits : (nat_lt s.deep 32 ≡ true) × (nat_lt s.opened 99 ≡ true) × (k ≡ s.opened + 1) = grind (arith, nat_tests, h.fit) in
       let first : Spot = record { level = Inside; place = First; deep = s.deep + 1; opened = s.opened + 1; closed = s.closed } in
       let fit : Fit first.deep first.opened s.closed (Seq ts) =
-      record { counted = h.fit.counted.1; back = h.fit.back; sound = h.fit.sound; few = omega (arith, h.fit.few); shallow = omega (arith, h.fit.shallow) } in
+      record { counted = h.fit.counted.1; back = h.fit.back; few = omega (arith, h.fit.few); shallow = omega (arith, h.fit.shallow) } in
       let read_inside = list n first inside (92 ∷ 41 ∷ tail) spelled refl fit (omega (arith, h.room, ap length cut)) in
       rw (cut, limits.0, limits.1, read_inside, limits.2) refl
 
@@ -99,7 +99,7 @@ module _ (readers : Readers) (reads : Reads readers) where
       let read_body = a atomic.0 n s u (v ++ w) (v ++ tail) (record {
         item = inner;
         over = not_empty_more v w some.0 ∙ sym some.1;
-        fit = record { counted = h.fit.counted; back = h.fit.back; sound = h.fit.sound.1; few = h.fit.few; shallow = h.fit.shallow };
+        fit = record { counted = h.fit.counted; back = h.fit.back; few = h.fit.few; shallow = h.fit.shallow };
         room = omega (arith, h.room, ap length cut);
       }) in
       rw (cut, read_body) (sign_read body v tail least most atomic.1 count (λ b. reads.interval v least most tail b count))
@@ -129,7 +129,7 @@ module _ (readers : Readers) (reads : Reads readers) where
   mutual
     atom_again : (t : Tree) → IsAtom t → AtomAgain t
     atom_again (Byte c) _ n s text w tail h = byte_again n s text w tail c h.item h.over
-    atom_again (Set words) _ n s text w tail h = set_again n s text tail words h.item h.fit.sound.0
+    atom_again (Set words) _ n s text w tail h = set_again n s text tail words h.item.0 h.item.1
     atom_again (Ref k) _ n s text w tail h = ref_again n s text tail k h.item.0 h.item.1 h.item.2 h.fit.back
     atom_again (Group k (Seq ts)) _ n s text w tail h = group_again k ts (items_again ts) n s text w tail h
     atom_again (Group k t) _ n s text w tail h = absurd h.item.2
@@ -148,7 +148,7 @@ unfolding read
 read_again readers reads text (Seq ts) h =
     ap (λ o. o >>= whole) (subst (λ x. items readers (length text + 1) Whole First 0 0 [] x ≡ Some (ts, [])) (append-nil text)
     (items_again readers reads ts (length text + 1) (record { level = Whole; place = First; deep = 0; opened = 0; closed = [] }) text [] h.0 refl
-    (record { counted = are_numbered (Seq ts) h.1; back = h.1.back; sound = h.1.sound; few = omega (arith, h.1.groups); shallow = omega (arith, h.1.nested) })
+    (record { counted = are_numbered (Seq ts) h.1; back = h.1.back; few = omega (arith, h.1.groups); shallow = omega (arith, h.1.nested) })
     (omega (arith, length-append text []))))
 read_again readers reads text t h = absurd h.0
 

@@ -1,4 +1,4 @@
--- What is read is spelled so, and well formed.
+-- What is spelled is sound; and what is read is spelled so, and well formed.
 use Rattle.std.proofs.Common.{◌≡◌, ℕ, zero, suc, ◌+◌, ◌≤◌, Bool, true, false, List, [], ◌∷◌, ◌++◌, length, drop, Option, None, inl, refl, sym, ap, subst, ◌∙◌, arith, IfSome, append_assoc}
 use Rattle.std.specs.Prelude.{◌==◌, codes, nat_lt, ◌&&◌}
 use Rattle.std.proofs.lemmas.Bool.{eqb-true}
@@ -6,14 +6,37 @@ use Rattle.std.proofs.lemmas.Bool.Decides.{nat_tests}
 use Rattle.std.proofs.lemmas.List.{append-nil}
 use Rattle.std.proofs.lemmas.Option.{IfSome_then}
 use Rattle.sedck_text.specs.Text.{begins}
-use Rattle.sedck_expressions.specs.Tree.{Tree, Trees, Seq, Repeat, Then, groups_in, groups_in_all}
-use Rattle.sedck_expressions.specs.WellFormed.{AreBounds}
-use Rattle.sedck_expressions.specs.Shape.{Level, Whole, Inside, Position, First, is_empty, behind, SpellsCount, SpellsItem, SpellsItems, Shape}
+use Rattle.sedck_expressions.specs.Tree.{Tree, Trees, Set, Group, Seq, Repeat, Nil, Then, groups_in, groups_in_all}
+use Rattle.sedck_expressions.specs.WellFormed.{IsSound, AreSound, AreBounds}
+use Rattle.sedck_expressions.specs.Shape.{Level, Whole, Inside, Position, First, is_empty, behind, SpellsCount, SpellsItem, SpellsItems, SpellsList, Shape}
 use Rattle.sedck_expressions.specs.Brackets.{is_listed}
 use Rattle.sedck_expressions.specs.Private.Reading.{Readers, begins_pair, at_end, is_repeatable, plain, closed_by, escaped, backslash, atom, with_sign, Lister, items, whole, read}
 use Rattle.sedck_expressions.proofs.ReadLemmas.{bind_holds, cond_holds, pair_text, Takes, IsListBefore, IsIntervalBefore, star_text, not_empty_more, repeatable_of, Fit, fit_all}
 use Rattle.sedck_expressions.proofs.ItemBeginnings.{sign_some, list_ends}
 use Rattle.sedck_expressions.proofs.NumberedGroups.{counts_range}
+
+-- ---- What is spelled is sound
+
+are_bounds : (text : List ℕ) (least : ℕ) (most : Option ℕ) → SpellsCount text least most → AreBounds least most
+are_bounds text least most count = grind arith
+
+mutual
+  item_is_sound : (t : Tree) (level : Level) (place : Position) (text rest : List ℕ) → SpellsItem level place text rest t → IsSound t
+  item_is_sound (Set bytes) level place text rest h = (h.1, is_listed h.0.complement h.0.elements, h.0.set)
+  item_is_sound (Group k body) level place text rest h = list_is_sound body Inside h.0 h.2
+  item_is_sound (Repeat body least most) level place text rest h = (are_bounds h.1 least most h.5, item_is_sound body level place h.0 (h.1 ++ rest) h.4)
+  item_is_sound (Seq ts) level place text rest h = absurd h
+  item_is_sound t level place text rest h = tt
+
+  items_are_sound : (ts : Trees) (level : Level) (place : Position) (text : List ℕ) → SpellsItems level place text ts → AreSound ts
+  items_are_sound Nil level place text h = tt
+  items_are_sound (Then t ts) level place text h = (item_is_sound t level place h.0 h.1 h.3, items_are_sound ts level (behind place t) h.1 h.4)
+
+  pub list_is_sound : (t : Tree) (level : Level) (text : List ℕ) → SpellsList level text t → IsSound t
+  list_is_sound (Seq ts) level text h = items_are_sound ts level First text h
+  list_is_sound t level text h = absurd h
+
+-- ---- What is read is spelled so
 
 -- an item was read from the start of the text
 pub record ItemRead (level : Level) (place : Position) (deep opened : ℕ) (closed text : List ℕ) (x : Tree × List ℕ) : Type 0 where
@@ -79,8 +102,8 @@ module _ (level : Level) (place : Position) (deep opened : ℕ) (closed : List �
       (λ s92. cond_holds (b == 91) _ _ _ (λ _. bind_holds _ _ _ (IsListBefore (b ∷ text)) (takes.bracket (b ∷ text)) (λ x (u, cut, l, member). record {
         front = u;
         cut = cut;
-        spells = λ w _. l;
-        fit = record { counted = tt; back = tt; sound = (member, is_listed l.complement l.elements, l.set); few = omega arith; shallow = omega arith };
+        spells = λ w _. (l, member);
+        fit = omega arith;
       }))
       (λ s91. cond_holds (b == 46) _ _ _
       (λ s. record { front = b ∷ []; cut = refl; spells = λ w _. ap (λ x. x ∷ []) (eqb-true b 46 s); fit = omega arith })
@@ -89,20 +112,20 @@ module _ (level : Level) (place : Position) (deep opened : ℕ) (closed : List �
 
   -- the item with a sign of repetition after it
   repeated_read : (text : List ℕ) (t : Tree) (rest sign after : List ℕ) (least : ℕ) (most : Option ℕ) → IsItem text (t, rest) → is_repeatable t ≡ true
-      → rest ≡ sign ++ after → SpellsCount sign least most → AreBounds least most → IsItem text (Repeat t least most, after)
-  repeated_read text t rest sign after least most r can cut count bounds = let some = sign_some sign least most after count in record {
+      → rest ≡ sign ++ after → SpellsCount sign least most → IsItem text (Repeat t least most, after)
+  repeated_read text t rest sign after least most r can cut count = let some = sign_some sign least most after count in record {
     front = r.front ++ sign;
     cut = r.cut ∙ ap (λ x. r.front ++ x) cut ∙ sym (append_assoc r.front sign after);
     spells = λ w e. (r.front, sign, refl, repeatable_of t can, r.spells (sign ++ w) (not_empty_more sign w some.0 ∙ sym (ap at_end cut ∙ some.1)), count);
-    fit = record { counted = r.fit.counted; back = r.fit.back; sound = (bounds, r.fit.sound); few = r.fit.few; shallow = r.fit.shallow };
+    fit = record { counted = r.fit.counted; back = r.fit.back; few = r.fit.few; shallow = r.fit.shallow };
   }
 
   pub sign_sound : (readers : Readers) → Takes readers → (text : List ℕ) (x : Tree × List ℕ) → IsItem text x → IfSome (with_sign readers x) (IsItem text)
   sign_sound readers takes text (t, rest) r =
       cond_holds (is_repeatable t) _ _ _ (λ can. cond_holds (begins "*" rest) _ _ _
-      (λ s. repeated_read text t rest (codes "*") (drop 1 rest) 0 None r can (star_text rest s) (inl (refl, refl)) (omega arith))
+      (λ s. repeated_read text t rest (codes "*") (drop 1 rest) 0 None r can (star_text rest s) (inl (refl, refl)))
       (λ _. cond_holds (begins_pair 123 rest) _ _ _
-      (λ _. bind_holds _ _ _ (IsIntervalBefore rest) (takes.interval rest) (λ x h. repeated_read text t rest h.0 x.2 x.0 x.1 r can h.1 h.2 h.3)) (λ _. r))) (λ _. r)
+      (λ _. bind_holds _ _ _ (IsIntervalBefore rest) (takes.interval rest) (λ x h. repeated_read text t rest h.0 x.2 x.0 x.1 r can h.1 h.2)) (λ _. r))) (λ _. r)
 
   -- an item, and the items after it
   pub list_read : (text : List ℕ) (x : Tree × List ℕ) (y : Trees × List ℕ) → IsItem text x
@@ -146,7 +169,7 @@ whole_sound text (ts, []) l = (
   record {
     numbered = counts_range 1 (groups_in_all ts) l.fit.counted;
     back = l.fit.back;
-    sound = l.fit.sound;
+    sound = items_are_sound ts Whole First l.front l.spells;
     groups = omega (arith, l.fit.few);
     nested = omega (arith, l.fit.shallow);
   },

@@ -90,7 +90,7 @@ abbrev mutual
   pub SpellsItem : Level → Position → List ℕ → List ℕ → Tree → Type 0
   SpellsItem level position text rest (Byte c) = SpellsByte position text rest c
   SpellsItem level position text rest Any = text ≡ codes "."
-  SpellsItem level position text rest (Set bytes) = IsBracketList text bytes
+  SpellsItem level position text rest (Set bytes) = IsBracketList text bytes × (bytes ≢ [])
   SpellsItem level position text rest Start = (level ≡ Whole) × (position ≡ First) × (text ≡ codes "^")
   SpellsItem level position text rest End = (level ≡ Whole) × (rest ≡ []) × (text ≡ codes "$")
   SpellsItem level position text rest (Maybe c) =

@@ -8,7 +8,6 @@ ghost use Rattle.sedck_text.specs.Text.{begins};
 ghost use Rattle.sedck_expressions.specs.Tree.{trees};
 ghost use Rattle.sedck_expressions.specs.View.{tree};
 ghost use Rattle.sedck_expressions.specs.Brackets.{IsBracketList};
-ghost use Rattle.sedck_expressions.specs.WellFormed.{IsSound, AreSound};
 ghost use Rattle.sedck_expressions.specs.Shape as shape;
 ghost use Rattle.sedck_expressions.specs.Shape.{SpellsItem, SpellsItems, SpellsList, SpellsCount, Shape};
 ghost use Rattle.sedck_expressions.specs.Misjudged.{is_misjudged, IsMisjudgedAt};
@@ -99,7 +98,7 @@ fn after_sign<'a>(cursor: Cursor<'a>) -> Cursor<'a>
 #[cycle(items)]
 fn pass_item<'a>(item: &Bre, sought: Sought, cursor: Cursor<'a>) -> Result<Cursor<'a>, ReFault>
     ensures same { IfOk result (λ x. x.whole ≡ cursor.entry.whole) }
-    ensures passes { (level : shape.Level) (position : shape.Position) (text rest after : List ℕ) → unread cursor.entry ≡ text ++ after → SpellsItem level position text rest (tree item.now) → IsSound (tree item.now) → Passes sought (tree item.now) cursor.entry.whole.now after result }
+    ensures passes { (level : shape.Level) (position : shape.Position) (text rest after : List ℕ) → unread cursor.entry ≡ text ++ after → SpellsItem level position text rest (tree item.now) → Passes sought (tree item.now) cursor.entry.whole.now after result }
 {
     match item {
         Bre::Byte(_) => Ok(after_byte(cursor)),
@@ -141,7 +140,7 @@ fn pass_item<'a>(item: &Bre, sought: Sought, cursor: Cursor<'a>) -> Result<Curso
 #[cycle(items)]
 fn pass_list<'a>(list: &Bre, sought: Sought, cursor: Cursor<'a>) -> Result<Cursor<'a>, ReFault>
     ensures same { IfOk result (λ x. x.whole ≡ cursor.entry.whole) }
-    ensures passes { (level : shape.Level) (text after : List ℕ) → unread cursor.entry ≡ text ++ after → SpellsList level text (tree list.now) → IsSound (tree list.now) → Passes sought (tree list.now) cursor.entry.whole.now after result }
+    ensures passes { (level : shape.Level) (text after : List ℕ) → unread cursor.entry ≡ text ++ after → SpellsList level text (tree list.now) → Passes sought (tree list.now) cursor.entry.whole.now after result }
 {
     match list {
         Bre::Seq(items) => pass_items(items, sought, cursor),
@@ -153,7 +152,7 @@ fn pass_list<'a>(list: &Bre, sought: Sought, cursor: Cursor<'a>) -> Result<Curso
 #[cycle(items)]
 fn pass_items<'a>(items: &[Bre], sought: Sought, cursor: Cursor<'a>) -> Result<Cursor<'a>, ReFault>
     ensures same { IfOk result (λ x. x.whole ≡ cursor.entry.whole) }
-    ensures passes { (level : shape.Level) (position : shape.Position) (text after : List ℕ) → unread cursor.entry ≡ text ++ after → SpellsItems level position text (trees (map tree items.now)) → AreSound (trees (map tree items.now)) → PassesAll sought (trees (map tree items.now)) cursor.entry.whole.now after result }
+    ensures passes { (level : shape.Level) (position : shape.Position) (text after : List ℕ) → unread cursor.entry ≡ text ++ after → SpellsItems level position text (trees (map tree items.now)) → PassesAll sought (trees (map tree items.now)) cursor.entry.whole.now after result }
 {
     let mut next = cursor;
     for item in items {

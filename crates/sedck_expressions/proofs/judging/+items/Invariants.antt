@@ -1,12 +1,9 @@
-use Rattle.std.proofs.Common.{◌≡◌, ◌++◌, List, ℕ, drop, map, Bool, false}
-use Rattle.std.specs.Prelude.{IsTrue}
+use Rattle.std.proofs.Common.{◌≡◌, ◌++◌, List, ℕ, drop, map}
 use Rattle.sedck_text.specs.Cursors.{unread}
 use Rattle.sedck_expressions.specs.Tree.{trees}
 use Rattle.sedck_expressions.specs.View.{tree}
-use Rattle.sedck_expressions.specs.WellFormed.{AreSound}
 use Rattle.sedck_expressions.specs.Shape as shape
 use Rattle.sedck_expressions.specs.Shape.{SpellsItems}
-use Rattle.sedck_expressions.specs.Misjudged.{one_has_part, is_reference, is_anchor, repeats_anchor}
 use Rattle.sedck_expressions.proofs.Along.{IsLeft}
 use Rattle.sedck_expressions.proofs.judging.+items.Given as goal
 
@@ -14,6 +11,6 @@ abbrev pub invariant-pass_items-loop-item : goal.invariant-pass_items-loop-item
 invariant-pass_items-loop-item l = record {
   same : l.next.whole ≡ l.cursor.whole;
   left : (level : shape.Level) (position : shape.Position) (text after : List ℕ) → unread l.cursor ≡ text ++ after
-      → SpellsItems level position text (trees (map tree l.items)) → AreSound (trees (map tree l.items))
+      → SpellsItems level position text (trees (map tree l.items))
       → IsLeft l.sought level after (unread l.next) (trees (map tree l.items)) (trees (map tree (drop l.item-index l.items)));
 }
