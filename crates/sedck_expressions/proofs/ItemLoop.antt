@@ -11,17 +11,20 @@ use Rattle.sedck_expressions.specs.View.{tree}
 use Rattle.sedck_expressions.specs.Private.Sequence.{sequence}
 use Rattle.sedck_expressions.specs.Shape.{Level, Inside, Position, First, behind}
 use Rattle.sedck_expressions.specs.Private.Reading.{◌>>=◌, at_end, atom, with_sign, before_all, more, some_items, items}
-use Rattle.sedck_expressions.specs.Private.FullReading.{full}
+use Rattle.sedck_expressions.specs.Private.FullReading.{full, free}
 use Rattle.sedck_expressions.specs.declared.tree.Bre.{Bre}
 use Rattle.sedck_expressions.proofs.ReadLemmas.{Takes, Reads}
 use Rattle.sedck_expressions.proofs.IntervalLemmas.{interval_takes, interval_again}
 use Rattle.sedck_expressions.proofs.WholeBracket.{bracket_takes, bracket_again}
 
 pub full_takes : Takes full
-full_takes = record { bracket = bracket_takes; interval = interval_takes }
+full_takes = record { bracket = bracket_takes; interval = interval_takes; limited = refl }
 
 pub full_reads : Reads full
 full_reads = record { bracket = bracket_again; interval = interval_again }
+
+pub free_reads : Reads free
+free_reads = record { bracket = bracket_again; interval = interval_again }
 
 -- trees before others
 abbrev pub onto : List Tree → Trees → Trees

@@ -17,7 +17,7 @@ pub CountsFrom-right : (n : ℕ) (xs ys : List ℕ) → CountsFrom n (xs ++ ys) 
 CountsFrom-right n [] ys h = grind (arith, h)
 CountsFrom-right n (x ∷ xs) ys h = grind (arith, CountsFrom-right (n + 1) xs ys h.1)
 
-range_counts : (n count : ℕ) → CountsFrom n (range_with_len n count)
+pub range_counts : (n count : ℕ) → CountsFrom n (range_with_len n count)
 range_counts n zero = tt
 range_counts n (suc count) = (refl, range_counts (n + 1) count)
 

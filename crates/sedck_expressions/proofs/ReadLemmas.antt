@@ -1,6 +1,6 @@
 -- Tools on readings, what a bracket list and an interval reader must give, and which trees fit the groups so far.
 use Rattle.std.proofs.Common.{◌≡◌, ◌≢◌, ℕ, ◌+◌, ◌<◌, ◌≤◌, Bool, true, false, cond, List, [], ◌∷◌, ◌++◌, length, drop, Option, Some, None, IfSome, refl, arith, length-append}
-use Rattle.std.specs.Prelude.{◌&&◌, nat_le}
+use Rattle.std.specs.Prelude.{◌&&◌, ◌||◌, nat_le}
 use Rattle.std.proofs.lemmas.Bool.Decides.{nat_tests}
 use Rattle.sedck_text.specs.Text.{begins}
 use Rattle.sedck_expressions.specs.Private.Numbering.{CountsFrom}
@@ -35,10 +35,11 @@ IsListBefore text x = (u : List ℕ) × (text ≡ u ++ x.1) × IsBracketList u x
 abbrev pub IsIntervalBefore : List ℕ → ℕ × Option ℕ × List ℕ → Type 0
 IsIntervalBefore text x = (u : List ℕ) × (text ≡ u ++ x.2) × SpellsCount u x.0 x.1
 
--- what is read as a bracket list is one, and an interval is one
+-- what is read as a bracket list is one, and an interval is one; and the limits are kept
 pub record Takes (readers : Readers) : Type 0 where
   pub bracket : (text : List ℕ) → IfSome (readers.bracket text) (IsListBefore text)
   pub interval : (text : List ℕ) → IfSome (readers.interval text) (IsIntervalBefore text)
+  pub limited : readers.unlimited ≡ false
 
 -- a bracket list is read, whatever follows it, and so is an interval
 pub record Reads (readers : Readers) : Type 0 where
@@ -65,30 +66,38 @@ pub record Fit (deep opened : ℕ) (closed : List ℕ) (t : Tree) : Type 0 where
   pub few : opened + length (groups_in t) ≤ 99
   pub shallow : deep + depth t ≤ 32
 
+-- its groups are numbered, and it fits where the limits are kept
+abbrev pub Fits : Bool → ℕ → ℕ → List ℕ → Tree → Type 0
+Fits unlimited deep opened closed t = CountsFrom (opened + 1) (groups_in t) × (unlimited ≡ false → Fit deep opened closed t)
+
 module _ (deep opened : ℕ) (closed : List ℕ) (t : Tree) (ts : Trees) where
-  abbrev FitsBehind : Type 0
-  FitsBehind = Fit deep (opened + length (groups_in t)) (closed ++ groups_in t) (Seq ts)
-
-  pub fit_first : Fit deep opened closed (Seq (Then t ts)) → Fit deep opened closed t
-  fit_first f =
-      let counted = CountsFrom-left (opened + 1) (groups_in t) (groups_in_all ts) f.counted in
+  pub fits_first : {unlimited : Bool} → Fits unlimited deep opened closed (Seq (Then t ts)) → Fits unlimited deep opened closed t
+  fits_first f =
+      let counted = CountsFrom-left (opened + 1) (groups_in t) (groups_in_all ts) f.0 in
       let size = length-append (groups_in t) (groups_in_all ts) in
-      grind (arith, f, counted, size)
+      (counted, λ limited. let g = f.1 limited in grind (arith, g, counted, size))
 
-  pub fit_others : Fit deep opened closed (Seq (Then t ts)) → FitsBehind
-  fit_others f =
-      let counted = CountsFrom-right (opened + 1) (groups_in t) (groups_in_all ts) f.counted in
+  pub fits_others : {unlimited : Bool} → Fits unlimited deep opened closed (Seq (Then t ts))
+      → Fits unlimited deep (opened + length (groups_in t)) (closed ++ groups_in t) (Seq ts)
+  fits_others f =
+      let right = CountsFrom-right (opened + 1) (groups_in t) (groups_in_all ts) f.0 in
+      let counted : CountsFrom ((opened + length (groups_in t)) + 1) (groups_in_all ts) = grind (arith, right) in
       let size = length-append (groups_in t) (groups_in_all ts) in
-      grind (arith, f, counted, size)
+      (counted, λ limited. let g = f.1 limited in grind (arith, g, counted, size))
 
-  pub fit_all : Fit deep opened closed t → FitsBehind → Fit deep opened closed (Seq (Then t ts))
+  pub fit_all : Fit deep opened closed t → Fit deep (opened + length (groups_in t)) (closed ++ groups_in t) (Seq ts) → Fit deep opened closed (Seq (Then t ts))
   fit_all f g =
       let more : CountsFrom ((opened + 1) + length (groups_in t)) (groups_in_all ts) = grind (arith, g) in
       let counted = CountsFrom-join (opened + 1) (groups_in t) (groups_in_all ts) f.counted more in
       let size = length-append (groups_in t) (groups_in_all ts) in
       grind (arith, f, g, counted, size)
 
--- ---- Tests of numbers
+-- ---- Tests
+
+-- what is asked only where the limits are kept
+pub allowed : (unlimited test : Bool) → (unlimited ≡ false → test ≡ true) → (unlimited || test) ≡ true
+allowed true test h = refl
+allowed false test h = h refl
 
 pub nat_le_of : (a b : ℕ) → nat_le a b ≡ true → a ≤ b
 nat_le_of a b h = grind (arith, nat_tests)

@@ -1,6 +1,6 @@
 -- What is spelled is sound; and what is read is spelled so, and well formed.
 use Rattle.std.proofs.Common.{◌≡◌, ℕ, zero, suc, ◌+◌, ◌≤◌, Bool, true, false, List, [], ◌∷◌, ◌++◌, length, drop, Option, None, inl, refl, sym, ap, subst, ◌∙◌, arith, IfSome, append_assoc}
-use Rattle.std.specs.Prelude.{◌==◌, codes, nat_lt, ◌&&◌}
+use Rattle.std.specs.Prelude.{◌==◌, codes, nat_lt, ◌&&◌, ◌||◌}
 use Rattle.std.proofs.lemmas.Bool.{eqb-true}
 use Rattle.std.proofs.lemmas.Bool.Decides.{nat_tests}
 use Rattle.std.proofs.lemmas.List.{append-nil}
@@ -68,9 +68,10 @@ module _ (level : Level) (place : Position) (deep opened : ℕ) (closed : List �
   plain_read : (last : Bool) (b : ℕ) → (b == 92) ≡ false → (b == 91) ≡ false → (b == 46) ≡ false → IfSome (plain level place last b) (IsPlain last b)
   plain_read last b h0 h1 h2 = grind (arith, nat_tests)
 
-  escaped_read : (inner : List ℕ → Option (Trees × List ℕ)) (b : ℕ) (text : List ℕ) → (b == 40) ≡ false → IfSome (escaped inner deep opened closed b text)
+  escaped_read : (readers : Readers) → readers.unlimited ≡ false → (inner : List ℕ → Option (Trees × List ℕ)) (b : ℕ) (text : List ℕ) → (b == 40) ≡ false
+      → IfSome (escaped readers inner deep opened closed b text)
       (λ x. Fit deep opened closed x.0 × (x.1 ≡ text) × ((w : List ℕ) → SpellsItem level place (92 ∷ b ∷ []) w x.0))
-  escaped_read inner b text h = grind (arith, nat_tests)
+  escaped_read readers limited inner b text h = grind (arith, nat_tests)
 
   -- the inside of a group, and its `\)`
   group_sound : (text : List ℕ) (x : Trees × List ℕ) → deep + 1 ≤ 32 → opened + 1 ≤ 99
@@ -82,23 +83,23 @@ module _ (level : Level) (place : Position) (deep opened : ℕ) (closed : List �
     fit = let fit = r.fit in grind (arith, fit);
   }) (λ _. tt)
 
-  backslash_sound : (inner : List ℕ → Option (Trees × List ℕ)) (text : List ℕ) → ReadsInside inner
-      → IfSome (backslash inner deep opened closed text) (IsItem (92 ∷ text))
-  backslash_sound inner [] list = tt
-  backslash_sound inner (b ∷ text) list = go (b == 40) refl
+  backslash_sound : (readers : Readers) → readers.unlimited ≡ false → (inner : List ℕ → Option (Trees × List ℕ)) (text : List ℕ) → ReadsInside inner
+      → IfSome (backslash readers inner deep opened closed text) (IsItem (92 ∷ text))
+  backslash_sound readers limited inner [] list = tt
+  backslash_sound readers limited inner (b ∷ text) list = go (b == 40) refl
     where
-      go : (x : Bool) → (b == 40) ≡ x → IfSome (escaped inner deep opened closed b text) (IsItem (92 ∷ b ∷ text))
-      go true s = rw (eqb-true b 40 s) (cond_holds (nat_lt deep 32 && nat_lt opened 99) _ _ _ (λ m.
+      go : (x : Bool) → (b == 40) ≡ x → IfSome (escaped readers inner deep opened closed b text) (IsItem (92 ∷ b ∷ text))
+      go true s = rw (eqb-true b 40 s) (cond_holds (readers.unlimited || (nat_lt deep 32 && nat_lt opened 99)) _ _ _ (λ m.
           let both : (deep + 1 ≤ 32) × (opened + 1 ≤ 99) = grind (arith, nat_tests) in
           bind_holds _ _ _ _ (list both.0 both.1 text) (λ x r. group_sound text x both.0 both.1 r)) (λ _. tt))
-      go false s = IfSome_then (escaped inner deep opened closed b text) (escaped_read inner b text s)
+      go false s = IfSome_then (escaped readers inner deep opened closed b text) (escaped_read readers limited inner b text s)
           (λ x h. record { front = 92 ∷ b ∷ []; cut = ap (λ r. 92 ∷ b ∷ r) (sym h.1); spells = λ w _. h.2 w; fit = h.0 })
 
   pub atom_sound : (readers : Readers) → Takes readers → (inner : List ℕ → Option (Trees × List ℕ)) (text : List ℕ) → ReadsInside inner
       → IfSome (atom readers inner level place deep opened closed text) (IsItem text)
   atom_sound readers takes inner [] list = tt
   atom_sound readers takes inner (b ∷ text) list =
-      cond_holds (b == 92) _ _ _ (λ s. rw (eqb-true b 92 s) (backslash_sound inner text list))
+      cond_holds (b == 92) _ _ _ (λ s. rw (eqb-true b 92 s) (backslash_sound readers takes.limited inner text list))
       (λ s92. cond_holds (b == 91) _ _ _ (λ _. bind_holds _ _ _ (IsListBefore (b ∷ text)) (takes.bracket (b ∷ text)) (λ x (u, cut, l, member). record {
         front = u;
         cut = cut;

@@ -4,13 +4,13 @@ use Rattle.std.specs.Prelude.{◌==◌}
 use Rattle.std.proofs.lemmas.Bool.Decides.{nat_tests}
 use Rattle.std.proofs.lemmas.List.{get_or-replicate}
 use Rattle.sedck_expressions.specs.Tree.{Tree, Trees, Seq}
-use Rattle.sedck_expressions.specs.Shape.{Whole, First, Shape}
+use Rattle.sedck_expressions.specs.Shape.{Whole, First, SpellsTree, Shape}
 use Rattle.sedck_expressions.specs.Private.Reading.{◌>>=◌, items, whole, read}
-use Rattle.sedck_expressions.specs.Private.FullReading.{full}
+use Rattle.sedck_expressions.specs.Private.FullReading.{full, free}
 use Rattle.sedck_expressions.specs.Private.Gives.{ClosedIs}
 use Rattle.sedck_expressions.proofs.ReadingSound.{read_sound}
-use Rattle.sedck_expressions.proofs.ReadingComplete.{read_again, one_shape}
-use Rattle.sedck_expressions.proofs.ItemLoop.{full_takes, full_reads}
+use Rattle.sedck_expressions.proofs.ReadingComplete.{read_again}
+use Rattle.sedck_expressions.proofs.ItemLoop.{full_takes, full_reads, free_reads}
 
 -- the whole text is read at the first cursor
 pub read-at : {first text : List ℕ} {o : Option (Trees × List ℕ)} → first ≡ text
@@ -30,15 +30,24 @@ whole-none ts is e told = grind (arith, nat_tests)
 pub shape_of : (text : List ℕ) (t : Tree) → read full text ≡ Some t → Shape text t
 shape_of text t e = rw e at (read_sound full full_takes text)
 
+shape_again : (text : List ℕ) (t : Tree) → Shape text t → read full text ≡ Some t
+shape_again text t h = read_again full full_reads text t (h.0, h.1.numbered) (λ _. h.1)
+
 pub only_of : (text : List ℕ) (t : Tree) → read full text ≡ Some t → (u : Tree) → Shape text u → u ≡ t
-only_of text t e u h = cc (read_again full full_reads text u h)
+only_of text t e u h = cc (shape_again text u h)
 
 -- no text spells two trees
+pub one_spelling : (text : List ℕ) (a b : Tree) → SpellsTree text a → SpellsTree text b → a ≡ b
+one_spelling text a b h i = cc (again a h, again b i)
+  where
+    again : (t : Tree) → SpellsTree text t → read free text ≡ Some t
+    again t h = read_again free free_reads text t h (λ wrong. absurd (cc wrong))
+
 pub one_tree : (text : List ℕ) (a b : Tree) → Shape text a → Shape text b → a ≡ b
-one_tree = one_shape full full_reads
+one_tree text a b h i = one_spelling text a b (h.0, h.1.numbered) (i.0, i.1.numbered)
 
 pub none_of : (text : List ℕ) → read full text ≡ None → (u : Tree) → Shape text u → ⊥
-none_of text e u h = cc (read_again full full_reads text u h)
+none_of text e u h = cc (shape_again text u h)
 
 pub none_closed : ClosedIs (replicate 256 false) []
 none_closed k l = get_or-replicate 256 k false false l

@@ -1,12 +1,12 @@
 -- The grammar of basic regular expressions: which text spells which tree (XBD 9.3). "Ours" marks what the standard leaves open
 -- or undefined.
-use Rattle.std.specs.Prelude.{◌≡◌, ◌≢◌, ℕ, ◌+◌, ◌≤◌, Bool, true, false, not, IsTrue, if◌then◌else◌, List, [], ◌∷◌, ◌++◌, Option, Some, None, codes, ◌⊎◌}
-use Rattle.std.specs.List.{list_all}
+use Rattle.std.specs.Prelude.{◌≡◌, ◌≢◌, ℕ, ◌+◌, ◌≤◌, Bool, true, false, not, IsTrue, if◌then◌else◌, List, [], ◌∷◌, ◌++◌, length, Option, Some, None, codes, ◌⊎◌}
+use Rattle.std.specs.List.{list_all, range_with_len}
 use Rattle.sedck_text.specs.Bytes.{tab, newline, ascii}
 use Rattle.std.specs.Str.Parse.{digits_value}
 use Rattle.sedck_text.specs.Text.{is_in, one_of}
 use Rattle.sedck_text.specs.Classes.{is_digit}
-use Rattle.sedck_expressions.specs.Tree.{Tree, Trees, Byte, Any, Set, Start, End, Maybe, Group, Ref, Seq, Repeat, Nil, Then}
+use Rattle.sedck_expressions.specs.Tree.{Tree, Trees, Byte, Any, Set, Start, End, Maybe, Group, Ref, Seq, Repeat, Nil, Then, groups_in}
 use Rattle.sedck_expressions.specs.Brackets.{IsBracketList}
 use Rattle.sedck_expressions.specs.WellFormed.{IsWellFormed}
 
@@ -112,6 +112,10 @@ abbrev mutual
   pub SpellsList : Level → List ℕ → Tree → Type 0
   SpellsList level text (Seq ts) = SpellsItems level First text ts
   SpellsList level text _ = ⊥
+
+-- the text spells the tree, whose groups are numbered from 1 by their opening
+abbrev pub SpellsTree : List ℕ → Tree → Type 0
+SpellsTree text t = SpellsList Whole text t × (groups_in t ≡ range_with_len 1 (length (groups_in t)))
 
 -- the text spells the tree, which is well formed
 abbrev pub Shape : List ℕ → Tree → Type 0

@@ -108,7 +108,7 @@ fn read_group<'a>(
     requires opens { begins_pair 40 (unread cursor) ≡ true }
     requires few { groups.old.opened ≤ 99 }
     requires shallow { depth ≤ 32 }
-    ensures value { (bound : ℕ) (closed : List ℕ) → length (unread cursor.entry) ≤ bound → ClosedIs groups.old.closed closed → Gives (λ x. (tree x.0, unread x.1)) result (group_at (items full bound shape.Inside shape.First (depth + 1) (groups.old.opened + 1) closed) depth groups.old.opened (drop 2 (unread cursor.entry))) }
+    ensures value { (bound : ℕ) (closed : List ℕ) → length (unread cursor.entry) ≤ bound → ClosedIs groups.old.closed closed → Gives (λ x. (tree x.0, unread x.1)) result (group_at full (items full bound shape.Inside shape.First (depth + 1) (groups.old.opened + 1) closed) depth groups.old.opened (drop 2 (unread cursor.entry))) }
     ensures few { groups.new.opened ≤ 99 }
     ensures opened { IfOk result (λ x. groups.new.opened ≡ groups.old.opened + length (groups_in (tree x.0))) }
     ensures closed { (closed : List ℕ) → ClosedIs groups.old.closed closed → IfOk result (λ x. ClosedIs groups.new.closed (closed ++ groups_in (tree x.0))) }

@@ -1,5 +1,5 @@
 -- A way to read an expression: a function from a text to its tree, or nothing.
-use Rattle.std.specs.Prelude.{ℕ, zero, suc, ◌+◌, ◌-◌, ◌==◌, nat_lt, nat_le, Bool, true, false, ◌&&◌, if◌then◌else◌, List, [], ◌∷◌, ◌++◌, length, drop, Option, Some, None, option_and_then}
+use Rattle.std.specs.Prelude.{ℕ, zero, suc, ◌+◌, ◌-◌, ◌==◌, nat_lt, nat_le, Bool, true, false, ◌&&◌, ◌||◌, if◌then◌else◌, List, [], ◌∷◌, ◌++◌, length, drop, Option, Some, None, option_and_then}
 use Rattle.sedck_text.specs.Text.{one_of, begins}
 use Rattle.sedck_expressions.specs.Tree.{Tree, Trees, Byte, Any, Set, Start, End, Maybe, Group, Ref, Seq, Repeat, Nil, Then, groups_in, is_in}
 use Rattle.sedck_expressions.specs.Shape.{Level, Whole, Inside, Position, First, is_first, is_later, behind}
@@ -9,10 +9,12 @@ infixl 10 ◌>>=◌
 abbrev pub ◌>>=◌ : {A B : Type 0} → Option A → (A → Option B) → Option B
 o >>= f = option_and_then f o
 
--- how a bracket list and an interval are read from the start of a text
+-- how a bracket list and an interval are read from the start of a text, and whether the limits aren't kept: then any number
+-- of groups is read, and a reference to any group
 pub record Readers : Type 0 where
   pub bracket : List ℕ → Option (List ℕ × List ℕ)
   pub interval : List ℕ → Option (ℕ × Option ℕ × List ℕ)
+  pub unlimited : Bool
 
 -- the text begins with a backslash and this byte
 abbrev pub begins_pair : ℕ → List ℕ → Bool
@@ -55,22 +57,23 @@ abbrev pub closed_by : ℕ → Trees × List ℕ → Option (Tree × List ℕ)
 closed_by k (ts, rest) = if begins_pair 41 rest then Some (Group k (Seq ts), drop 2 rest) else None
 
 -- a group that may still be opened
-abbrev pub group_at : (List ℕ → Option (Trees × List ℕ)) → ℕ → ℕ → List ℕ → Option (Tree × List ℕ)
-group_at inner deep opened text = if nat_lt deep 32 && nat_lt opened 99 then inner text >>= closed_by (opened + 1) else None
+abbrev pub group_at : Readers → (List ℕ → Option (Trees × List ℕ)) → ℕ → ℕ → List ℕ → Option (Tree × List ℕ)
+group_at readers inner deep opened text =
+    if readers.unlimited || (nat_lt deep 32 && nat_lt opened 99) then inner text >>= closed_by (opened + 1) else None
 
 -- what follows a backslash
-abbrev pub escaped : (List ℕ → Option (Trees × List ℕ)) → ℕ → ℕ → List ℕ → ℕ → List ℕ → Option (Tree × List ℕ)
-escaped inner deep opened closed b text =
-    if b == 40 then group_at inner deep opened text
-    else if nat_le 49 b && nat_le b 57 then (if is_in (b - 48) closed then Some (Ref (b - 48), text) else None)
+abbrev pub escaped : Readers → (List ℕ → Option (Trees × List ℕ)) → ℕ → ℕ → List ℕ → ℕ → List ℕ → Option (Tree × List ℕ)
+escaped readers inner deep opened closed b text =
+    if b == 40 then group_at readers inner deep opened text
+    else if nat_le 49 b && nat_le b 57 then (if readers.unlimited || is_in (b - 48) closed then Some (Ref (b - 48), text) else None)
     else if b == 110 then Some (Byte 10, text)
     else if b == 116 then Some (Byte 9, text)
     else if one_of ".[\\*^$]/-\"&,;:!@#%=~_ " b then Some (Byte b, text)
     else None
 
-abbrev pub backslash : (List ℕ → Option (Trees × List ℕ)) → ℕ → ℕ → List ℕ → List ℕ → Option (Tree × List ℕ)
-backslash inner deep opened closed [] = None
-backslash inner deep opened closed (b ∷ text) = escaped inner deep opened closed b text
+abbrev pub backslash : Readers → (List ℕ → Option (Trees × List ℕ)) → ℕ → ℕ → List ℕ → List ℕ → Option (Tree × List ℕ)
+backslash readers inner deep opened closed [] = None
+backslash readers inner deep opened closed (b ∷ text) = escaped readers inner deep opened closed b text
 
 abbrev pub set_before : List ℕ × List ℕ → Option (Tree × List ℕ)
 set_before (bytes, rest) = Some (Set bytes, rest)
@@ -82,7 +85,7 @@ tree_before rest t = Some (t, rest)
 abbrev pub atom : Readers → (List ℕ → Option (Trees × List ℕ)) → Level → Position → ℕ → ℕ → List ℕ → List ℕ → Option (Tree × List ℕ)
 atom readers inner level position deep opened closed [] = None
 atom readers inner level position deep opened closed (b ∷ text) =
-    if b == 92 then backslash inner deep opened closed text
+    if b == 92 then backslash readers inner deep opened closed text
     else if b == 91 then (readers.bracket (b ∷ text) >>= set_before)
     else if b == 46 then Some (Any, text)
     else (plain level position (at_end text) b >>= tree_before text)
