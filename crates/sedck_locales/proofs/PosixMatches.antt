@@ -67,9 +67,9 @@ mutual
   item_same (Byte c) level position text rest e w e' sound here = ((λ m. m), (λ m. m))
   item_same Any level position text rest e w e' sound here = ((λ m. m), (λ m. m))
   item_same (Set bytes) level position text rest e w e' sound here = (
-    (λ m. ((bytes, here, m.0, m.1, m.2), m.3)),
+    (λ m. ((bytes, here.0, m.0, m.1, m.2), m.3)),
     (λ m. let l = m.0 in
-        (l.2, subst (λ s. IsTrue (is_in l.2 s)) (sym (one_set text bytes l.0 here l.1 sound.0 (has_some l.2 l.0 l.3))) l.3, l.4, m.1)),
+        (l.2, subst (λ s. IsTrue (is_in l.2 s)) (sym (one_set text bytes l.0 here.0 l.1 here.1 (has_some l.2 l.0 l.3))) l.3, l.4, m.1)),
   )
   item_same Start level position text rest e w e' sound here = ((λ m. m), (λ m. m))
   item_same End level position text rest e w e' sound here = ((λ m. m), (λ m. m))

@@ -75,7 +75,7 @@ mutual
       → lists_from Outside (text ++ v) ≡ lists_in (written_item t level position text rest here) ++ lists_from Outside v
   walk_item (Byte c) level position text rest here v = none_written_byte position text rest c here v
   walk_item Any level position text rest here v = none_anchor text 46 here (λ e. omega arith) (λ e. omega arith) v
-  walk_item (Set bytes) level position text rest here v = pass_list text bytes here v
+  walk_item (Set bytes) level position text rest here v = pass_list text bytes here.0 v
   walk_item Start level position text rest here v = none_anchor text 94 here.2 (λ e. omega arith) (λ e. omega arith) v
   walk_item End level position text rest here v = none_anchor text 36 here.2 (λ e. omega arith) (λ e. omega arith) v
   walk_item (Maybe c) level position text rest (inside, is, inl (first, e)) v = none_anchor text c is (λ f. omega (arith, e, f)) (λ f. omega (arith, e, f)) v
@@ -126,7 +126,7 @@ mutual
   one_item (Byte c) level level' position position' text rest other rest' x y sound here there same = (refl, same)
   one_item Any level level' position position' text rest other rest' x y sound here there same = (refl, same)
   one_item (Set bytes) level level' position position' text rest other rest' x y sound here there same =
-      let one = one_list text other bytes x y here there sound.0 same in (ap Set one.0, one.1)
+      let one = one_list text other bytes x y here.0 there.0 here.1 same in (ap Set one.0, one.1)
   one_item Start level level' position position' text rest other rest' x y sound here there same = (refl, same)
   one_item End level level' position position' text rest other rest' x y sound here there same = (refl, same)
   one_item (Maybe c) level level' position position' text rest other rest' x y sound here there same = (refl, same)
