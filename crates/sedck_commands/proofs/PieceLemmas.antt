@@ -7,6 +7,9 @@ use Rattle.sedck_commands.specs.declared.delimited.Piece.{Piece}
 use Rattle.sedck_commands.specs.declared.delimited.Piece.TheVariants as piece
 use Rattle.std.proofs.lemmas.Bool.Decides.{nat_tests}
 use Rattle.sedck_bre.specs.Tree.{Tree}
+use Rattle.sedck_bre.specs.Shape.{SpellsTree}
+use Rattle.sedck_commands.specs.Narrowings.{Matched}
+use Rattle.sedck_commands.specs.ReadAlike.{read_alike}
 use Rattle.sedck_commands.specs.Program.{Pattern, Previous, Expression}
 use Rattle.sedck_commands.specs.Private.PieceReading.{IsPiece, IsReadUpTo, IsWrittenUpTo, list_escape, PatternText}
 use Rattle.sedck_text.specs.Cursors.{unread}
@@ -121,6 +124,13 @@ pub list_broken : {d b : ℕ} {text bytes rest behind : List ℕ} → d ≢ 92 �
     → IsPiece d rest (piece.Pair b) behind → list_escape b ≡ None → (e r : List ℕ) → DelimitedList d text e r → ⊥
 list_broken {b = b} n h k l e r x = let more = at_piece (piece.Pair b) _ (list_first n (h.only e r x).1) n k in absurd (cc (l, more.1))
 
+-- what is asked of an expression, apart from its spelling
+spelled : (text : List ℕ) (t : Tree) → IsExpression text t → SpellsTree text t × read_alike (Matched t)
+spelled text t h = ((h.0.0, h.0.1.numbered), (h.0.1, h.1))
+
+shaped : (text : List ℕ) (t : Tree) → SpellsTree text t × read_alike (Matched t) → IsExpression text t
+shaped text t h = ((h.0.0, h.1.0), h.1.1)
+
 -- an empty expression, and one that isn't
 pub pattern_none : {d : ℕ} {text bytes rest : List ℕ} → ExpressionText d text bytes rest → length bytes ≡ 0 → PatternText d text Previous rest
 pattern_none {d} {text} {bytes} {rest} x e = let none = nil_from_length bytes e in ([], subst (λ t. ExpressionText d text t rest) none x, previous)
@@ -131,11 +141,11 @@ pattern_some {bytes = bytes} {tree = tree} x some s = (bytes, x, is_expression b
   where
     is_expression : (bytes : List ℕ) → 0 < length bytes → IsExpression bytes tree → IsPattern bytes (Expression tree)
     is_expression [] some s = absurd (omega arith)
-    is_expression (b ∷ bytes) some s = expression s
+    is_expression (b ∷ bytes) some s = expression (spelled (b ∷ bytes) tree s)
 
 no_pattern_by : (bytes : List ℕ) (pattern : Pattern) → 0 < length bytes → ((t : Tree) → IsExpression bytes t → ⊥) → IsPattern bytes pattern → ⊥
 no_pattern_by bytes pattern some n previous = omega arith
-no_pattern_by bytes pattern some n (expression s) = n _ s
+no_pattern_by bytes pattern some n (expression s) = n _ (shaped _ _ s)
 
 pub no_pattern : {d : ℕ} {text bytes rest r : List ℕ} (pattern : Pattern) → d ≢ 92 → ExpressionText d text bytes rest → 0 < length bytes
     → ((t : Tree) → IsExpression bytes t → ⊥) → PatternText d text pattern r → ⊥
@@ -147,7 +157,7 @@ none_only q bytes e (expression s) = absurd (omega arith)
 
 some_only : {tree : Tree} (q : Pattern) (bytes : List ℕ) → 0 < length bytes → ((t : Tree) → IsExpression bytes t → t ≡ tree) → IsPattern bytes q → q ≡ Expression tree
 some_only q bytes some n previous = absurd (omega arith)
-some_only q bytes some n (expression {tree = t} s) = ap Expression (n t s)
+some_only q bytes some n (expression {tree = t} s) = ap Expression (n t (shaped _ t s))
 
 pub pattern_none_only : {d : ℕ} {text bytes rest r : List ℕ} (q : Pattern) → d ≢ 92 → ExpressionText d text bytes rest → length bytes ≡ 0
     → PatternText d text q r → (q ≡ Previous) × (r ≡ rest)

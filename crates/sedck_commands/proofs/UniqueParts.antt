@@ -3,7 +3,7 @@ use Rattle.std.proofs.Common.{◌≡◌, ◌≢◌, ℕ, ◌<◌, Bool, cond, tr
 use Rattle.std.specs.List.{list_all}
 use Rattle.std.specs.Str.Parse.{digits_value}
 use Rattle.std.proofs.lemmas.Bool.{false≢true, false_from_ne_true, and_parts, or_left, or_right}
-use Rattle.sedck_expressions.proofs.WholeReading.{one_tree}
+use Rattle.sedck_expressions.proofs.WholeReading.{one_spelling}
 use Rattle.sedck_commands.specs.Cuts.{is_newline, is_blank, is_digit, is_letter, is_ending, IsEmptyOr, Longest}
 use Rattle.sedck_commands.specs.Program.{Pattern, Expression, Part, Text, Whole, Substitution}
 use Rattle.sedck_commands.specs.Parts.{Ends, Number, DelimitedExpression, previous, expression, DelimitedList, EscapedPart, Replacement, is_plain, Lines, GivenText, LabelText, NameIn, IsPatternIn, FlagsIn}
@@ -76,7 +76,7 @@ expression_one n (p.pair {b = b} f g h x) y = let more = at_piece (piece.Pair b)
 -- an expression has one pattern, since it has one tree
 pub pattern_one : {asks : Narrowings} {text : List ℕ} {q r : Pattern} → IsPatternIn asks text q → IsPatternIn asks text r → q ≡ r
 pattern_one previous previous = refl
-pattern_one (expression h) (expression g) = ap Expression (one_tree _ _ _ h.0 g.0)
+pattern_one (expression h) (expression g) = ap Expression (one_spelling _ _ _ h.0 g.0)
 
 abbrev pub ListBehind : ℕ → List ℕ → List ℕ → Piece → List ℕ → Type 0
 ListBehind d e r piece.End rest = ([] ≡ e) × (rest ≡ r)

@@ -3,7 +3,7 @@
 -- leaves open or undefined.
 use Rattle.std.specs.Prelude.{◌≡◌, ◌≢◌, ℕ, ◌<◌, ◌≤◌, ◌^◌, ◌-◌, true, false, not, List, [], ◌∷◌, length, Some, None, IsTrue, Contains}
 use Rattle.std.specs.Str.Parse.{digits_value}
-use Rattle.sedck_bre.specs.Shape.{Shape}
+use Rattle.sedck_bre.specs.Shape.{SpellsTree}
 use Rattle.sedck_text.specs.Bytes.{ascii}
 pub use Rattle.sedck_text.specs.Classes.{is_plain}
 use Rattle.sedck_commands.specs.Cuts.{newline, backslash, is_newline, is_blank, is_digit, is_letter, is_label_byte, is_ending, can_be_escaped, is_delimiter, IsEmptyOr, Longest}
@@ -45,7 +45,7 @@ pub record ExpressionTextIn (n : Narrowings) (delimiter : ℕ) (text expression 
 -- the pattern of an expression: the empty one stands for another of the script
 pub data IsPatternIn (n : Narrowings) : List ℕ → Pattern → Type 0 where
   previous : IsPatternIn n [] Previous
-  expression : {b : ℕ} {bytes : List ℕ} {tree : _} → Shape (b ∷ bytes) tree × n (Matched tree) → IsPatternIn n (b ∷ bytes) (Expression tree)
+  expression : {b : ℕ} {bytes : List ℕ} {tree : _} → SpellsTree (b ∷ bytes) tree × n (Matched tree) → IsPatternIn n (b ∷ bytes) (Expression tree)
 
 -- One list of a `y` command after its opening delimiter.
 pub data DelimitedList (delimiter : ℕ) : List ℕ → List ℕ → List ℕ → Type 0 where

@@ -8,6 +8,7 @@ use Rattle.sedck_expressions.specs.Misjudged.{is_misjudged}
 use Rattle.sedck_commands.specs.Cuts.{backslash, is_newline, is_letter, is_digit, is_continued, IsEmptyOr, Longest}
 use Rattle.sedck_commands.specs.BracketLists.{BracketsClose}
 use Rattle.sedck_bre.specs.Tree.{group_count}
+use Rattle.sedck_bre.specs.WellFormed.{IsWellFormed}
 use Rattle.sedck_commands.specs.Program.{Pattern, Previous, Expression, Part, Group, Address, NoAddress, Two, Label, Quit, WrittenVerb, Known, Command, patterns, expressions}
 use Rattle.sedck_commands.specs.Narrowings.{Script, Cut, Matched, Listed, Replaced, Named, AfterFlags, AfterLabel, AfterJump, Taken, Commented, Braced, Resolved, Narrowings}
 
@@ -116,7 +117,7 @@ abbrev pub read_alike : Narrowings
 read_alike (Script text) = IsScriptText text
 read_alike (Cut delimiter text expression rest) = IsAsWritten delimiter text expression rest
 -- an expression is well formed, and none that matchers of real seds get wrong: `\(a*\)*\1` may never end in GNU sed
-read_alike (Matched tree) = is_misjudged tree ≡ false
+read_alike (Matched tree) = IsWellFormed tree × (is_misjudged tree ≡ false)
 read_alike (Listed delimiter text rest) = ClosesBrackets delimiter text rest
 read_alike (Replaced pattern parts) = HasGroups pattern parts
 read_alike (Named name rest) = IsNameAlike name rest
