@@ -15,6 +15,7 @@ use Rattle.sedck_flow.specs.Patterns.{StandsFor}
 use Rattle.sedck_flow.specs.Run.{Files, State, Start, Event}
 use Rattle.sedck_flow.specs.WideRun.{any_locale, WideTransliterates, WideRun}
 use Rattle.sedck_flow.specs.CharacterRun.{characters_from, ArePartners, BecomesCharacter, CharacterTransliterates, utf_8, CharacterRun}
+use Rattle.sedck_flow.proofs.ExpressionPatterns.{expressions_are_patterns}
 use Rattle.sedck_flow.proofs.CharacterMatches.{neither, low_byte, widens}
 use Rattle.sedck_flow.proofs.Widening.{VerbWidens, Widens, steps_widen}
 
@@ -56,7 +57,8 @@ stands_whole : (p : Program) → IsByteSafe p → (pattern : Pattern) (tree : Tr
     → splits_character tree ≡ false
 stands_whole p safe (Expression own) tree none is =
     subst (λ t. splits_character t ≡ false) (sym is) (neither (splits_character own) false none).0
-stands_whole p safe Previous tree none has = none_has splits_character (expressions p.commands) tree (all_whole p.commands safe) has
+stands_whole p safe Previous tree none has =
+    none_has splits_character (expressions p.commands) tree (all_whole p.commands safe) ((expressions_are_patterns p.commands tree).1 has)
 
 -- ---- `y`
 

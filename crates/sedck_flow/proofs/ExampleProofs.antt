@@ -15,6 +15,7 @@ use Rattle.sedck_flow.specs.declared.graph.Kind.TheVariants.{Shorten, Keep}
 use Rattle.sedck_flow.specs.Substitutes.{Occurrence}
 use Rattle.sedck_flow.specs.Words.{edge_words}
 use Rattle.sedck_flow.specs.Examples.{ExamplesHold, one_x, any_xs, replacing, delete_matches, a_then_b, one_c, replacing_previous, replace_previous, b_in_group, replace_once, group_in_dashes, edge}
+use Rattle.sedck_flow.proofs.ExpressionPatterns.{expressions_are_patterns}
 use Rattle.sedck_flow.proofs.States.{at_inj}
 
 -- an empty match, and what follows it
@@ -68,13 +69,18 @@ previous_text tree text inside (groups, m) =
     ]
 
 previous_never_lengthens : NeverLengthens replace_previous replacing_previous
-previous_never_lengthens =
-    (record { no_whole = tt; distinct = tt; top = tt }, λ tree text groups inside m. omega (arith, previous_text tree text inside (groups, m)))
+previous_never_lengthens = (
+  record { no_whole = tt; distinct = tt; top = tt },
+  λ tree text groups inside m.
+      let known = (expressions_are_patterns replace_previous.commands tree).1 inside in
+      omega (arith, previous_text tree text known (groups, m)),
+)
 
 previous_not_shorten : ¬ Shortens replace_previous replacing_previous
 previous_not_shorten h =
     let matches : Match one_c no_groups (99 ∷ []) no_groups = (99 ∷ [], [], no_groups, refl, (refl, refl), (refl, refl)) in
-    let longer = h.1 one_c (99 ∷ []) no_groups (1, omega arith, refl) matches in
+    let inside = (expressions_are_patterns replace_previous.commands one_c).0 (1, omega arith, refl) in
+    let longer = h.1 one_c (99 ∷ []) no_groups inside matches in
     omega (arith, longer)
 
 -- a match of `a\(b\)c` has three bytes, and its group has one

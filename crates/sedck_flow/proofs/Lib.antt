@@ -1,4 +1,5 @@
 pub mod States
+pub mod ExpressionPatterns
 pub mod References
 pub mod WideRests
 pub mod Lengths

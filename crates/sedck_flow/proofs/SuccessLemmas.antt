@@ -15,6 +15,7 @@ use Rattle.sedck_script.specs.Shortest.{SomeHasLength}
 use Rattle.sedck_flow.specs.Patterns.{StandsFor}
 use Rattle.sedck_flow.specs.Flow.{AreRestsAbove, AreRestsAtLeast}
 use Rattle.sedck_flow.specs.Private.Least.{IsFormed, IsLeastOfRests}
+use Rattle.sedck_flow.proofs.ExpressionPatterns.{expressions_are_patterns}
 use Rattle.sedck_flow.proofs.References.{keeps_groups_or_not, different_groups, no_groups_of_previous}
 
 -- ---- The least rest
@@ -31,12 +32,13 @@ least_of_previous p s n previous keeps least = record { floor = floor; met = met
 
     floor : AreRestsAtLeast p s n
     floor tree text groups is m =
-        omega (arith, none groups, least.floor (length text) (tree, subst (λ (x : Pattern). StandsFor p x tree) previous is, (text, (groups, m), refl)))
+        let known = (expressions_are_patterns p.commands tree).1 (subst (λ (x : Pattern). StandsFor p x tree) previous is) in
+        omega (arith, none groups, least.floor (length text) (tree, known, (text, (groups, m), refl)))
 
     met : n < 16777215 → ¬ AreRestsAbove p s n
     met below all =
         let shortest = least.met below in
-        let is = subst (λ (x : Pattern). StandsFor p x shortest.0) (sym previous) shortest.1 in
+        let is = subst (λ (x : Pattern). StandsFor p x shortest.0) (sym previous) ((expressions_are_patterns p.commands shortest.0).0 shortest.1) in
         let groups = shortest.2.1.0 in
         omega (arith, all shortest.0 shortest.2.0 groups is shortest.2.1.1, none groups, shortest.2.2)
 
