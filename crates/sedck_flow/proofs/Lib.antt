@@ -1,5 +1,6 @@
 pub mod States
 pub mod ExpressionPatterns
+pub mod Conditional
 pub mod References
 pub mod WideRests
 pub mod Lengths

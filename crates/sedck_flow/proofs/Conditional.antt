@@ -1,0 +1,22 @@
+-- Which commands may be skipped, said in two ways.
+use Rattle.std.proofs.Common.{◌≡◌, ◌≢◌, ◌⊎◌, Bool, true, false, refl, inl, inr}
+use Rattle.std.specs.Prelude.{◌↔◌, ◌||◌, IsTrue}
+use Rattle.std.proofs.lemmas.Bool.{false≢true}
+use Rattle.sedck_script.specs.Program.{Place, Address, NoAddress, One, Two, Command}
+use Rattle.sedck_flow.specs.Run.{has_address, is_conditional}
+
+pub one_address : (place : Place) → One place ≢ NoAddress
+one_address place is = cc
+
+two_addresses : (first end : Place) → Two first end ≢ NoAddress
+two_addresses first end is = cc
+
+conditional_by : (negated : Bool) (a : Address) → IsTrue (negated || has_address a) ↔ ((negated ≡ true) ⊎ (a ≢ NoAddress))
+conditional_by true a = (λ h. inl refl, λ h. refl)
+conditional_by false NoAddress = (λ h. absurd (false≢true h), λ h. elim h [ inl is ↦ is | inr some ↦ absurd (some refl) ])
+conditional_by false (One place) = (λ h. inr (one_address place), λ h. refl)
+conditional_by false (Two first end) = (λ h. inr (two_addresses first end), λ h. refl)
+
+-- a command has a `!` or an address
+pub conditional : (c : Command) → IsTrue (is_conditional c) ↔ ((c.negated ≡ true) ⊎ (c.address ≢ NoAddress))
+conditional c = conditional_by c.negated c.address
