@@ -1,16 +1,17 @@
 -- A certificate's text ends with its lists of files, and with no others.
 use Rattle.std.proofs.Common.{◌≡◌, inl, inr, ℕ, suc, ◌+◌, ◌<◌, ◌≤◌, ◌^◌, List, [], ◌∷◌, ◌++◌, length, Contains, decimal, codes, Option, length-append, refl, sym, ◌∙◌, ap, subst, arith, true, false}
-use Rattle.std.specs.Prelude.{◌/◌}
+use Rattle.std.specs.Prelude.{◌/◌, flat_map}
 use Rattle.std.specs.List.{AllByRecursion}
 use Rattle.std.proofs.lemmas.Bool.{false≢true}
 use Rattle.std.proofs.lemmas.List.Elements.{All-from_recursion, recursion_from_All}
 use Rattle.std.proofs.lemmas.Fmt.{decimal_injective}
 use Rattle.std.proofs.lemmas.List.{append_cancel_left}
+use Rattle.sedck_text.specs.Bytes.{newline}
 use Rattle.sedck_text.specs.Text.{one_of, begins}
 use Rattle.sedck_script.specs.Names.{AreNames, IsName}
 use Rattle.sedck_script.proofs.SortedNames.{all_weaker, all_append}
 use Rattle.sedck_cert.specs.Certificate.{Certificate, AreWithin}
-use Rattle.sedck_cert.specs.Text.{header, words_in, node_text, node_texts, joined_lines, IsOneLine, IsTextOf, FileLists, last_lines, IsEarlierLine, EndsWithLists, file_lists}
+use Rattle.sedck_cert.specs.Text.{header, words_in, node_text, node_texts, joined_lines, IsOneLine, IsTextOf, FileLists, last_lines, EndsWithLists, file_lists}
 use Rattle.sedck_cert.specs.Versions.{SpellsCertificate}
 use Rattle.sedck_cert.specs.declared.versions.Version.{Version}
 use Rattle.sedck_cert.specs.declared.versions.Version.TheVariants.{One, Two}
@@ -19,6 +20,12 @@ use Rattle.sedck_cert.proofs.LinesAreText.{above-one_line, decimal-one_line, nod
 use Rattle.sedck_cert.proofs.UniqueTexts.{lines_one, no_line, append_split}
 
 -- ---- Lines that don't begin with an `r`
+
+abbrev IsEarlier : List ℕ → Type 0
+IsEarlier text = begins "r" text ≡ false
+
+abbrev IsEarlierLine : List ℕ → Type 0
+IsEarlierLine text = IsOneLine text × IsEarlier text
 
 -- more of a text that begins otherwise
 more : (a b : List ℕ) → (0 < length a) × (begins "r" a ≡ false) → (0 < length (a ++ b)) × (begins "r" (a ++ b) ≡ false)
@@ -52,6 +59,11 @@ header_before : (v : Version) → begins "r" (header v) ≡ false
 header_before One = refl
 header_before Two = refl
 
+-- lines that are joined are each ended by a newline
+joined_lines-flat : (lines : List (List ℕ)) → joined_lines lines ≡ flat_map (λ l. l ++ newline ∷ []) lines
+joined_lines-flat [] = refl
+joined_lines-flat (l ∷ lines) = ap (λ t. (l ++ newline ∷ []) ++ t) (joined_lines-flat lines)
+
 -- ---- A certificate's text ends so
 
 -- the text ends with these lists, which aren't long
@@ -82,12 +94,16 @@ text_ends v text c h =
     let commands : IsOneLine (codes "commands " ++ decimal c.commands) =
     decimal-one_line (codes "commands ") c.commands (omega (arith, within.commands)) (above-one_line (codes "commands ") refl) in
     let earlier = header v ∷ (codes "commands " ++ decimal c.commands) ∷ node_texts v 0 c.ranks in
+    let lines : AllByRecursion IsEarlierLine earlier = ((header-one_line v, header_before v), ((commands, refl), nodes)) in
+    let last = last_lines (file_lists c) in
     record {
       ends = record {
         earlier = earlier;
-        are_earlier = All-from_recursion IsEarlierLine earlier ((header-one_line v, header_before v), ((commands, refl), nodes));
-        are_lines = All-from_recursion IsOneLine (last_lines (file_lists c)) (last_one (file_lists c) within.reads within.writes);
-        is_text = h.is_text ∙ sym (certificate_lines-joined v c);
+        are_earlier = All-from_recursion IsEarlier earlier (all_weaker IsEarlierLine IsEarlier (λ l both. both.1) earlier lines);
+        are_lines = All-from_recursion IsOneLine (earlier ++ last)
+            (all_append IsOneLine earlier last (all_weaker IsEarlierLine IsOneLine (λ l both. both.0) earlier lines)
+            (last_one (file_lists c) within.reads within.writes));
+        is_text = h.is_text ∙ sym (certificate_lines-joined v c) ∙ joined_lines-flat (earlier ++ last);
       };
       reads = within.reads.count;
       writes = within.writes.count;
@@ -107,11 +123,11 @@ same_lines (x ∷ xs) (y ∷ ys) h k e =
     let both = lines_one x y (joined_lines xs) (joined_lines ys) h.0 k.0 e in cc (both.0, same_lines xs ys h.1 k.1 both.1)
 
 -- what begins at the first line with an `r` in front
-same_from : (a b : List (List ℕ)) (x y : List ℕ) (xs ys : List (List ℕ)) → AllByRecursion IsEarlierLine a → AllByRecursion IsEarlierLine b
+same_from : (a b : List (List ℕ)) (x y : List ℕ) (xs ys : List (List ℕ)) → AllByRecursion IsEarlier a → AllByRecursion IsEarlier b
     → begins "r" x ≡ true → begins "r" y ≡ true → a ++ x ∷ xs ≡ b ++ y ∷ ys → x ∷ xs ≡ y ∷ ys
 same_from [] [] x y xs ys h k f g e = e
-same_from [] (l ∷ b) x y xs ys h k f g e = let same : x ≡ l = cc e in absurd (false≢true (sym k.0.1 ∙ ap (begins "r") (sym same) ∙ f))
-same_from (l ∷ a) [] x y xs ys h k f g e = let same : l ≡ y = cc e in absurd (false≢true (sym h.0.1 ∙ ap (begins "r") same ∙ g))
+same_from [] (l ∷ b) x y xs ys h k f g e = let same : x ≡ l = cc e in absurd (false≢true (sym k.0 ∙ ap (begins "r") (sym same) ∙ f))
+same_from (l ∷ a) [] x y xs ys h k f g e = let same : l ≡ y = cc e in absurd (false≢true (sym h.0 ∙ ap (begins "r") same ∙ g))
 same_from (l ∷ a) (m ∷ b) x y xs ys h k f g e = let rest : a ++ x ∷ xs ≡ b ++ y ∷ ys = cc e in same_from a b x y xs ys h.1 k.1 f g rest
 
 lists_same : (l m : FileLists) → length l.reads ≤ 4095 → length l.writes ≤ 4095 → last_lines l ≡ last_lines m → m ≡ l
@@ -134,13 +150,14 @@ lists_same l m few less e =
     λ i. record { reads = sym reads.0 i; writes = sym writes.0 i }
 
 all_lines : {text : List ℕ} {files : FileLists} (ends : EndsWithLists text files) → AllByRecursion IsOneLine (ends.earlier ++ last_lines files)
-all_lines {files = files} ends = all_append IsOneLine ends.earlier (last_lines files)
-    (all_weaker IsEarlierLine IsOneLine (λ l both. both.0) ends.earlier (recursion_from_All IsEarlierLine ends.earlier ends.are_earlier))
-    (recursion_from_All IsOneLine (last_lines files) ends.are_lines)
+all_lines {files = files} ends = recursion_from_All IsOneLine (ends.earlier ++ last_lines files) ends.are_lines
+
+joined : {text : List ℕ} {files : FileLists} (ends : EndsWithLists text files) → joined_lines (ends.earlier ++ last_lines files) ≡ text
+joined {files = files} ends = joined_lines-flat (ends.earlier ++ last_lines files) ∙ sym ends.is_text
 
 pub lists_only : {text : List ℕ} {files : FileLists} → Ending text files → (other : FileLists) → EndsWithLists text other → other ≡ files
 lists_only {files = files} e other o =
-    let lines = same_lines (e.ends.earlier ++ last_lines files) (o.earlier ++ last_lines other) (all_lines e.ends) (all_lines o) (sym e.ends.is_text ∙ o.is_text) in
+    let lines = same_lines (e.ends.earlier ++ last_lines files) (o.earlier ++ last_lines other) (all_lines e.ends) (all_lines o) (joined e.ends ∙ sym (joined o)) in
     lists_same files other e.reads e.writes
-    (same_from e.ends.earlier o.earlier _ _ _ _ (recursion_from_All IsEarlierLine e.ends.earlier e.ends.are_earlier)
-    (recursion_from_All IsEarlierLine o.earlier o.are_earlier) refl refl lines)
+    (same_from e.ends.earlier o.earlier _ _ _ _ (recursion_from_All IsEarlier e.ends.earlier e.ends.are_earlier)
+    (recursion_from_All IsEarlier o.earlier o.are_earlier) refl refl lines)
