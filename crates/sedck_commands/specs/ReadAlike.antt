@@ -76,7 +76,7 @@ MayBeBraced braced depth = braced ≡ true → depth ≤ 1
 abbrev pub HasNoInnerReturn : List ℕ → Type 0
 HasNoInnerReturn comment = (front behind : List ℕ) → comment ≡ front ++ carriage_return ∷ behind → behind ≡ []
 
--- ---- What no sed takes, or not each
+-- ---- What seds refuse, and limits
 
 -- a text that may be a script's: it isn't too long and holds no byte 0
 pub record IsScriptText (text : List ℕ) : Type 0 where
