@@ -428,7 +428,6 @@ LIBRARY = {
     "◌+◌": "the sum",
     "◌-◌": "the difference, but never below 0",
     "◌^◌": "the power",
-    "max": "the greater number",
     "◌<◌": "less than",
     "◌≤◌": "at most",
     "nat_le": "whether one number is at most another",
