@@ -2,6 +2,7 @@
 use Rattle.std.proofs.Common.{◌≡◌, Option, Some, None, ◌∙◌, ◌||◌, ◌&&◌, ℕ, ◌+◌, ◌<◌, min, Bool, true, false, List, [], ◌∷◌, ◌++◌, map, refl, sym, ap, subst, arith}
 use Rattle.std.specs.Prelude.{sum_by}
 use Rattle.std.specs.List.{list_any}
+use Rattle.std.proofs.Math.Bool.{or-true, or-false}
 use Rattle.std.proofs.lemmas.List.Folds.{list_any-append}
 use Rattle.std.proofs.lemmas.List.Sums.{sum_by_push}
 use Rattle.sedck_bre.specs.Tree.{trees}
@@ -26,12 +27,8 @@ written_out-push inside (y ∷ xs) x = let h = written_out-push inside xs x in o
 
 -- ---- Commands
 
-or_false : (a : Bool) → (a || false) ≡ a
-or_false true = refl
-or_false false = refl
-
 any-push : (p : Command → Bool) (cs : List Command) (c : Command) → list_any p (cs ++ c ∷ []) ≡ (list_any p cs || p c)
-any-push p cs c = list_any-append p cs (c ∷ []) ∙ ap (λ b. list_any p cs || b) (or_false (p c))
+any-push p cs c = list_any-append p cs (c ∷ []) ∙ ap (λ b. list_any p cs || b) (or-false (p c))
 
 -- one command more
 pub weighs_more : (cs more : List Command) (c : Command) (w own new : Weight) → more ≡ cs ++ c ∷ [] → WeighsAll cs w → Weighs (command_expressions c) own
@@ -53,14 +50,10 @@ copies_positive least (Some most) = omega arith
 
 -- ---- Warnings
 
-or_true : (a : Bool) → (a || true) ≡ true
-or_true true = refl
-or_true false = refl
-
 -- what is warned of, with what is left: where the next one is warned of, and where it isn't
 pub with_warning : (was now next rest left due : Bool) → left ≡ (next || rest) → next ≡ true → now ≡ true → (was || left) ≡ due → (now || rest) ≡ due
 with_warning was now next rest left due split is warned known =
-    ap (λ b. b || rest) warned ∙ sym (or_true was) ∙ ap (λ l. was || l) (sym (split ∙ ap (λ b. b || rest) is)) ∙ known
+    ap (λ b. b || rest) warned ∙ sym (or-true was) ∙ ap (λ l. was || l) (sym (split ∙ ap (λ b. b || rest) is)) ∙ known
 
 pub without_warning : (was next rest left due : Bool) → left ≡ (next || rest) → next ≡ false → (was || left) ≡ due → (was || rest) ≡ due
 without_warning was next rest left due split none known = ap (λ l. was || l) (sym (split ∙ ap (λ b. b || rest) none)) ∙ known
@@ -72,4 +65,4 @@ locale_push old new f is warns =
     ap has_locale is
     ∙ list_any-append (λ finding. is_warning finding.level && is_locale finding.code) old (f ∷ [])
     ∙ ap (λ b. has_locale old || (b || false)) warns
-    ∙ or_true (has_locale old)
+    ∙ or-true (has_locale old)

@@ -1,6 +1,7 @@
 -- Going through a list of items: what is left of it, and that nothing before is sought.
 use Rattle.std.proofs.Common.{◌≡◌, ℕ, ◌+◌, ◌≤◌, Bool, true, false, List, [], ◌∷◌, ◌++◌, drop, Option, Some, inl, inr, refl, sym, ap, ◌∙◌, arith, append_assoc}
 use Rattle.std.specs.Prelude.{IsTrue, codes, unwrap_or, ◌||◌, ◌&&◌}
+use Rattle.std.proofs.Math.Bool.{or-true}
 use Rattle.std.proofs.lemmas.Bool.Decides.{nat_tests}
 use Rattle.std.proofs.lemmas.List.{drop-drop}
 use Rattle.sedck_text.specs.Text.{begins}
@@ -26,18 +27,6 @@ pub record IsLeft (sought : Sought) (level : Level) (after text : List ℕ) (all
   pub references : IsTrue sought.references → one_has_part is_reference ts ≡ one_has_part is_reference all
   pub anchors : IsTrue sought.anchors → one_has_part is_anchor ts ≡ one_has_part is_anchor all
   pub repeated : one_has_part repeats_anchor ts ≡ one_has_part repeats_anchor all
-
-pub left_first : (sought : Sought) (level : Level) (position : Position) (own after text : List ℕ) (ts : Trees) → text ≡ own ++ after
-    → SpellsItems level position own ts → IsLeft sought level after text ts ts
-left_first sought level position own after text ts cut spelled = record {
-  position = position;
-  own = own;
-  cut = cut;
-  spelled = spelled;
-  references = λ _. refl;
-  anchors = λ _. refl;
-  repeated = refl;
-}
 
 -- one item of the list is passed
 pub left_more : {sought : Sought} {level : Level} {after text : List ℕ} {all : Trees} (more : List ℕ) (t : Tree) (ts : Trees)
@@ -76,10 +65,6 @@ none_repeat body least most none = record {
   repeated = ap (λ b. b || has_part repeats_anchor body) (none.anchors refl) ∙ none.repeated;
 }
 
-or_true : (b : Bool) → (b || true) ≡ true
-or_true true = refl
-or_true false = refl
-
 nothing_misjudged : (reference by_group repeated anchor : Bool) → ((reference && by_group) ≡ true → reference ≡ false) → (reference ≡ true → anchor ≡ false)
     → repeated ≡ false → ((reference && by_group) || (repeated || (reference && anchor))) ≡ false
 nothing_misjudged false by_group repeated anchor f g h = rw h refl
@@ -103,7 +88,7 @@ pub stops_repeat : (sought : Sought) (text : List ℕ) (body : Tree) (least : �
     → StopsAt (record sought { anchors = true }) body text fault → StopsAt sought (Repeat body least most) text fault
 stops_repeat sought text body least most (BadReference offset) stop = stop
 stops_repeat sought text body least most (NothingToRepeat offset) (at, inl (any, has)) = (at, inr (ap (λ b. b || has_part repeats_anchor body) has))
-stops_repeat sought text body least most (NothingToRepeat offset) (at, inr has) = (at, inr (ap (λ b. has_part is_anchor body || b) has ∙ or_true (has_part is_anchor body)))
+stops_repeat sought text body least most (NothingToRepeat offset) (at, inr has) = (at, inr (ap (λ b. has_part is_anchor body || b) has ∙ or-true (has_part is_anchor body)))
 stops_repeat sought text body least most fault stop = absurd stop
 
 pub stops_all : (sought : Sought) (text : List ℕ) {level : Level} {after left : List ℕ} {all : Trees} (t : Tree) (ts : Trees) (fault : ReFault)
@@ -119,7 +104,7 @@ pub stops_misjudged : (sought : Sought) (text : List ℕ) (t : Tree) (fault : Re
     → sought.anchors ≡ has_part is_reference t → StopsAt sought t text fault → IsMisjudgedAt text t fault
 stops_misjudged sought text t (BadReference offset) references anchors stop = (stop.0, stop.1, sym references ∙ stop.2)
 stops_misjudged sought text t (NothingToRepeat offset) references anchors (at, inl (any, has)) =
-    (at, rw (sym anchors ∙ any, has) (or_true (has_part repeats_anchor t)))
+    (at, rw (sym anchors ∙ any, has) (or-true (has_part repeats_anchor t)))
 stops_misjudged sought text t (NothingToRepeat offset) references anchors (at, inr has) = (at, rw has refl)
 stops_misjudged sought text t fault references anchors stop = absurd stop
 

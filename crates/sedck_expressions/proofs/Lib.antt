@@ -19,3 +19,5 @@ pub mod SetLoop
 pub mod OffsetLemmas
 pub mod ViewLemmas
 pub mod Along
+pub mod PartLemmas
+pub mod WithoutBackslash

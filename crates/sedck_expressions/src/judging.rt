@@ -4,7 +4,7 @@
 ghost use Rattle.std.specs.Prelude.{◌≡◌, ◌≢◌, ◌++◌, [], ℕ, List, IsTrue, IfOk, Option, MatchOption, drop, map, true, false};
 ghost use Rattle.std.specs.Option.{option_map};
 ghost use Rattle.sedck_text.specs.Cursors.{unread};
-ghost use Rattle.sedck_text.specs.Text.{begins};
+ghost use Rattle.sedck_text.specs.Text.{begins, is_in};
 ghost use Rattle.sedck_expressions.specs.Tree.{trees};
 ghost use Rattle.sedck_expressions.specs.View.{tree};
 ghost use Rattle.sedck_expressions.specs.Brackets.{IsBracketList};
@@ -16,9 +16,9 @@ ghost use Rattle.sedck_expressions.specs.Private.Along.{Passes, PassesAll};
 use crate::brackets::read_bracket_list;
 use crate::fault::ReFault;
 use crate::intervals::read_interval;
-use crate::parts::{Part, has_misjudged_anchor, has_misjudged_reference, has_part};
+use crate::parts::{misjudges_anchor, misjudges_reference, parts_of};
 use crate::tree::Bre;
-use sedck_text::Cursor;
+use sedck_text::{Class, Cursor};
 
 /// What is sought: references, and anchors in groups. Without the latter an anchor counts only in what is repeated.
 #[derive(Clone, Copy)]
@@ -38,7 +38,8 @@ fn ahead<'a>(cursor: Cursor<'a>, count: usize) -> Cursor<'a>
 /// The cursor after a byte that stands for itself, or for another one with a backslash before it.
 fn after_byte<'a>(cursor: Cursor<'a>) -> Cursor<'a>
     ensures same { result.whole ≡ cursor.entry.whole }
-    ensures left { (position : shape.Position) (c : ℕ) (text rest after : List ℕ) → unread cursor.entry ≡ text ++ after → shape.SpellsByte position text rest c → unread result ≡ after }
+    ensures left { (position : shape.Position) (c : ℕ) (text rest after : List ℕ) → unread cursor.entry ≡ text ++ after
+        → shape.SpellsByte position text rest c → unread result ≡ after }
 {
     match cursor.unread() {
         [b'\\', ..] => ahead(cursor, 2),
@@ -83,7 +84,8 @@ fn is_star(cursor: Cursor<'_>) -> bool
 /// The cursor after a sign of repetition.
 fn after_sign<'a>(cursor: Cursor<'a>) -> Cursor<'a>
     ensures same { result.whole ≡ cursor.entry.whole }
-    ensures left { (least : ℕ) (most : Option ℕ) (text after : List ℕ) → unread cursor.entry ≡ text ++ after → SpellsCount text least most → unread result ≡ after }
+    ensures left { (least : ℕ) (most : Option ℕ) (text after : List ℕ) → unread cursor.entry ≡ text ++ after → SpellsCount text least most
+        → unread result ≡ after }
 {
     if is_star(cursor) {
         return ahead(cursor, 1);
@@ -98,7 +100,8 @@ fn after_sign<'a>(cursor: Cursor<'a>) -> Cursor<'a>
 #[cycle(items)]
 fn pass_item<'a>(item: &Bre, sought: Sought, cursor: Cursor<'a>) -> Result<Cursor<'a>, ReFault>
     ensures same { IfOk result (λ x. x.whole ≡ cursor.entry.whole) }
-    ensures passes { (level : shape.Level) (position : shape.Position) (text rest after : List ℕ) → unread cursor.entry ≡ text ++ after → SpellsItem level position text rest (tree item.now) → Passes sought (tree item.now) cursor.entry.whole.now after result }
+    ensures passes { (level : shape.Level) (position : shape.Position) (text rest after : List ℕ) → unread cursor.entry ≡ text ++ after
+        → SpellsItem level position text rest (tree item.now) → Passes sought (tree item.now) cursor.entry.whole.now after result }
 {
     match item {
         Bre::Byte(_) => Ok(after_byte(cursor)),
@@ -140,7 +143,8 @@ fn pass_item<'a>(item: &Bre, sought: Sought, cursor: Cursor<'a>) -> Result<Curso
 #[cycle(items)]
 fn pass_list<'a>(list: &Bre, sought: Sought, cursor: Cursor<'a>) -> Result<Cursor<'a>, ReFault>
     ensures same { IfOk result (λ x. x.whole ≡ cursor.entry.whole) }
-    ensures passes { (level : shape.Level) (text after : List ℕ) → unread cursor.entry ≡ text ++ after → SpellsList level text (tree list.now) → Passes sought (tree list.now) cursor.entry.whole.now after result }
+    ensures passes { (level : shape.Level) (text after : List ℕ) → unread cursor.entry ≡ text ++ after
+        → SpellsList level text (tree list.now) → Passes sought (tree list.now) cursor.entry.whole.now after result }
 {
     match list {
         Bre::Seq(items) => pass_items(items, sought, cursor),
@@ -152,7 +156,9 @@ fn pass_list<'a>(list: &Bre, sought: Sought, cursor: Cursor<'a>) -> Result<Curso
 #[cycle(items)]
 fn pass_items<'a>(items: &[Bre], sought: Sought, cursor: Cursor<'a>) -> Result<Cursor<'a>, ReFault>
     ensures same { IfOk result (λ x. x.whole ≡ cursor.entry.whole) }
-    ensures passes { (level : shape.Level) (position : shape.Position) (text after : List ℕ) → unread cursor.entry ≡ text ++ after → SpellsItems level position text (trees (map tree items.now)) → PassesAll sought (trees (map tree items.now)) cursor.entry.whole.now after result }
+    ensures passes { (level : shape.Level) (position : shape.Position) (text after : List ℕ) → unread cursor.entry ≡ text ++ after
+        → SpellsItems level position text (trees (map tree items.now))
+        → PassesAll sought (trees (map tree items.now)) cursor.entry.whole.now after result }
 {
     let mut next = cursor;
     for item in items {
@@ -161,24 +167,31 @@ fn pass_items<'a>(items: &[Bre], sought: Sought, cursor: Cursor<'a>) -> Result<C
     Ok(next)
 }
 
-/// Whether matchers of real seds get the expression wrong.
-fn is_misjudged(expression: &Bre) -> bool
-    ensures { result ≡ is_misjudged (tree expression.now) }
+/// Whether the text has a backslash. Without one there is no group and no reference.
+fn has_backslash(text: &[u8]) -> bool
+    ensures { result ≡ is_in 92 text.now }
 {
-    has_misjudged_reference(expression) || has_misjudged_anchor(expression)
+    Class::Except(b'\\').run_length(text) < text.len()
 }
 
 /// Why matchers of real seds get the expression wrong that the text spells, if they do. Of several references and anchors it is the first.
 pub fn misjudged(text: &[u8], expression: &Bre) -> Option<ReFault>
     requires { Shape text.now (tree expression.now) }
-    ensures { MatchOption result (is_misjudged (tree expression.now) ≡ false) (λ fault. (is_misjudged (tree expression.now) ≡ true) × IsMisjudgedAt text.now (tree expression.now) fault) }
+    ensures { MatchOption result (is_misjudged (tree expression.now) ≡ false)
+        (λ fault. (is_misjudged (tree expression.now) ≡ true) × IsMisjudgedAt text.now (tree expression.now) fault) }
 {
-    if !is_misjudged(expression) {
+    if !has_backslash(text) {
+        return None;
+    }
+    let parts = parts_of(expression);
+    let references = misjudges_reference(expression, parts);
+    let anchors = misjudges_anchor(parts);
+    if !references && !anchors {
         return None;
     }
     let sought = Sought {
-        references: has_misjudged_reference(expression),
-        anchors: has_part(expression, Part::Reference),
+        references,
+        anchors: parts.has_reference(),
     };
     match pass_list(expression, sought, Cursor::new(text)) {
         Ok(_) => None,

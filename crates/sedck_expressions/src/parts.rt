@@ -1,54 +1,129 @@
-//! Which of the parts that matchers get wrong a tree has.
+//! Which of the parts that matchers get wrong a tree has. They are all found in one pass over it, however many groups it has.
 
-ghost use Rattle.std.specs.Prelude.{◌≡◌, ℕ, Option, min, map, nat_lt, sum_by, false};
+ghost use Rattle.std.specs.Prelude.{◌≡◌, ◌<◌, ℕ, List, min, map, nat_lt, sum_by, bit_or, bit_and, false};
 ghost use Rattle.std.specs.List.{list_any};
-ghost use Rattle.sedck_expressions.specs.Tree.{trees};
+ghost use Rattle.sedck_expressions.specs.Tree.{Tree, trees};
 ghost use Rattle.sedck_expressions.specs.View.{tree};
-ghost use Rattle.sedck_expressions.specs.Misjudged.{has_part, one_has_part, is_group, is_reference_to, may_be_empty, all_may_be_empty, is_misjudged_group, references_to, all_references_to, references_to_nothing, is_end, is_end_last, ends_in_anchor, has_two_to_nothing, has_misjudged_reference, has_misjudged_anchor};
-ghost use Rattle.sedck_expressions.specs.Tree as spec;
-ghost use Rattle.sedck_expressions.specs.Private.Parts.{is_part};
+ghost use Rattle.sedck_expressions.specs.Misjudged.{is_group, is_end, is_end_last, ends_in_anchor};
+ghost use Rattle.sedck_expressions.specs.Private.Parts as spec;
+ghost use Rattle.sedck_expressions.specs.Private.Parts.{bit, names, parts_of, own_reference, is_misjudged_by, references_by, misjudges_reference, misjudges_anchor};
 
 use crate::tree::Bre;
 
-/// What is looked for in a tree. A number is that of a group.
+/// What a tree is, and the references, groups and anchors in it. Bit k of a number stands for group k; the greatest that can be named is 9.
 #[derive(Clone, Copy)]
-pub(crate) enum Part {
-    Reference,
-    ReferenceTo(u8),
-    RepeatedReferenceTo(u8),
-    RepeatedGroup,
-    GroupWithReference(u8),
-    GroupOfNothing(u8),
-    Anchor,
-    RepeatedAnchor,
+pub(crate) struct Parts {
+    /// Whether by its form alone it may match nothing.
+    may_be_empty: bool,
+    has_reference: bool,
+    /// Whether a `^` or a `$` in a group may be an anchor.
+    has_anchor: bool,
+    repeats_anchor: bool,
+    repeats_group: bool,
+    /// The groups with a reference to them.
+    referenced: u16,
+    /// The groups with two references to them or more.
+    twice: u16,
+    /// The groups with a reference to them that is repeated by itself.
+    repeated: u16,
+    /// The groups that have a reference in them.
+    with_reference: u16,
+    /// The groups that may match nothing.
+    of_nothing: u16,
 }
 
-/// Whether by its form alone the tree may match nothing.
-#[cycle(nothing)]
-fn may_be_empty(expression: &Bre) -> bool
-    ensures { result ≡ may_be_empty (tree expression.now) }
+/// The parts of what matches one byte.
+const NONE: Parts = Parts {
+    may_be_empty: false,
+    has_reference: false,
+    has_anchor: false,
+    repeats_anchor: false,
+    repeats_group: false,
+    referenced: 0,
+    twice: 0,
+    repeated: 0,
+    with_reference: 0,
+    of_nothing: 0,
+};
+
+/// The bit of the group.
+fn bit(k: u8) -> u16
+    ensures { result ≡ bit k }
 {
-    match expression {
-        Bre::Byte(_) => false,
-        Bre::Any => false,
-        Bre::Set(_) => false,
-        Bre::Group(_, body) => may_be_empty(body),
-        Bre::Seq(items) => all_may_be_empty(items),
-        Bre::Repeat { body, least, .. } => *least == 0 || may_be_empty(body),
-        _ => true,
+    if k < 16 { 1 << k } else { 0 }
+}
+
+/// Whether the bits name the group.
+fn names(bits: u16, k: u8) -> bool
+    ensures { result ≡ names bits k }
+{
+    k < 16 && (bits >> k) & 1 == 1
+}
+
+impl Parts {
+    ghost use Rattle.sedck_expressions.specs.Private.Parts as spec;
+    ghost use Rattle.std.specs.Prelude.{◌≡◌};
+
+    pub(crate) fn has_reference(self) -> bool
+        ensures { result ≡ self.has_reference }
+    {
+        self.has_reference
     }
-}
 
-#[cycle(nothing)]
-fn all_may_be_empty(items: &[Bre]) -> bool
-    ensures { result ≡ all_may_be_empty (trees (map tree items.now)) }
-{
-    for item in items {
-        if !may_be_empty(item) {
-            return false;
+    /// The parts of both trees, one after another.
+    fn and_then(self, next: Parts) -> Parts
+        ensures { result ≡ spec.and_then self next }
+    {
+        Parts {
+            may_be_empty: self.may_be_empty && next.may_be_empty,
+            has_reference: self.has_reference || next.has_reference,
+            has_anchor: self.has_anchor || next.has_anchor,
+            repeats_anchor: self.repeats_anchor || next.repeats_anchor,
+            repeats_group: self.repeats_group || next.repeats_group,
+            referenced: self.referenced | next.referenced,
+            twice: self.twice | next.twice | (self.referenced & next.referenced),
+            repeated: self.repeated | next.repeated,
+            with_reference: self.with_reference | next.with_reference,
+            of_nothing: self.of_nothing | next.of_nothing,
         }
     }
-    true
+
+    /// The parts of both, where the next tree matches one byte.
+    fn and_byte(self) -> Parts
+        ensures { result ≡ spec.and_then self spec.none }
+    {
+        Parts {
+            may_be_empty: false,
+            ..self
+        }
+    }
+
+    /// The parts of a group that has these in it.
+    fn in_group(self, k: u8) -> Parts
+        ensures { result ≡ spec.in_group k self }
+    {
+        let own = bit(k);
+        let referring = if self.has_reference { own } else { 0 };
+        let empty = if self.may_be_empty { own } else { 0 };
+        Parts {
+            with_reference: self.with_reference | referring,
+            of_nothing: self.of_nothing | empty,
+            ..self
+        }
+    }
+
+    /// The parts of a repetition of what has these: the bits are those of the reference that it is, if it is one.
+    fn repeated(self, reference: u16, group: bool, least: u8) -> Parts
+        ensures { result ≡ spec.repeated reference group least self }
+    {
+        Parts {
+            may_be_empty: least == 0 || self.may_be_empty,
+            repeats_anchor: self.repeats_anchor || self.has_anchor,
+            repeats_group: self.repeats_group || group,
+            repeated: self.repeated | reference,
+            ..self
+        }
+    }
 }
 
 fn is_group(expression: &Bre) -> bool
@@ -57,139 +132,104 @@ fn is_group(expression: &Bre) -> bool
     matches!(expression, Bre::Group(..))
 }
 
-fn is_reference_to(expression: &Bre, group: u8) -> bool
-    ensures { result ≡ is_reference_to group (tree expression.now) }
+/// The bit of the group that the tree is a reference to.
+fn own_reference(expression: &Bre) -> u16
+    ensures { result ≡ own_reference (tree expression.now) }
 {
     match expression {
-        Bre::Ref(k) => *k == group,
-        _ => false,
+        Bre::Ref(k) => bit(*k),
+        _ => 0,
     }
 }
 
-/// Whether the tree, or one in it, is what is looked for.
+/// The parts of a tree.
 #[cycle(parts)]
-pub(crate) fn has_part(expression: &Bre, part: Part) -> bool
-    ensures { result ≡ has_part (is_part part) (tree expression.now) }
+pub(crate) fn parts_of(expression: &Bre) -> Parts
+    ensures { result ≡ parts_of (tree expression.now) }
 {
     match expression {
-        Bre::Ref(k) => match part {
-            Part::Reference => true,
-            Part::ReferenceTo(group) => *k == group,
-            _ => false,
+        Bre::Byte(_) => NONE,
+        Bre::Any => NONE,
+        Bre::Set(_) => NONE,
+        Bre::Start => Parts {
+            may_be_empty: true,
+            ..NONE
         },
-        Bre::Maybe(_) => matches!(part, Part::Anchor),
-        Bre::Group(k, body) => is_group_part(*k, body, part) || has_part(body, part),
-        Bre::Seq(items) => one_has_part(items, part),
-        Bre::Repeat { body, .. } => is_repeated_part(body, part) || has_part(body, part),
-        Bre::Byte(_) => false,
-        Bre::Any => false,
-        Bre::Set(_) => false,
-        Bre::Start => false,
-        Bre::End => false,
-    }
-}
-
-#[cycle(parts)]
-fn one_has_part(items: &[Bre], part: Part) -> bool
-    ensures { result ≡ one_has_part (is_part part) (trees (map tree items.now)) }
-{
-    for item in items {
-        if has_part(item, part) {
-            return true;
+        Bre::End => Parts {
+            may_be_empty: true,
+            ..NONE
+        },
+        Bre::Maybe(_) => Parts {
+            may_be_empty: true,
+            has_anchor: true,
+            ..NONE
+        },
+        Bre::Ref(k) => Parts {
+            may_be_empty: true,
+            has_reference: true,
+            referenced: bit(*k),
+            ..NONE
+        },
+        Bre::Group(k, body) => parts_of(body).in_group(*k),
+        Bre::Seq(items) => parts_of_all(items),
+        Bre::Repeat { body, least, .. } => {
+            parts_of(body).repeated(own_reference(body), is_group(body), *least)
         }
     }
-    false
 }
 
-/// Whether a group with this number and this inside is what is looked for.
+/// The parts of trees, one after another.
 #[cycle(parts)]
-fn is_group_part(k: u8, body: &Bre, part: Part) -> bool
-    ensures { result ≡ is_part part (spec.Group k (tree body.now)) }
+fn parts_of_all(items: &[Bre]) -> Parts
+    ensures { result ≡ spec.parts_after spec.empty (trees (map tree items.now)) }
 {
-    match part {
-        Part::GroupWithReference(group) => k == group && has_part(body, Part::Reference),
-        Part::GroupOfNothing(group) => k == group && may_be_empty(body),
-        _ => false,
+    let mut all = Parts {
+        may_be_empty: true,
+        ..NONE
+    };
+    for item in items {
+        all = match item {
+            // Most of a long expression are bytes.
+            Bre::Byte(_) => all.and_byte(),
+            _ => all.and_then(parts_of(item)),
+        };
     }
-}
-
-/// Whether this is what is looked for once it is repeated.
-#[cycle(parts)]
-fn is_repeated_part(body: &Bre, part: Part) -> bool
-    ensures { (least : ℕ) (most : Option ℕ) → result ≡ is_part part (spec.Repeat (tree body.now) least most) }
-{
-    match part {
-        Part::RepeatedReferenceTo(group) => is_reference_to(body, group),
-        Part::RepeatedGroup => is_group(body),
-        Part::RepeatedAnchor => has_part(body, Part::Anchor),
-        _ => false,
-    }
+    all
 }
 
 /// Whether a reference to the group is misjudged by what the group is.
-fn is_misjudged_group(whole: &Bre, k: u8) -> bool
-    ensures { result ≡ is_misjudged_group (tree whole.now) k }
+fn is_misjudged_group(parts: Parts, k: u8) -> bool
+    ensures { result ≡ is_misjudged_by parts k }
 {
-    has_part(whole, Part::ReferenceTo(k))
-        && (has_part(whole, Part::GroupWithReference(k))
-            || (has_part(whole, Part::RepeatedReferenceTo(k))
-                && has_part(whole, Part::GroupOfNothing(k))))
+    names(parts.referenced, k)
+        && (names(parts.with_reference, k)
+            || (names(parts.repeated, k) && names(parts.of_nothing, k)))
 }
 
-/// Whether a reference to one of the groups is misjudged by what the group is.
-fn is_one_misjudged(whole: &Bre, groups: &[u8]) -> bool
-    ensures { result ≡ list_any (is_misjudged_group (tree whole.now)) groups.now }
+/// How many references there are to the group, if it may match nothing; 2 stands for more.
+fn references_to_nothing(parts: Parts, k: u8) -> u8
+    ensures { result ≡ references_by parts k }
 {
-    groups.iter().any(|k| is_misjudged_group(whole, *k))
-}
-
-/// How many references there are to the group; 2 stands for more.
-#[cycle(counts)]
-fn references_to(expression: &Bre, group: u8) -> u8
-    ensures { result ≡ min (references_to group (tree expression.now)) 2 }
-{
-    match expression {
-        Bre::Ref(k) => u8::from(*k == group),
-        Bre::Group(_, body) => references_to(body, group),
-        Bre::Seq(items) => all_references_to(items, group),
-        Bre::Repeat { body, .. } => references_to(body, group),
-        Bre::Byte(_) => 0,
-        Bre::Any => 0,
-        Bre::Set(_) => 0,
-        Bre::Start => 0,
-        Bre::End => 0,
-        Bre::Maybe(_) => 0,
-    }
-}
-
-#[cycle(counts)]
-fn all_references_to(items: &[Bre], group: u8) -> u8
-    ensures { result ≡ min (all_references_to group (trees (map tree items.now))) 2 }
-{
-    let mut total = 0;
-    for item in items {
-        total = (total + references_to(item, group)).min(2);
-    }
-    total
-}
-
-/// How many there are to the group where it may match nothing; 2 stands for more.
-fn references_to_nothing(whole: &Bre, k: u8) -> u8
-    ensures { result ≡ min (references_to_nothing (tree whole.now) k) 2 }
-{
-    if has_part(whole, Part::GroupOfNothing(k)) {
-        return references_to(whole, k);
+    if names(parts.of_nothing, k) {
+        return u8::from(names(parts.referenced, k)) + u8::from(names(parts.twice, k));
     }
     0
 }
 
+/// Whether a reference to one of the groups is misjudged by what the group is.
+fn is_one_misjudged(parts: Parts, groups: &[u8]) -> bool
+    ensures { result ≡ list_any (is_misjudged_by parts) groups.now }
+{
+    groups.iter().any(|k| is_misjudged_group(parts, *k))
+}
+
 /// Whether there are two or more to those of the groups that may match nothing.
-fn are_two_to_nothing(whole: &Bre, groups: &[u8]) -> bool
-    ensures { result ≡ nat_lt 1 (sum_by (references_to_nothing (tree whole.now)) groups.now) }
+fn are_two_to_nothing(parts: Parts, groups: &[u8]) -> bool
+    ensures { result ≡ nat_lt 1 (sum_by (references_by parts) groups.now) }
 {
     let mut total = 0;
     for k in groups {
-        total = (total + references_to_nothing(whole, *k)).min(2);
+        total = (total + references_to_nothing(parts, *k)).min(2);
     }
     total > 1
 }
@@ -220,27 +260,20 @@ fn is_end(item: &Bre) -> bool
     matches!(item, Bre::End)
 }
 
-/// Whether the expression has a reference that matchers get wrong.
-pub(crate) fn has_misjudged_reference(whole: &Bre) -> bool
-    ensures { result ≡ has_misjudged_reference (tree whole.now) }
+/// Whether an expression with these parts has a reference that matchers get wrong.
+pub(crate) fn misjudges_reference(whole: &Bre, parts: Parts) -> bool
+    ensures { result ≡ misjudges_reference (tree whole.now) parts }
 {
-    has_part(whole, Part::Reference)
-        && (has_part(whole, Part::RepeatedGroup)
-            || is_one_misjudged(whole, &[1, 2, 3, 4, 5, 6, 7, 8, 9])
-            || has_two_to_nothing(whole))
+    parts.has_reference
+        && (parts.repeats_group
+            || is_one_misjudged(parts, &[1, 2, 3, 4, 5, 6, 7, 8, 9])
+            // Before a `$` two references to groups that may match nothing are misjudged.
+            || (ends_in_anchor(whole) && are_two_to_nothing(parts, &[1, 2, 3, 4, 5, 6, 7, 8, 9])))
 }
 
-/// Whether before a `$` that ends the expression there are two references or more to groups that may match nothing.
-fn has_two_to_nothing(whole: &Bre) -> bool
-    ensures { result ≡ has_two_to_nothing (tree whole.now) }
+/// Whether an expression with these parts has an anchor that matchers get wrong.
+pub(crate) fn misjudges_anchor(parts: Parts) -> bool
+    ensures { result ≡ misjudges_anchor parts }
 {
-    ends_in_anchor(whole) && are_two_to_nothing(whole, &[1, 2, 3, 4, 5, 6, 7, 8, 9])
-}
-
-/// Whether the expression has an anchor that matchers get wrong.
-pub(crate) fn has_misjudged_anchor(whole: &Bre) -> bool
-    ensures { result ≡ has_misjudged_anchor (tree whole.now) }
-{
-    has_part(whole, Part::RepeatedAnchor)
-        || (has_part(whole, Part::Reference) && has_part(whole, Part::Anchor))
+    parts.repeats_anchor || (parts.has_reference && parts.has_anchor)
 }

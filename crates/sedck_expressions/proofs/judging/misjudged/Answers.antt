@@ -1,25 +1,50 @@
-use Rattle.std.proofs.Common.{[], sym, subst, ◌∙◌}
+use Rattle.std.proofs.Common.{[], refl, sym, ap, subst, ◌∙◌}
+use Rattle.std.proofs.Math.Bool.{or-true}
 use Rattle.std.proofs.lemmas.List.{append-nil}
 use Rattle.sedck_expressions.specs.Shape.{Whole}
 use Rattle.sedck_expressions.specs.View.{tree}
+use Rattle.sedck_expressions.specs.Misjudged.{has_misjudged_reference}
 use Rattle.sedck_expressions.specs.Private.Along.{StopsAt}
+use Rattle.sedck_expressions.specs.Private.Parts.{misjudges_reference, misjudges_anchor}
 use Rattle.sedck_expressions.specs.declared.judging.Sought.{Sought}
 use Rattle.sedck_expressions.proofs.Along.{none_misjudged, stops_misjudged}
+use Rattle.sedck_expressions.proofs.PartLemmas.{reference_found, misjudges_reference_of, misjudges_anchor_of}
+use Rattle.sedck_expressions.proofs.WithoutBackslash.{without_backslash}
 use Rattle.sedck_expressions.proofs.judging.misjudged.Goals as goal
+use Rattle.sedck_expressions.proofs.judging.misjudged.Goals.{else-not-references-via-then-not-references+else-not-anchors, else-not-references-via-else-not-references}
+
+pub returns-then-not-has_backslash : goal.returns-then-not-has_backslash
+returns-then-not-has_backslash c =
+    without_backslash c.args.text.now (tree c.args.expression.now) c.requires.0 (sym c.has_backslash.ensures ∙ c.if-not-has_backslash.true)
+
+pub returns-then-not-anchors : goal.returns-then-not-anchors
+returns-then-not-anchors c =
+    let t = tree c.args.expression.now in
+    let reference = c.misjudges_reference-references.ensures ∙ ap (λ p. misjudges_reference t p) c.parts_of-parts.ensures ∙ misjudges_reference_of t in
+    let anchor = c.misjudges_anchor-anchors.ensures ∙ ap (λ p. misjudges_anchor p) c.parts_of-parts.ensures ∙ misjudges_anchor_of t in
+    rw (sym reference ∙ c.if-not-references.true, sym anchor ∙ c.if-not-anchors.true) refl
 
 pub returns-in-Ok : goal.returns-in-Ok
 returns-in-Ok c =
-    let shape = c.requires in
-    let passed = c.in-Ok.ensures.passes Whole c.args.text.now [] (c.new.ensures.left ∙ sym (append-nil c.args.text.now)) shape.0 in
-    none_misjudged _ _ c.has_misjudged_reference.ensures c.has_part.ensures passed.1
+    let t = tree c.args.expression.now in
+    let reference = c.misjudges_reference-references.ensures ∙ ap (λ p. misjudges_reference t p) c.parts_of-parts.ensures ∙ misjudges_reference_of t in
+    let any = c.has_reference.ensures ∙ ap (λ p. p.has_reference) c.parts_of-parts.ensures ∙ reference_found t in
+    let passed = c.in-Ok.ensures.passes Whole c.args.text.now [] (c.new.ensures.left ∙ sym (append-nil c.args.text.now)) c.requires.0 in
+    none_misjudged _ _ reference any passed.1
 
 pub returns-in-Err : goal.returns-in-Err
 returns-in-Err c =
-    let shape = c.requires in
-    let sought : Sought = record { references = c.has_misjudged_reference.result; anchors = c.has_part.result } in
     let t = tree c.args.expression.now in
-    let passed = c.in-Err.ensures.passes Whole c.args.text.now [] (c.new.ensures.left ∙ sym (append-nil c.args.text.now)) shape.0 in
+    let reference = c.misjudges_reference-references.ensures ∙ ap (λ p. misjudges_reference t p) c.parts_of-parts.ensures ∙ misjudges_reference_of t in
+    let anchor = c.misjudges_anchor-anchors.ensures ∙ ap (λ p. misjudges_anchor p) c.parts_of-parts.ensures ∙ misjudges_anchor_of t in
+    let any = c.has_reference.ensures ∙ ap (λ p. p.has_reference) c.parts_of-parts.ensures ∙ reference_found t in
+    let sought : Sought = record { references = c.misjudges_reference-references.result; anchors = c.has_reference.result } in
+    let passed = c.in-Err.ensures.passes Whole c.args.text.now [] (c.new.ensures.left ∙ sym (append-nil c.args.text.now)) c.requires.0 in
     let here = subst (λ w. StopsAt sought t w.now c.in-Err.fault) c.new.ensures.whole passed in (
-      sym c.is_misjudged.ensures ∙ c.if-not-is_misjudged.false,
-      stops_misjudged sought c.args.text.now t c.in-Err.fault c.has_misjudged_reference.ensures c.has_part.ensures here,
+      elim c.else-not-references.branch [
+        | else-not-references-via-then-not-references+else-not-anchors w ↦
+            rw (sym anchor ∙ w.if-not-anchors.false) (or-true (has_misjudged_reference t))
+        | else-not-references-via-else-not-references w ↦ rw (sym reference ∙ w.if-not-references.false) refl
+      ],
+      stops_misjudged sought c.args.text.now t c.in-Err.fault reference any here,
     )
