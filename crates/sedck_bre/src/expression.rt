@@ -7,9 +7,10 @@ ghost use Rattle.sedck_expressions.specs.Shape.{Shape};
 ghost use Rattle.sedck_expressions.specs.Faults.{IsPlaced, IsOfText};
 ghost use Rattle.sedck_bre.specs.Lengths.{IsLeastSize, HasLength};
 ghost use Rattle.sedck_bre.specs.Rests.{is_top_group, names, named, NamesTopGroups, HasRest};
+ghost use Rattle.sedck_bre.specs.Private.Bounds.{HasTopGroups};
 
 use crate::least::least_of;
-use crate::outside::{has_group, least_outside_of};
+use crate::outside::{groups_among, has_group, least_outside_of};
 use sedck_expressions::{Bre, ReFault, read_tree};
 use std::alloc::Global;
 use std::marker::Model;
@@ -20,6 +21,8 @@ pub struct Expr {
     body: Bre,
     groups: u8,
     least: u32,
+    /// The groups up to 15 that are items of the whole expression: bit k stands for group k.
+    top: u16,
 }
 
 impl Model for Expr {
@@ -35,10 +38,12 @@ impl Model for Expr {
     ghost use Rattle.sedck_expressions.specs.Tree.{group_count};
     ghost use Rattle.sedck_expressions.specs.WellFormed.{IsWellFormed};
     ghost use Rattle.sedck_bre.specs.Lengths.{IsLeastSize, HasLength};
+    ghost use Rattle.sedck_bre.specs.Private.Bounds.{HasTopGroups};
 
     ghost view = { λ e. tree e.body };
 
-    ghost invariant = { λ e. IsWellFormed (tree e.body) × (e.groups ≡ group_count (tree e.body)) × IsLeastSize (HasLength (tree e.body)) e.least };
+    ghost invariant = { λ e. IsWellFormed (tree e.body) × (e.groups ≡ group_count (tree e.body))
+        × IsLeastSize (HasLength (tree e.body)) e.least × HasTopGroups (tree e.body) e.top };
 }
 
 impl Expr {
@@ -52,10 +57,12 @@ impl Expr {
     {
         let mut known = [0; 256];
         let least = least_of(&body, &mut known);
+        let top = top_groups(&body, groups);
         Expr {
             body,
             groups,
             least,
+            top,
         }
     }
 
@@ -84,6 +91,9 @@ impl Expr {
     pub fn top_group(&self, k: u8) -> bool
         ensures { result ≡ is_top_group self.now k }
     {
+        if k < 16 {
+            return (self.top >> k) & 1 == 1;
+        }
         match &self.body {
             Bre::Seq(items) => has_group(items, k),
             _ => false,
@@ -110,6 +120,20 @@ impl Expr {
             // No group is an item, so none is named.
             _ => self.least,
         }
+    }
+}
+
+/// The groups up to 15 that are items of the whole expression, as bits; it has so many groups.
+fn top_groups(expression: &Bre, groups: u8) -> u16
+    requires { groups ≡ group_count (tree expression.now) }
+    ensures { HasTopGroups (tree expression.now) result }
+{
+    if groups == 0 {
+        return 0;
+    }
+    match expression {
+        Bre::Seq(items) => groups_among(items),
+        _ => 0,
     }
 }
 

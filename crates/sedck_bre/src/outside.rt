@@ -1,9 +1,9 @@
 //! The groups that are items of an expression, and the least length outside of some of them.
-ghost use Rattle.std.specs.Prelude.{◌≡◌, map, min};
+ghost use Rattle.std.specs.Prelude.{◌≡◌, ◌<◌, ℕ, map, min};
 ghost use Rattle.std.specs.List.{list_any};
 ghost use Rattle.sedck_expressions.specs.Tree.{trees};
 ghost use Rattle.sedck_bre.specs.Lengths.{cap};
-ghost use Rattle.sedck_bre.specs.Rests.{is_group};
+ghost use Rattle.sedck_bre.specs.Rests.{is_group, names};
 ghost use Rattle.sedck_expressions.specs.View.{tree};
 ghost use Rattle.sedck_bre.specs.Private.Bounds.{no_bounds, is_named, outside};
 
@@ -24,6 +24,27 @@ pub(crate) fn has_group(items: &[Bre], k: u8) -> bool
     ensures { result ≡ list_any (λ item. is_group k (tree item)) items.now }
 {
     items.iter().any(|item| is_group(item, k))
+}
+
+/// The bit of the group that the item is; a group above 15 has none.
+fn group_bit(item: &Bre) -> u16
+    ensures { (k : ℕ) → k < 16 → names result k ≡ is_group k (tree item.now) }
+{
+    match item {
+        Bre::Group(k, _) if *k < 16 => 1 << *k,
+        _ => 0,
+    }
+}
+
+/// The bits of the groups that are items.
+pub(crate) fn groups_among(items: &[Bre]) -> u16
+    ensures { (k : ℕ) → k < 16 → names result k ≡ list_any (λ item. is_group k (tree item)) items.now }
+{
+    let mut groups = 0;
+    for item in items {
+        groups |= group_bit(item);
+    }
+    groups
 }
 
 /// Whether the item is a group whose bit is set.

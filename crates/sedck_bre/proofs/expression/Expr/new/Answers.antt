@@ -23,4 +23,5 @@ invariant_of-result c = (
   c.requires.formed,
   c.requires.groups,
   is_least (tree c.args.body) c.least_of-least.result c.requires.formed (c.least_of-least.ensures.value no_bounds (λ k l. get_or-replicate 256 k 0 0 l)),
+  c.top_groups-top.ensures,
 )
