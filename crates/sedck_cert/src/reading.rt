@@ -27,7 +27,7 @@ use std::alloc::{AllocError, AllocFailed, Global};
 use std::fmt;
 
 /// Why a text is no certificate's, and at which line, counted from 1.
-#[derive(Clone, Copy, Debug, PartialEq, Eq, Drop)]
+#[derive(Clone, Copy, Drop)]
 pub enum CertFault {
     /// The first line isn't `sedck 2`, or `sedck 1` for version 1.
     BadHeader { line: usize },

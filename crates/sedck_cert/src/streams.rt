@@ -8,7 +8,7 @@ use itoa::Buffer;
 use std::io::{Read, Write};
 
 /// A read or a write failed.
-#[derive(Clone, Copy, Debug)]
+#[derive(Clone, Copy)]
 pub struct Failed;
 
 /// What is read from.

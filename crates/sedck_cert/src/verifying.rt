@@ -13,7 +13,7 @@ use sedck_script::{Script, ScriptFault};
 use std::alloc::Global;
 
 /// Why a script and a certificate can't be judged.
-#[derive(Clone, Copy, Debug, Drop)]
+#[derive(Clone, Copy, Drop)]
 pub enum Fault {
     Script(ScriptFault),
     Certificate(CertFault),

@@ -8,7 +8,7 @@ use std::alloc::{AllocError, AllocFailed};
 use std::fmt;
 
 /// What is wrong with a script's text. A place is a byte offset from 0 to the text's length.
-#[derive(Clone, Copy, Debug, PartialEq, Eq)]
+#[derive(Clone, Copy)]
 pub enum ScriptFault {
     /// More than 1,048,576 bytes. Place: 1,048,576.
     TooLong { place: usize },

@@ -20,7 +20,7 @@ pub enum Outcome {
 }
 
 /// What an engine reads.
-#[derive(Clone, Copy, Debug, PartialEq, Eq)]
+#[derive(Clone, Copy)]
 pub enum Input {
     /// The bytes of a script.
     Script,
@@ -42,7 +42,7 @@ impl fmt::Display for Input {
 }
 
 /// Why there is no whole report.
-#[derive(Clone, Copy, Debug, Drop, Error)]
+#[derive(Clone, Copy, Drop, Error)]
 pub enum RunFault {
     /// The bytes that were read spell no script. This is never a script's `OutOfMemory`.
     #[error("script {0}")]
@@ -59,6 +59,12 @@ pub enum RunFault {
     /// Memory ran out, in this crate or below.
     #[error("out of memory")]
     OutOfMemory,
+}
+
+impl fmt::Debug for RunFault {
+    fn fmt<W: fmt::Write>(&self, f: &mut fmt::Formatter<W>) -> fmt::Result {
+        fmt::Display::fmt(self, f)
+    }
 }
 
 impl From<AllocError> for RunFault {

@@ -128,10 +128,9 @@ fn push_files(
     ensures locale { OnOk result (has_locale findings.new.items ≡ has_locale findings.old.items) }
 {
     if is_denied {
-        let does = if code == Code::DeniedReads {
-            "reads"
-        } else {
-            "writes"
+        let does = match code {
+            Code::DeniedReads => "reads",
+            _ => "writes",
         };
         return push_each_file(alloc, findings, files, code, does);
     }

@@ -51,15 +51,15 @@ fn is_ignored(finding: &Finding, ignored: &[Code], denied: DeniedWarnings) -> bo
     !finding.is_error()
         && !is_kept(finding.code)
         && !denied.denies(finding.code)
-        && ignored.contains(&finding.code)
+        && ignored.iter().any(|code| code.is_named_as(finding.code))
 }
 
 /// The codes to be ignored, each once.
 pub(crate) fn ignored_codes(alloc: Global, words: &[Word]) -> Result<Vec<Code>, AllocError> {
-    let mut codes = Vec::new(alloc);
+    let mut codes: Vec<Code> = Vec::new(alloc);
     for word in words {
         if let Some(code) = word.code()
-            && !codes.contains(&code)
+            && !codes.iter().any(|known| known.is_named_as(code))
         {
             codes.push(code)?;
         }

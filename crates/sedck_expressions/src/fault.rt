@@ -7,7 +7,7 @@ use std::alloc::{AllocError, AllocFailed};
 use std::fmt;
 
 /// Why a text is no expression. The place is the offset of a byte of the text.
-#[derive(Debug, Clone, Copy, PartialEq, Eq, Drop)]
+#[derive(Clone, Copy, Drop)]
 pub enum ReFault {
     /// The text ends in a lone backslash outside a bracket list: the backslash.
     TrailingBackslash { place: usize },

@@ -59,11 +59,16 @@ pub fn sarif_report(
 fn codes_of(alloc: Global, findings: &[Finding], least: Level) -> Result<Vec<Code>, AllocError> {
     let mut codes = Vec::new(alloc);
     for finding in findings {
-        if is_listed(finding, least) && !codes.contains(&finding.code) {
+        if is_listed(finding, least) && index_of(&codes, finding.code).is_none() {
             codes.push(finding.code)?;
         }
     }
     Ok(codes)
+}
+
+/// The index of the code, by its name.
+fn index_of(codes: &[Code], code: Code) -> Option<usize> {
+    codes.iter().position(|known| known.is_named_as(code))
 }
 
 /// Begins the log and its one run: the program, with a rule for each code. A column counts characters.
@@ -140,10 +145,7 @@ fn push_result(out: &mut Json, script: Script, codes: &[Code], finding: &Finding
 
 /// Begins a finding.
 fn push_message(out: &mut Json, codes: &[Code], finding: &Finding) {
-    let index = codes
-        .iter()
-        .position(|code| *code == finding.code)
-        .unwrap_or(0);
+    let index = index_of(codes, finding.code).unwrap_or(0);
     out.open()
         .text("ruleId", finding.code.name())
         .number("ruleIndex", index as u64)

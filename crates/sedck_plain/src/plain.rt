@@ -17,7 +17,7 @@ use sedck_script::{Located, Location, Script, ScriptFault, locate, parse};
 use std::alloc::{AllocError, Global};
 
 /// Why there is no plain text.
-#[derive(Clone, Copy, Debug, Drop)]
+#[derive(Clone, Copy, Drop)]
 pub enum Fault {
     /// The script is refused.
     Script(ScriptFault),

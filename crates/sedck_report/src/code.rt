@@ -1,13 +1,14 @@
 //! The codes of findings: all that is said of a code by itself.
 
 ghost use Rattle.std.specs.Prelude.{◌≡◌};
+ghost use Rattle.std.specs.Str.{bytes_eq};
 ghost use Rattle.sedck_report.specs.Codes.{name_of, script_name};
 
 use sedck_bre::ReFault;
 use sedck_script::ScriptFault;
 
 /// What a finding is about. No later version gives another meaning to a code.
-#[derive(Clone, Copy, PartialEq, Eq)]
+#[derive(Clone, Copy)]
 pub enum Code {
     /// A script that is refused.
     Script(ScriptFault),
@@ -114,6 +115,13 @@ pub enum Code {
 }
 
 impl Code {
+    /// Whether both codes have the same name.
+    pub fn is_named_as(self, other: Code) -> bool
+        ensures { result ≡ bytes_eq (name_of self) (name_of other) }
+    {
+        self.name() == other.name()
+    }
+
     /// The name that is printed: in lower case, with hyphens between its words.
     pub fn name(self) -> &'static str
         ensures { result.now ≡ name_of self }
