@@ -200,7 +200,8 @@ fn read_attached(
     origin: Origin,
     option: CallOption,
 ) -> Result<Option<Awaited>, AllocError>
-    ensures { IfOk result (λ next. attached (reading_of given.old.items Awaited.Any) origin.word origin.from option (taken_by option) ≡ answered given.new.items next) }
+    ensures { IfOk result (λ next. attached (reading_of given.old.items Awaited.Any) origin.word origin.from option
+        (taken_by option) ≡ answered given.new.items next) }
 {
     if option.taken() == Taken::Nothing {
         return Ok(None);

@@ -106,7 +106,8 @@ impl Cert {
 /// The bytes with those of these names, where they are names and within the limits.
 fn size_with(names: &[Vec<u8>], mut size: usize) -> Option<usize>
     requires { size ≤ NAMES_LIMIT }
-    ensures { MatchOption result (AreNames (names_of names.now) → size + names_size (names_of names.now) ≤ NAMES_LIMIT → ⊥) (λ end. AreNames (names_of names.now) × (end ≡ size + names_size (names_of names.now)) × (end ≤ NAMES_LIMIT)) }
+    ensures { MatchOption result (AreNames (names_of names.now) → size + names_size (names_of names.now) ≤ NAMES_LIMIT → ⊥)
+        (λ end. AreNames (names_of names.now) × (end ≡ size + names_size (names_of names.now)) × (end ≤ NAMES_LIMIT)) }
 {
     if names.len() > 4095 {
         return None;

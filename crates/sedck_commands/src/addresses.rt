@@ -166,7 +166,8 @@ fn is_previous(pattern: &Pattern) -> bool
 /// The offset of the address's expression, where that is empty: its closing delimiter, right before what follows the address.
 fn empty_offset(place: &Place, behind: Cursor<'_>) -> Option<usize>
     requires { 0 < behind.at }
-    ensures { (from : ℕ) → PlaceText (drop from behind.entry.whole.now) (view.place_of place.now) (unread behind.entry) → IsEmptyAt behind.entry.whole.now (place_patterns (view.place_of place.now)) result }
+    ensures { (from : ℕ) → PlaceText (drop from behind.entry.whole.now) (view.place_of place.now) (unread behind.entry)
+        → IsEmptyAt behind.entry.whole.now (place_patterns (view.place_of place.now)) result }
 {
     let Place::Context(pattern) = place else {
         return None;

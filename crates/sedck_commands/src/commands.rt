@@ -67,7 +67,8 @@ fn check_verb<'a>(
     requires due { IsVerbDue reader.cursor.whole.now reader.cursor.at }
     ensures begins { IfOk result (λ x. IsVerbAt reader.entry.cursor x.0 x.1) }
     ensures allowed { IfOk result (λ x. AreAllowed (address_of address.now) negated reader.entry.depth reader.entry.count (unread reader.entry.cursor)) }
-    ensures refused { IfErr result (λ fault. (verb : WrittenVerb) (rest : List ℕ) → VerbText (unread reader.entry.cursor) verb rest → Takes verb (address_of address.now) negated → IsBeyond reader.entry.depth reader.entry.count verb) }
+    ensures refused { IfErr result (λ fault. (verb : WrittenVerb) (rest : List ℕ) → VerbText (unread reader.entry.cursor) verb rest
+        → Takes verb (address_of address.now) negated → IsBeyond reader.entry.depth reader.entry.count verb) }
     ensures placed { IfErr result (λ fault. IsPlaced reader.entry.cursor.whole.now fault) }
 {
     let place = reader.cursor.offset();
@@ -105,7 +106,8 @@ fn check_brace(verb: &Written, depth: usize) -> Result<(), ScriptFault>
 
 /// Where the verb has an empty expression, the offset after its delimiter.
 fn empty_verb(verb: &Written, behind: usize) -> Option<usize>
-    ensures { (text : List ℕ) → (has_previous (written_patterns (written_verb verb.now)) ≡ true → IsEmptyExpression text behind) → IsEmptyAt text (written_patterns (written_verb verb.now)) result }
+    ensures { (text : List ℕ) → (has_previous (written_patterns (written_verb verb.now)) ≡ true → IsEmptyExpression text behind)
+        → IsEmptyAt text (written_patterns (written_verb verb.now)) result }
 {
     if let Written::Known(Verb::Substitute(substitution)) = verb {
         if let Pattern::Previous = substitution.pattern {
@@ -131,7 +133,9 @@ fn read_allowed_verb<'a>(
     ensures braced { IfOk result (λ x. MayBeBraced (is_braced (written_verb x.0)) reader.entry.depth) }
     ensures few { IfOk result (λ x. reader.entry.count < 4095) }
     ensures label { IfOk result (λ x. IsWrittenAt reader.entry.cursor.whole.now x.0) }
-    ensures refused { IfErr result (λ fault. IsOfText fault → (verb : WrittenVerb) (rest : List ℕ) → VerbText (unread reader.entry.cursor) verb rest → Takes verb (address_of address.now) negated → DefinesKnown reader.entry.labels.now verb ⊎ IsBeyond reader.entry.depth reader.entry.count verb) }
+    ensures refused { IfErr result (λ fault. IsOfText fault → (verb : WrittenVerb) (rest : List ℕ)
+        → VerbText (unread reader.entry.cursor) verb rest → Takes verb (address_of address.now) negated
+        → DefinesKnown reader.entry.labels.now verb ⊎ IsBeyond reader.entry.depth reader.entry.count verb) }
     ensures placed { IfErr result (λ fault. IsPlaced reader.entry.cursor.whole.now fault) }
 {
     let (form, behind) = check_verb(reader, address, negated)?;
@@ -154,8 +158,11 @@ pub fn read_command<'a>(
     ensures few { IfOk result (λ x. reader.entry.count < 4095) }
     ensures label { IfOk result (λ x. IsWrittenAt reader.entry.cursor.whole.now x.0.verb) }
     ensures located { IfOk result (λ x. IsOnlyLocation (length reader.entry.cursor.whole.now) (unread reader.entry.cursor) x.0.location) }
-    ensures empty { IfOk result (λ x. IsEmptyAt reader.entry.cursor.whole.now (address_patterns (address_of x.0.address) ++ written_patterns (written_verb x.0.verb)) x.1) }
-    ensures refused { IfErr result (λ fault. IsOfText fault → (given : clean.Address) (negated : Bool) (verb : WrittenVerb) (rest : List ℕ) → CommandText (unread reader.entry.cursor) given negated verb rest → DefinesKnown reader.entry.labels.now verb ⊎ IsBeyond reader.entry.depth reader.entry.count verb) }
+    ensures empty { IfOk result (λ x. IsEmptyAt reader.entry.cursor.whole.now
+        (address_patterns (address_of x.0.address) ++ written_patterns (written_verb x.0.verb)) x.1) }
+    ensures refused { IfErr result (λ fault. IsOfText fault → (given : clean.Address) (negated : Bool) (verb : WrittenVerb) (rest : List ℕ)
+        → CommandText (unread reader.entry.cursor) given negated verb rest → DefinesKnown reader.entry.labels.now verb
+        ⊎ IsBeyond reader.entry.depth reader.entry.count verb) }
     ensures placed { IfErr result (λ fault. IsPlaced reader.entry.cursor.whole.now fault) }
 {
     let start = reader.cursor;

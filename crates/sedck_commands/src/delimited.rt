@@ -101,7 +101,8 @@ fn read_expression<'a>(
     ensures read { IfOk result (λ x. DelimitedExpression delimiter (unread text.entry) (cow_slice_items x.0) (unread x.2)) }
     ensures same { IfOk result (λ x. x.2.whole ≡ text.entry.whole) }
     ensures escape { IfOk result (λ x. IsFirstEscape delimiter text.entry.whole.now (unread text.entry) (cow_slice_items x.0) (delimiter ∷ (unread x.2)) x.1) }
-    ensures refused { IfErr result (λ fault. IsOfText fault → (expression : List ℕ) (rest : List ℕ) → DelimitedExpression delimiter (unread text.entry) expression rest → ⊥) }
+    ensures refused { IfErr result (λ fault. IsOfText fault → (expression : List ℕ) (rest : List ℕ)
+        → DelimitedExpression delimiter (unread text.entry) expression rest → ⊥) }
     ensures placed { IfErr result (λ fault. IsPartPlaced opening text.entry.whole.now fault) }
 {
     let mut rest = text;
@@ -137,7 +138,8 @@ fn read_replaced<'a>(
     ensures read { IfOk result (λ x. DelimitedExpression delimiter (unread text.entry) (cow_slice_items x.0) (unread x.2)) }
     ensures same { IfOk result (λ x. x.2.whole ≡ text.entry.whole) }
     ensures escape { IfOk result (λ x. IsFirstEscape delimiter text.entry.whole.now (unread text.entry) (cow_slice_items x.0) (delimiter ∷ (unread x.2)) x.1) }
-    ensures refused { IfErr result (λ fault. IsOfText fault → (expression : List ℕ) (rest : List ℕ) → DelimitedExpression delimiter (unread text.entry) expression rest → ⊥) }
+    ensures refused { IfErr result (λ fault. IsOfText fault → (expression : List ℕ) (rest : List ℕ)
+        → DelimitedExpression delimiter (unread text.entry) expression rest → ⊥) }
     ensures placed { IfErr result (λ fault. IsPartPlaced opening text.entry.whole.now fault) }
 {
     let written = &text.unread()[..behind_written.offset() - text.offset()];
@@ -214,7 +216,8 @@ fn read_expression_text<'a>(
     requires opened { Follows text delimiter }
     ensures read { IfOk result (λ x. ExpressionText delimiter (unread text.entry) (cow_slice_items x.0) (unread x.1)) }
     ensures same { IfOk result (λ x. x.1.whole ≡ text.entry.whole) }
-    ensures refused { IfErr result (λ fault. IsOfText fault → (expression : List ℕ) (rest : List ℕ) → ExpressionText delimiter (unread text.entry) expression rest → ⊥) }
+    ensures refused { IfErr result (λ fault. IsOfText fault → (expression : List ℕ) (rest : List ℕ)
+        → ExpressionText delimiter (unread text.entry) expression rest → ⊥) }
     ensures placed { IfErr result (λ fault. IsPartPlaced opening text.entry.whole.now fault) }
 {
     let (bytes, escape, rest) = read_expression(alloc, opening, delimiter, text)?;
@@ -262,7 +265,8 @@ pub fn read_pattern<'a>(
     requires opened { Follows text delimiter }
     ensures read { IfOk result (λ x. PatternText delimiter (unread text.entry) (pattern_of x.0) (unread x.1)) }
     ensures same { IfOk result (λ x. x.1.whole ≡ text.entry.whole) }
-    ensures only { IfOk result (λ x. (p : clean.Pattern) (rest : List ℕ) → PatternText delimiter (unread text.entry) p rest → (p ≡ pattern_of x.0) × (rest ≡ (unread x.1))) }
+    ensures only { IfOk result (λ x. (p : clean.Pattern) (rest : List ℕ) → PatternText delimiter (unread text.entry) p rest
+        → (p ≡ pattern_of x.0) × (rest ≡ (unread x.1))) }
     ensures refused { IfErr result (λ fault. IsOfText fault → (p : clean.Pattern) (rest : List ℕ) → PatternText delimiter (unread text.entry) p rest → ⊥) }
     ensures placed { IfErr result (λ fault. IsPartPlaced opening text.entry.whole.now fault) }
 {

@@ -36,7 +36,8 @@ pub enum Flag<'a> {
 fn read_flag<'a>(text: Cursor<'a>) -> Result<(Flag<'a>, Cursor<'a>), ScriptFault>
     ensures read { IfOk result (λ x. IsFlag (unread text.entry) x.0 (unread x.1)) }
     ensures same { IfOk result (λ x. x.1.whole ≡ text.entry.whole) }
-    ensures refused { IfErr result (λ fault. (pattern : clean.Pattern) (parts : List clean.Part) (flags : clean.Substitution) (rest : List ℕ) → Flags pattern parts (unread text.entry) flags rest → ⊥) }
+    ensures refused { IfErr result (λ fault. (pattern : clean.Pattern) (parts : List clean.Part) (flags : clean.Substitution)
+        (rest : List ℕ) → Flags pattern parts (unread text.entry) flags rest → ⊥) }
     ensures placed { IfErr result (λ fault. IsPlaced text.entry.whole.now fault) }
 {
     let Some((first, behind)) = text.split_first() else {
@@ -70,9 +71,11 @@ fn read_flag<'a>(text: Cursor<'a>) -> Result<(Flag<'a>, Cursor<'a>), ScriptFault
 
 /// The flags with their file, and the rest of the text from the end of the command on. None is there twice.
 pub fn read_flags<'a>(text: Cursor<'a>) -> Result<(Seen, Option<&'a [u8]>, Cursor<'a>), ScriptFault>
-    ensures read { IfOk result (λ x. (pattern : clean.Pattern) (parts : List clean.Part) → Flags pattern parts (unread text.entry) (with_flags pattern parts x.0 (option_copied x.1)) (unread x.2)) }
+    ensures read { IfOk result (λ x. (pattern : clean.Pattern) (parts : List clean.Part)
+        → Flags pattern parts (unread text.entry) (with_flags pattern parts x.0 (option_copied x.1)) (unread x.2)) }
     ensures same { IfOk result (λ x. x.2.whole ≡ text.entry.whole) }
-    ensures refused { IfErr result (λ fault. (pattern : clean.Pattern) (parts : List clean.Part) (flags : clean.Substitution) (rest : List ℕ) → Flags pattern parts (unread text.entry) flags rest → ⊥) }
+    ensures refused { IfErr result (λ fault. (pattern : clean.Pattern) (parts : List clean.Part) (flags : clean.Substitution)
+        (rest : List ℕ) → Flags pattern parts (unread text.entry) flags rest → ⊥) }
     ensures placed { IfErr result (λ fault. IsPlaced text.entry.whole.now fault) }
 {
     let mut seen = Seen {

@@ -69,7 +69,8 @@ pub fn read_definition<'a>(text: Cursor<'a>) -> Result<(&'a [u8], usize, Cursor<
     ensures read { IfOk result (λ x. LabelText (unread text.entry) x.0.now (unread x.2) × IsNoBrace (unread x.2)) }
     ensures same { IfOk result (λ x. x.2.whole ≡ text.entry.whole) }
     ensures label { IfOk result (λ x. IsLabelBehind (one_of ":") text.entry.whole.now x.1 x.0.now) }
-    ensures refused { IfErr result (λ fault. (name : List ℕ) (behind : List ℕ) (rest : List ℕ) → LabelText (unread text.entry) name behind → IsNoBrace behind → Ends behind rest → ⊥) }
+    ensures refused { IfErr result (λ fault. (name : List ℕ) (behind : List ℕ) (rest : List ℕ) → LabelText (unread text.entry) name behind
+        → IsNoBrace behind → Ends behind rest → ⊥) }
     ensures placed { IfErr result (λ fault. IsPlaced text.entry.whole.now fault) }
 {
     let (name, offset, behind) = split_label(text);
@@ -133,8 +134,10 @@ fn end_of_jump<'a>(behind: Cursor<'a>) -> Result<Cursor<'a>, ScriptFault>
 /// label.
 fn check_no_label<'a>(begins: Cursor<'a>) -> Result<(), ScriptFault>
     requires behind { IsBehindLabel begins }
-    ensures allowed { OnOk result (IsNoComment (unread begins.entry) × IsEmptyOr is_ending (unread begins.entry) × (begins_braced_comment (unread begins.entry) ≡ false)) }
-    ensures refused { IfErr result (λ fault. IsNoComment (unread begins.entry) → IsEmptyOr is_ending (unread begins.entry) → begins_braced_comment (unread begins.entry) ≡ false → ⊥) }
+    ensures allowed { OnOk result (IsNoComment (unread begins.entry) × IsEmptyOr is_ending (unread begins.entry)
+        × (begins_braced_comment (unread begins.entry) ≡ false)) }
+    ensures refused { IfErr result (λ fault. IsNoComment (unread begins.entry) → IsEmptyOr is_ending (unread begins.entry)
+        → begins_braced_comment (unread begins.entry) ≡ false → ⊥) }
     ensures placed { IfErr result (λ fault. IsPlaced begins.entry.whole.now fault) }
 {
     if let Some(next) = begins.first() {

@@ -64,7 +64,8 @@ fn read_part<'a>(
     requires delimiter { IsTrue (is_delimiter delimiter) }
     ensures read { IfOk result (λ x. IsNextPart delimiter greatest (unread text.entry) (option_map part_of x.0) (unread x.1)) }
     ensures same { IfOk result (λ x. x.1.whole ≡ text.entry.whole) }
-    ensures refused { IfErr result (λ fault. (parts : List clean.Part) (rest : List ℕ) → Replacement delimiter (unread text.entry) parts rest → HasGroupsUpTo greatest parts → ⊥) }
+    ensures refused { IfErr result (λ fault. (parts : List clean.Part) (rest : List ℕ)
+        → Replacement delimiter (unread text.entry) parts rest → HasGroupsUpTo greatest parts → ⊥) }
     ensures placed { IfErr result (λ fault. IsPartPlaced opening text.entry.whole.now fault) }
 {
     let (piece, behind) = read_piece(opening, delimiter, text)?;
@@ -101,7 +102,8 @@ pub fn read_replacement<'a>(
     ensures read { IfOk result (λ x. Replacement delimiter (unread text.entry) (map part_of x.0.items) (unread x.1)) }
     ensures same { IfOk result (λ x. x.1.whole ≡ text.entry.whole) }
     ensures groups { IfOk result (λ x. HasGroupsUpTo greatest (map part_of x.0.items)) }
-    ensures refused { IfErr result (λ fault. IsOfText fault → (parts : List clean.Part) (rest : List ℕ) → Replacement delimiter (unread text.entry) parts rest → HasGroupsUpTo greatest parts → ⊥) }
+    ensures refused { IfErr result (λ fault. IsOfText fault → (parts : List clean.Part) (rest : List ℕ)
+        → Replacement delimiter (unread text.entry) parts rest → HasGroupsUpTo greatest parts → ⊥) }
     ensures placed { IfErr result (λ fault. IsPartPlaced opening text.entry.whole.now fault) }
 {
     let mut parts = Vec::new(alloc);

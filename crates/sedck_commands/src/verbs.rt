@@ -34,7 +34,8 @@ fn read_simple_verb<'a>(
     ensures same { IfOk result (λ x. x.1.whole ≡ text.entry.whole) }
     ensures no_label { IfOk result (λ x. (name : List ℕ) → written_verb x.0 ≢ Known (clean.Label name)) }
     ensures label { IfOk result (λ x. IsWrittenAt text.entry.whole.now x.0) }
-    ensures refused { IfErr result (λ fault. (b : ℕ) → Simple b (verb_of verb.entry) → (written : WrittenVerb) (rest : List ℕ) → VerbText (b ∷ unread text.entry) written rest → ⊥) }
+    ensures refused { IfErr result (λ fault. (b : ℕ) → Simple b (verb_of verb.entry) → (written : WrittenVerb) (rest : List ℕ)
+        → VerbText (b ∷ unread text.entry) written rest → ⊥) }
     ensures placed { IfErr result (λ fault. IsPlaced text.entry.whole.now fault) }
 {
     let rest = end_of_command(text)?;
@@ -98,7 +99,8 @@ fn read_label<'a>(
     ensures same { IfOk result (λ x. x.1.whole ≡ text.entry.whole) }
     ensures fresh { IfOk result (λ x. DefinesKnown labels.now (written_verb x.0) → ⊥) }
     ensures label { IfOk result (λ x. IsWrittenAt text.entry.whole.now x.0) }
-    ensures refused { IfErr result (λ fault. (verb : WrittenVerb) (rest : List ℕ) → VerbText (ascii ":" ∷ unread text.entry) verb rest → DefinesKnown labels.now verb) }
+    ensures refused { IfErr result (λ fault. (verb : WrittenVerb) (rest : List ℕ) → VerbText (ascii ":" ∷ unread text.entry) verb rest
+        → DefinesKnown labels.now verb) }
     ensures placed { IfErr result (λ fault. IsPlaced text.entry.whole.now fault) }
 {
     let (name, offset, behind) = read_definition(text)?;
@@ -138,7 +140,8 @@ pub fn read_verb<'a>(
     ensures same { IfOk result (λ x. x.1.whole ≡ text.entry.whole) }
     ensures fresh { IfOk result (λ x. DefinesKnown labels.now (written_verb x.0) → ⊥) }
     ensures label { IfOk result (λ x. IsWrittenAt text.entry.whole.now x.0) }
-    ensures refused { IfErr result (λ fault. IsOfText fault → (b : ℕ) → IsForm b form.entry → (verb : WrittenVerb) (rest : List ℕ) → VerbText (b ∷ unread text.entry) verb rest → DefinesKnown labels.now verb) }
+    ensures refused { IfErr result (λ fault. IsOfText fault → (b : ℕ) → IsForm b form.entry → (verb : WrittenVerb) (rest : List ℕ)
+        → VerbText (b ∷ unread text.entry) verb rest → DefinesKnown labels.now verb) }
     ensures placed { IfErr result (λ fault. IsPlaced text.entry.whole.now fault) }
 {
     match form {

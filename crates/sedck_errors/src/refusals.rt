@@ -103,7 +103,8 @@ fn offset_of(text: &[u8], fault: ScriptFault) -> usize
 /// expression begins at `start`, after its delimiter.
 fn offset_in_expression(text: &[u8], start: usize, offset: usize) -> usize
     requires { start ≤ length text.now }
-    ensures { (delimiter : ℕ) (expression rest : List ℕ) → StandsAt text.now (start - 1) delimiter → (cut : DelimitedExpression delimiter (drop start text.now) expression rest)
+    ensures { (delimiter : ℕ) (expression rest : List ℕ) → StandsAt text.now (start - 1) delimiter
+        → (cut : DelimitedExpression delimiter (drop start text.now) expression rest)
         → offset < length expression → result ≡ start + bytes_before cut offset }
 {
     let delimiter = byte_before(text, start);

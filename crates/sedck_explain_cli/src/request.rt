@@ -297,7 +297,8 @@ static CHOICES: [Choice; 15] = [
     Choice {
         name: "level",
         takes: Takes::OneOf("LEVEL", LEVELS),
-        help: "The least level of findings that are reported; the exit status stays\nthe same [error, warning, note] [default: note; warning for gcc, and\nfor text without --calls]",
+        help: "The least level of findings that are reported; the exit status stays\n\
+            the same [error, warning, note] [default: note; warning for gcc, and\nfor text without --calls]",
     },
     Choice {
         name: "no-comments",
@@ -312,7 +313,9 @@ static CHOICES: [Choice; 15] = [
     Choice {
         name: "deny",
         takes: Takes::Denials("WHAT", 0),
-        help: "What makes an accepted script end with status 1; several have commas\nbetween, or an option each [reads, writes, warnings, unbounded,\ngrowing, slow, references]; or the code of a warning",
+        help: "What makes an accepted script end with status 1; several have commas\n\
+            between, or an option each [reads, writes, warnings, unbounded,\n\
+            growing, slow, references]; or the code of a warning",
     },
     Choice {
         name: "allow",
@@ -384,7 +387,12 @@ fn described<'a>(alloc: Global) -> Command<'a> {
             "Says where and why a sed script is refused or may run for ever, which files\nit touches, and what to write instead",
         )
         .after_help(
-            "Exit status, of several scripts the one that tells most:\n  0 accepted\n  1 rejected, a loop, or what --deny names\n  2 a script or a certificate that is refused\n  3 an invalid command line\n  4 a file that can't be read, or a report that can't be written\n  5 a call in a file of which something is unknown before a run; with\n    --mend also what is accepted under a condition",
+            "Exit status, of several scripts the one that tells most:\n  \
+             0 accepted\n  1 rejected, a loop, or what --deny names\n  \
+             2 a script or a certificate that is refused\n  3 an invalid command line\n  \
+             4 a file that can't be read, or a report that can't be written\n  \
+             5 a call in a file of which something is unknown before a run; with\n    \
+             --mend also what is accepted under a condition",
         )
 }
 

@@ -77,7 +77,8 @@ fn has_denied(
     expressions: Expressions,
 ) -> bool
     ensures { result ≡ ((denied.reads && is_there cert.now.reads) || (denied.writes && is_there cert.now.writes)
-        || (denied.unbounded && is_unbounded limits) || (denied.growing && is_growing limits) || warns_of_denied denied findings.now || (denied.slow && expressions.slow)
+        || (denied.unbounded && is_unbounded limits) || (denied.growing && is_growing limits)
+        || warns_of_denied denied findings.now || (denied.slow && expressions.slow)
         || (denied.references && expressions.references)) }
 {
     (denied.reads && has_reads(cert))

@@ -256,7 +256,8 @@ fn due_warnings(
     denied: Denied,
 ) -> Result<(), AllocError>
     ensures added { OnOk result (AddsNoError findings.old.items findings.new.items) }
-    ensures exactly { OnOk result (has_locale findings.new.items ≡ (has_locale findings.old.items || (not denied.c_locale && depends_on_locale located.now.script))) }
+    ensures exactly { OnOk result (has_locale findings.new.items
+        ≡ (has_locale findings.old.items || (not denied.c_locale && depends_on_locale located.now.script))) }
 {
     if denied.c_locale {
         return Ok(());

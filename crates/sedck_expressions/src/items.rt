@@ -100,7 +100,9 @@ pub(crate) fn read_single<'a>(
 ) -> Result<(Bre, Cursor<'a>), ReFault>
     requires going { at_end (unread cursor) ≡ false }
     requires other { begins_pair 40 (unread cursor) ≡ false }
-    ensures value { (inner : List ℕ → Option (Trees × List ℕ)) (deep opened : ℕ) (closed : List ℕ) → ClosedIs groups.now.closed closed → Gives (λ x. (tree x.0, unread x.1)) result (atom full inner (level_of depth) (position_of position) deep opened closed (unread cursor.entry)) }
+    ensures value { (inner : List ℕ → Option (Trees × List ℕ)) (deep opened : ℕ) (closed : List ℕ) → ClosedIs groups.now.closed closed
+        → Gives (λ x. (tree x.0, unread x.1)) result (atom full inner (level_of depth) (position_of position) deep opened closed
+        (unread cursor.entry)) }
     ensures groups { IfOk result (λ x. groups_in (tree x.0) ≡ []) }
     ensures shorter { IfOk result (λ x. length (unread x.1) < length (unread cursor.entry)) }
     ensures same { IfOk result (λ x. x.1.whole ≡ cursor.entry.whole) }
@@ -131,7 +133,8 @@ fn read_escape<'a>(
 ) -> Result<(Bre, Cursor<'a>), ReFault>
     requires begins { begins "\\" (unread cursor) ≡ true }
     requires other { begins_pair 40 (unread cursor) ≡ false }
-    ensures value { (inner : List ℕ → Option (Trees × List ℕ)) (deep opened : ℕ) (closed : List ℕ) → ClosedIs groups.now.closed closed → Gives (λ x. (tree x.0, unread x.1)) result (backslash full inner deep opened closed (drop 1 (unread cursor.entry))) }
+    ensures value { (inner : List ℕ → Option (Trees × List ℕ)) (deep opened : ℕ) (closed : List ℕ) → ClosedIs groups.now.closed closed
+        → Gives (λ x. (tree x.0, unread x.1)) result (backslash full inner deep opened closed (drop 1 (unread cursor.entry))) }
     ensures groups { IfOk result (λ x. groups_in (tree x.0) ≡ []) }
     ensures shorter { IfOk result (λ x. length (unread x.1) < length (unread cursor.entry)) }
     ensures same { IfOk result (λ x. x.1.whole ≡ cursor.entry.whole) }
@@ -150,7 +153,8 @@ fn read_escape<'a>(
 /// What a byte after a backslash stands for, where it opens no group.
 fn read_escaped(position: Position, start: usize, groups: &Groups, byte: u8) -> Result<Bre, ReFault>
     requires other { byte ≢ 40 }
-    ensures value { (inner : List ℕ → Option (Trees × List ℕ)) (deep opened : ℕ) (closed rest : List ℕ) → ClosedIs groups.now.closed closed → Gives (λ x. (tree x, rest)) result (escaped full inner deep opened closed byte rest) }
+    ensures value { (inner : List ℕ → Option (Trees × List ℕ)) (deep opened : ℕ) (closed rest : List ℕ) → ClosedIs groups.now.closed closed
+        → Gives (λ x. (tree x, rest)) result (escaped full inner deep opened closed byte rest) }
     ensures groups { IfOk result (λ x. groups_in (tree x) ≡ []) }
     ensures place { IfErr result (λ fault. (whole : List ℕ) → HasOneAt whole start "\\" → IsPlaced whole fault) }
 {

@@ -49,10 +49,13 @@ fn read_items<'a>(
 ) -> Result<(Vec<Bre>, Cursor<'a>), ReFault>
     requires few { groups.old.opened ≤ 99 }
     requires shallow { depth ≤ 32 }
-    ensures value { (bound : ℕ) (closed : List ℕ) → length (unread cursor.entry) < bound → ClosedIs groups.old.closed closed → Gives (λ x. (trees (map tree x.0.items), unread x.1)) result (items full bound (level_of depth) shape.First depth groups.old.opened closed (unread cursor.entry)) }
+    ensures value { (bound : ℕ) (closed : List ℕ) → length (unread cursor.entry) < bound → ClosedIs groups.old.closed closed
+        → Gives (λ x. (trees (map tree x.0.items), unread x.1)) result
+        (items full bound (level_of depth) shape.First depth groups.old.opened closed (unread cursor.entry)) }
     ensures few { groups.new.opened ≤ 99 }
     ensures opened { IfOk result (λ x. groups.new.opened ≡ groups.old.opened + length (groups_in (sequence x.0.items))) }
-    ensures closed { (closed : List ℕ) → ClosedIs groups.old.closed closed → IfOk result (λ x. ClosedIs groups.new.closed (closed ++ groups_in (sequence x.0.items))) }
+    ensures closed { (closed : List ℕ) → ClosedIs groups.old.closed closed
+        → IfOk result (λ x. ClosedIs groups.new.closed (closed ++ groups_in (sequence x.0.items))) }
     ensures shorter { IfOk result (λ x. length (unread x.1) ≤ length (unread cursor.entry)) }
     ensures end { IfOk result (λ x. IsTrue (at_end (unread x.1))) }
     ensures same { IfOk result (λ x. x.1.whole ≡ cursor.entry.whole) }
@@ -83,7 +86,10 @@ fn read_item<'a>(
     requires going { at_end (unread cursor) ≡ false }
     requires few { groups.old.opened ≤ 99 }
     requires shallow { depth ≤ 32 }
-    ensures value { (bound : ℕ) (closed : List ℕ) → length (unread cursor.entry) ≤ bound → ClosedIs groups.old.closed closed → Gives (λ x. (tree x.0, unread x.1)) result (atom full (items full bound shape.Inside shape.First (depth + 1) (groups.old.opened + 1) closed) (level_of depth) (position_of position) depth groups.old.opened closed (unread cursor.entry)) }
+    ensures value { (bound : ℕ) (closed : List ℕ) → length (unread cursor.entry) ≤ bound → ClosedIs groups.old.closed closed
+        → Gives (λ x. (tree x.0, unread x.1)) result (atom full
+        (items full bound shape.Inside shape.First (depth + 1) (groups.old.opened + 1) closed) (level_of depth)
+        (position_of position) depth groups.old.opened closed (unread cursor.entry)) }
     ensures few { groups.new.opened ≤ 99 }
     ensures opened { IfOk result (λ x. groups.new.opened ≡ groups.old.opened + length (groups_in (tree x.0))) }
     ensures closed { (closed : List ℕ) → ClosedIs groups.old.closed closed → IfOk result (λ x. ClosedIs groups.new.closed (closed ++ groups_in (tree x.0))) }
@@ -108,7 +114,10 @@ fn read_group<'a>(
     requires opens { begins_pair 40 (unread cursor) ≡ true }
     requires few { groups.old.opened ≤ 99 }
     requires shallow { depth ≤ 32 }
-    ensures value { (bound : ℕ) (closed : List ℕ) → length (unread cursor.entry) ≤ bound → ClosedIs groups.old.closed closed → Gives (λ x. (tree x.0, unread x.1)) result (group_at full (items full bound shape.Inside shape.First (depth + 1) (groups.old.opened + 1) closed) depth groups.old.opened (drop 2 (unread cursor.entry))) }
+    ensures value { (bound : ℕ) (closed : List ℕ) → length (unread cursor.entry) ≤ bound → ClosedIs groups.old.closed closed
+        → Gives (λ x. (tree x.0, unread x.1)) result (group_at full
+        (items full bound shape.Inside shape.First (depth + 1) (groups.old.opened + 1) closed) depth groups.old.opened
+        (drop 2 (unread cursor.entry))) }
     ensures few { groups.new.opened ≤ 99 }
     ensures opened { IfOk result (λ x. groups.new.opened ≡ groups.old.opened + length (groups_in (tree x.0))) }
     ensures closed { (closed : List ℕ) → ClosedIs groups.old.closed closed → IfOk result (λ x. ClosedIs groups.new.closed (closed ++ groups_in (tree x.0))) }

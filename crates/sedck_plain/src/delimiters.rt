@@ -4,7 +4,8 @@ use sedck_script::Part;
 
 /// The delimiters, from the one that is looked at first: signs, then the rest of ASCII, control characters last.
 const DELIMITERS: &[u8; 124] =
-    b"/,:|#%@!~=_;\"$&'()*+-.0123456789<>?ABCDEFGHIJKLMNOPQRSTUVWXYZ[]^`abcdefghijklmnopqrstuvwxyz{}\x01\x02\x03\x04\x05\x06\x07\x08\t\x0b\x0c\r\x0e\x0f\x10\x11\x12\x13\x14\x15\x16\x17\x18\x19\x1a\x1b\x1c\x1d\x1e\x1f ";
+    b"/,:|#%@!~=_;\"$&'()*+-.0123456789<>?ABCDEFGHIJKLMNOPQRSTUVWXYZ[]^`abcdefghijklmnopqrstuvwxyz{}\
+      \x01\x02\x03\x04\x05\x06\x07\x08\t\x0b\x0c\r\x0e\x0f\x10\x11\x12\x13\x14\x15\x16\x17\x18\x19\x1a\x1b\x1c\x1d\x1e\x1f ";
 
 /// Those that may be inside a part after a backslash, and are read alike there by all seds.
 const ESCAPABLE: &[u8; 9] = b"/,;!@#%~_";

@@ -30,7 +30,8 @@ pub fn header(lines: &mut Lines, version: Version) -> Result<(), CertFault>
 
 /// The number of commands.
 pub fn command_count(lines: &mut Lines, version: Version) -> Result<u16, CertFault>
-    ensures read { IfOk result (λ n. (n ≤ 4095) × Leads version Count lines.old ((codes "commands " ++ decimal n) ∷ []) lines.new (nodes_due 0 (nodes_in version n))) }
+    ensures read { IfOk result (λ n. (n ≤ 4095) × Leads version Count lines.old ((codes "commands " ++ decimal n) ∷ []) lines.new
+        (nodes_due 0 (nodes_in version n))) }
     ensures refused { IfErr result (Stops version Count lines.old) }
 {
     let line = lines.number;
@@ -66,7 +67,8 @@ pub fn next_is(lines: &mut Lines, text: &[u8]) -> bool
 
 /// The number after the word in the next line.
 pub fn next_count(lines: &mut Lines, word: &[u8]) -> Option<u16>
-    ensures { MatchOption result ((n : ℕ) → n ≤ 4095 → (more : List ℕ) → IsCut newline lines.old.rest.now (word.now ++ decimal n) more → ⊥) (λ n. (n ≤ 4095) × IsNext lines.old (word.now ++ decimal n) lines.new) }
+    ensures { MatchOption result ((n : ℕ) → n ≤ 4095 → (more : List ℕ) → IsCut newline lines.old.rest.now (word.now ++ decimal n) more → ⊥)
+        (λ n. (n ≤ 4095) × IsNext lines.old (word.now ++ decimal n) lines.new) }
 {
     count(lines.next()?, word)
 }

@@ -40,7 +40,8 @@ pub fn names(
     mut size: usize,
 ) -> Result<(Vec<Vec<u8>>, usize), CertFault>
     requires { size ≤ NAMES_LIMIT }
-    ensures read { IfOk result (λ r. (v : Version) → Leads v (Names files size) lines.old (list_texts files (names_of r.0.items)) lines.new (after_list files r.1)) }
+    ensures read { IfOk result (λ r. (v : Version) → Leads v (Names files size) lines.old (list_texts files (names_of r.0.items)) lines.new
+        (after_list files r.1)) }
     ensures within { IfOk result (λ r. r.1 ≤ NAMES_LIMIT) }
     ensures count { IfOk result (λ r. length r.0.items ≤ 4095) }
     ensures refused { IfErr result (λ fault. (v : Version) → (fault ≡ CertFault.OutOfMemory) ⊎ Stops v (Names files size) lines.old fault) }
@@ -60,7 +61,8 @@ pub fn names(
 /// How many names the list has.
 fn list_count(lines: &mut Lines, files: Files) -> Result<u16, CertFault>
     ensures limit { IfOk result (λ n. n ≤ 4095) }
-    ensures read { IfOk result (λ n. (v : Version) (size : ℕ) → Leads v (Names files size) lines.old ((list_word files ++ decimal n) ∷ []) lines.new (names_due files n [] size)) }
+    ensures read { IfOk result (λ n. (v : Version) (size : ℕ)
+        → Leads v (Names files size) lines.old ((list_word files ++ decimal n) ∷ []) lines.new (names_due files n [] size)) }
     ensures refused { IfErr result (λ fault. (v : Version) (size : ℕ) → Stops v (Names files size) lines.old fault) }
 {
     let line = lines.number;
@@ -75,8 +77,11 @@ fn name_line<'a>(
 ) -> Result<&'a [u8], CertFault>
     requires { size ≤ NAMES_LIMIT }
     ensures within { IfOk result (λ name. size + length name.now + 1 ≤ NAMES_LIMIT) }
-    ensures read { IfOk result (λ name. (v : Version) (files : Files) (left : ℕ) → Leads v (Name files left (one_before before.entry) size) lines.old (name.now ∷ []) lines.new (names_due files left (name.now ∷ []) (size + length name.now + 1))) }
-    ensures refused { IfErr result (λ fault. (v : Version) (files : Files) (left : ℕ) → Stops v (Name files left (one_before before.entry) size) lines.old fault) }
+    ensures read { IfOk result (λ name. (v : Version) (files : Files) (left : ℕ)
+        → Leads v (Name files left (one_before before.entry) size) lines.old (name.now ∷ []) lines.new
+        (names_due files left (name.now ∷ []) (size + length name.now + 1))) }
+    ensures refused { IfErr result (λ fault. (v : Version) (files : Files) (left : ℕ)
+        → Stops v (Name files left (one_before before.entry) size) lines.old fault) }
 {
     let fault = CertFault::BadNames { line: lines.number };
     let Some(name) = lines.next() else {

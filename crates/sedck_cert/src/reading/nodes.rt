@@ -23,7 +23,8 @@ pub fn nodes(
     commands: u16,
 ) -> Result<Vec<Option<(u16, u16)>>, CertFault>
     requires { commands ≤ 4095 }
-    ensures read { IfOk result (λ ranks. Leads version (nodes_due 0 (nodes_in version commands)) lines.old (node_texts version 0 ranks.items) lines.new (Names Reads 0)) }
+    ensures read { IfOk result (λ ranks. Leads version (nodes_due 0 (nodes_in version commands)) lines.old
+        (node_texts version 0 ranks.items) lines.new (Names Reads 0)) }
     ensures within { IfOk result (λ ranks. All AreWithin ranks.items) }
     ensures count { IfOk result (λ ranks. length ranks.items ≡ nodes_in version commands) }
     ensures refused { IfErr result (λ fault. (fault ≡ CertFault.OutOfMemory) ⊎ Stops version (nodes_due 0 (nodes_in version commands)) lines.old fault) }
@@ -43,7 +44,8 @@ fn node_line(
     node: u16,
 ) -> Result<Option<(u16, u16)>, CertFault>
     ensures within { IfOk result AreWithin }
-    ensures read { IfOk result (λ ranks. (left : ℕ) → Leads version (Node node left) lines.old (node_text version node ranks ∷ []) lines.new (nodes_due (suc node) left)) }
+    ensures read { IfOk result (λ ranks. (left : ℕ)
+        → Leads version (Node node left) lines.old (node_text version node ranks ∷ []) lines.new (nodes_due (suc node) left)) }
     ensures refused { IfErr result (λ fault. (left : ℕ) → Stops version (Node node left) lines.old fault) }
 {
     let line = lines.number;
@@ -51,14 +53,17 @@ fn node_line(
 }
 
 fn next_ranks(lines: &mut Lines, version: Version, node: u16) -> Option<Option<(u16, u16)>>
-    ensures { MatchOption result ((ranks : Option (ℕ × ℕ)) → AreWithin ranks → (more : List ℕ) → IsCut newline lines.old.rest.now (node_text version node ranks) more → ⊥) (λ ranks. AreWithin ranks × IsNext lines.old (node_text version node ranks) lines.new) }
+    ensures { MatchOption result ((ranks : Option (ℕ × ℕ)) → AreWithin ranks → (more : List ℕ)
+        → IsCut newline lines.old.rest.now (node_text version node ranks) more → ⊥)
+        (λ ranks. AreWithin ranks × IsNext lines.old (node_text version node ranks) lines.new) }
 {
     node_ranks(lines.next()?, version, node)
 }
 
 /// The ranks that the line gives the node with this index.
 fn node_ranks(text: &[u8], version: Version, index: u16) -> Option<Option<(u16, u16)>>
-    ensures { MatchOption result ((ranks : Option (ℕ × ℕ)) → AreWithin ranks → text.now ≡ node_text version index ranks → ⊥) (λ ranks. AreWithin ranks × (text.now ≡ node_text version index ranks)) }
+    ensures { MatchOption result ((ranks : Option (ℕ × ℕ)) → AreWithin ranks → text.now ≡ node_text version index ranks → ⊥)
+        (λ ranks. AreWithin ranks × (text.now ≡ node_text version index ranks)) }
 {
     ranks(behind_words(text, version, index)?)
 }
@@ -94,7 +99,8 @@ fn behind_number(text: &[u8], wanted: u16) -> Option<&[u8]>
 
 /// The ranks of a node, or that it has none.
 fn ranks(text: &[u8]) -> Option<Option<(u16, u16)>>
-    ensures { MatchOption result ((ranks : Option (ℕ × ℕ)) → AreWithin ranks → text.now ≡ ranks_text ranks → ⊥) (λ ranks. AreWithin ranks × (text.now ≡ ranks_text ranks)) }
+    ensures { MatchOption result ((ranks : Option (ℕ × ℕ)) → AreWithin ranks → text.now ≡ ranks_text ranks → ⊥)
+        (λ ranks. AreWithin ranks × (text.now ≡ ranks_text ranks)) }
 {
     if text == b"-".as_slice() {
         return Some(None);

@@ -53,7 +53,8 @@ fn fault_of(outer: usize, cursor: Cursor<'_>, flaw: Flaw) -> ReFault
 /// The set of the elements up to the closing bracket, and the cursor behind it. The list begins at `outer`.
 fn read_elements<'a>(outer: usize, cursor: Cursor<'a>) -> Result<(ByteSet, Cursor<'a>), ReFault>
     requires outer { HasOneAt cursor.whole.now outer "[" }
-    ensures value { MatchResult result (λ x. HasElements x.0.0 (unread x.1) (elements_of (unread cursor.entry))) (λ _. elements_of (unread cursor.entry) ≡ None) }
+    ensures value { MatchResult result (λ x. HasElements x.0.0 (unread x.1) (elements_of (unread cursor.entry)))
+        (λ _. elements_of (unread cursor.entry) ≡ None) }
     ensures same { IfOk result (λ x. x.1.whole ≡ cursor.entry.whole) }
     ensures shorter { IfOk result (λ x. length (unread x.1) < length (unread cursor.entry)) }
     ensures place { IfErr result (λ fault. IsPlaced cursor.entry.whole.now fault) }
