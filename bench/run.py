@@ -101,6 +101,11 @@ def scripts():
     yield "4,095 of `s/abc/ab/`", b"s/abc/ab/\n" * COMMANDS, 0
     groups = b"s/" + b"".join(b"\\(%c\\)" % c for c in b"abcdefghi") + b"x/" + b"".join(b"\\%d" % k for k in range(1, 10)) + b"/\n"
     yield "4,095 of `s` with nine groups", groups * COMMANDS, 0
+    nine = b"".join(b"\\(%c*\\)" % c for c in b"abcdefghi")
+    named = b"".join(b"\\%d" % k for k in range(1, 10))
+    filled = b"e" * (SCRIPT_LIMIT - len(nine) - len(named) - 10)
+    yield "a megabyte of one expression, refused for its references", b"/" + nine + filled + named + b"$/p", 2
+    yield "a megabyte of one `s`, which keeps nine groups at its end", b"s/" + filled + nine + b"/" + named + b"/", 0
     yield "4,095 of `/x/D`", b"/x/D\n" * COMMANDS, 0
     yield "4,095 of `G`", b"G\n" * COMMANDS, 0
     yield "4,095 of `$!N`", b"$!N\n" * COMMANDS, 0
