@@ -9,9 +9,10 @@ seconds of `rt selftest` right before, so that the speed of the machine goes out
 The status is that of `rt ci`, but 1 where a wrong body shows nothing: where an edit can't be applied or compiled, or was refused only
 since a proof names what it took away. Edits are also looked at before anything is proved (tools/edits.py).
 
-Each crate gets one process, and as many crates are worked on at a time as there are processors, but at most four, and as far as each has
-5 GB of memory; `RT_JOBS` overrides that. Where several processes share the proof of one crate, each of them loads what the crate stands
-on, which costs a third more processor time.
+As many crates are worked on at a time as there are processors, as far as there is memory. `rt` gives a crate the processors that no other
+waits for, so that the longest chain of crates takes less by the clock. Where several processes share the proof of one crate, each of them
+loads what the crate stands on, which costs up to a third more processor time. `RT_JOBS` sets how many crates are worked on at a time, each
+with one process; an older `rt` that takes no names of crates is given a number by this.
 """
 import os
 import re
@@ -24,6 +25,7 @@ import time
 from pathlib import Path
 
 import edits
+import planted
 
 TOP = Path(__file__).resolve().parent.parent
 # What `rt` says of a wrong body that shows nothing, though it may count it as refused.
@@ -174,13 +176,14 @@ def main():
     if sys.argv[1:] == ["--bench"]:
         return put_into_bench()
     rt = sys.argv[1] if len(sys.argv) > 1 else "rt"
-    os.environ.setdefault("RT_JOBS", str(jobs()))
     faults = list(edits.faults())
     for fault in faults:
         print("gate: " + fault)
     if faults:
         return 1
     try:
+        if not planted.takes_names(rt):
+            os.environ.setdefault("RT_JOBS", str(jobs()))
         unit = unit_of(rt)
         begun, before = time.monotonic(), resource.getrusage(resource.RUSAGE_CHILDREN)
         status, lines, costs = run(rt)
@@ -192,9 +195,9 @@ def main():
     used = resource.getrusage(resource.RUSAGE_CHILDREN)
     names = re.findall(r"^(\w+)[^:#\n]*:", (TOP / "crates.txt").read_text(), re.M)
     bodies = {name: len(list((TOP / "crates" / name / "must-fail").glob("*.edit"))) for name in names}
-    cost = "%s\nThe gate took %.1f processor minutes, %.1f of them in the system, and %.1f minutes by the clock, with %s jobs.\n" % (
+    cost = "%s\nThe gate took %.1f processor minutes, %.1f of them in the system, and %.1f minutes by the clock, on %s processors.\n" % (
         table(costs, names, bodies, unit), (used.ru_utime + used.ru_stime - before.ru_utime - before.ru_stime) / 60,
-        (used.ru_stime - before.ru_stime) / 60, (time.monotonic() - begun) / 60, os.environ["RT_JOBS"])
+        (used.ru_stime - before.ru_stime) / 60, (time.monotonic() - begun) / 60, os.environ.get("RT_JOBS", len(os.sched_getaffinity(0))))
     print(cost, end="")
     (TOP / "build").mkdir(exist_ok=True)
     (TOP / "build" / "gate-cost").write_text(cost)

@@ -77,7 +77,7 @@ def entered(name, known):
     LEDGER.write_text("".join("%s  %s\n" % (sums[other], other) for other in sorted(sums)))
 
 
-def takes_names(rt):
+def takes_names(rt: str) -> bool:
     """Whether `rt ci` takes names of crates."""
     return re.search(r"\brt ci \[?NAME", prove.called(shlex.split(rt) + ["help"], TOP)[1]) is not None
 
