@@ -70,7 +70,7 @@ static SCRIPTS: [(&'static str, &'static str); 41] = [
 ];
 
 fn plain_of(rt: &impl Abort, alloc: Global, text: &[u8]) -> Vec<u8> {
-    plain_text(alloc, text).expect(rt, "a plain text")
+    plain_text(alloc, text).ok().expect(rt, "a plain text")
 }
 
 #[test]

@@ -17,15 +17,19 @@ pub fn require_bytes(rt: &impl Abort, found: &[u8], wanted: &[u8], row: &[u8]) {
 
 /// The script that the text spells.
 pub fn script_of<'a>(rt: &impl Abort, alloc: Global, text: &'a [u8]) -> Script<'a> {
-    sedck_script::parse(alloc, text).expect(rt, "a script")
+    sedck_script::parse(alloc, text).ok().expect(rt, "a script")
 }
 
 /// The expression that the text spells.
 pub fn expression_of(rt: &impl Abort, alloc: Global, text: &[u8]) -> Expr {
-    sedck_bre::parse(alloc, text).expect(rt, "an expression")
+    sedck_bre::parse(alloc, text)
+        .ok()
+        .expect(rt, "an expression")
 }
 
 /// The certificate that the text of either version spells.
 pub fn certificate_of(rt: &impl Abort, alloc: Global, text: &[u8]) -> Cert {
-    sedck_cert::read_any(alloc, text).expect(rt, "a certificate")
+    sedck_cert::read_any(alloc, text)
+        .ok()
+        .expect(rt, "a certificate")
 }
