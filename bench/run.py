@@ -204,7 +204,7 @@ def growth(program, runs):
 
 def measure(program, folder, words, status):
     begin = time.perf_counter()
-    done = subprocess.run([program, *words], cwd=folder, stdout=subprocess.DEVNULL)
+    done = subprocess.run([program, *words], cwd=folder, stdout=subprocess.DEVNULL, stderr=subprocess.DEVNULL)
     seconds = time.perf_counter() - begin
     if done.returncode != status:
         raise SystemExit("status %d instead of %d" % (done.returncode, status))
