@@ -1,8 +1,8 @@
 //! Which of the parts that matchers get wrong a tree has. They are all found in one pass over it, however many groups it has.
 
-ghost use Rattle.std.specs.Prelude.{◌≡◌, ◌<◌, ℕ, List, min, map, nat_lt, sum_by, bit_or, bit_and, false};
+ghost use Rattle.std.specs.Prelude.{◌≡◌, map, nat_lt, sum_by, false};
 ghost use Rattle.std.specs.List.{list_any};
-ghost use Rattle.sedck_expressions.specs.Tree.{Tree, trees};
+ghost use Rattle.sedck_expressions.specs.Tree.{trees};
 ghost use Rattle.sedck_expressions.specs.View.{tree};
 ghost use Rattle.sedck_expressions.specs.Misjudged.{is_group, is_end, is_end_last, ends_in_anchor};
 ghost use Rattle.sedck_expressions.specs.Private.Parts as spec;
@@ -172,6 +172,11 @@ pub(crate) fn parts_of(expression: &Bre) -> Parts
         },
         Bre::Group(k, body) => parts_of(body).in_group(*k),
         Bre::Seq(items) => parts_of_all(items),
+        // Most of what is repeated is a byte.
+        Bre::Repeat { body, least, .. } if matches!(**body, Bre::Byte(_)) => Parts {
+            may_be_empty: *least == 0,
+            ..NONE
+        },
         Bre::Repeat { body, least, .. } => {
             parts_of(body).repeated(own_reference(body), is_group(body), *least)
         }
