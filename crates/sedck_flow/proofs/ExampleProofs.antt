@@ -3,12 +3,12 @@ use Rattle.std.proofs.Common.{◌≡◌, ℕ, ◌≤◌, true, false, List, [], 
 use Rattle.std.specs.Prelude.{codes}
 use Rattle.std.specs.Fmt.{digits}
 use Rattle.std.proofs.lemmas.Bool.{false≢true, true≢false}
-use Rattle.sedck_bre.specs.Tree.{Tree, Any, Seq, Then, Nil}
+use Rattle.sedck_expressions.specs.Tree.{Tree, Any, Seq, Then, Nil}
 use Rattle.sedck_bre.specs.Match.{Groups, no_groups, text_of, with_text, Match, Language}
 use Rattle.sedck_script.proofs.SortedNames.{Contains-cons_cases}
 use Rattle.sedck_flow.specs.Flow.{Shortens, NeverLengthens, HasKind}
-use Rattle.sedck_script.specs.References.{HasNoWhole, named_groups, AreDistinct, AreTopGroups, KeepsGroups}
-use Rattle.sedck_script.specs.Program.{Expression, Part, Group as Reference}
+use Rattle.sedck_commands.specs.References.{HasNoWhole, named_groups, AreDistinct, AreTopGroups, KeepsGroups}
+use Rattle.sedck_commands.specs.Program.{Expression, Part, Group as Reference}
 use Rattle.sedck_flow.specs.Run.{Machine, At}
 use Rattle.sedck_flow.specs.declared.graph.Node.{Node}
 use Rattle.sedck_flow.specs.declared.graph.Kind.TheVariants.{Shorten, Keep}
@@ -199,6 +199,7 @@ examples_hold = record {
   group_twice_grows = inr (tt, inr ((λ h. h, λ h. h.0.distinct.0.0 refl), refl));
   whole_keeps = inr (tt, inr (inl tt, refl));
   whole_twice_grows = inr (tt, inr ((λ h. h, λ h. h.0.no_whole), refl));
+  selects_inside = (97 ∷ [], 120 ∷ [], 98 ∷ [], refl, one_x, refl, no_groups, (120 ∷ [], [], no_groups, refl, (refl, refl), (refl, refl)));
   last_line = inr ((inl refl, refl), refl, refl);
   not_applied = elim [ inl (may, _) ↦ may refl | inr (_, _, e) ↦ cc ];
   other_line = elim [ inl (_, (_, (flag, _, e))) ↦ omega (arith, unread_differ e) | inr ((_, e), _, _) ↦ cc ];

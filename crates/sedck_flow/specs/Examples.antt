@@ -1,12 +1,13 @@
 -- Worked examples of edges, steps, runs and substitutions.
 use Rattle.std.specs.Prelude.{◌≡◌, ℕ, Bool, true, false, List, [], ◌∷◌, None, codes}
-use Rattle.sedck_bre.specs.Tree.{Tree, Byte, Any, Group, Seq, Repeat, Then, Nil}
-use Rattle.sedck_script.specs.Program.{Previous, Expression, Last, Context, NoAddress, One, Part, Text, Whole, Group as Reference, Substitution, Verb, Label, GetAppend, NextAppend, Delete, DeleteFirstLine, Quit, Substitute, Test, Transliterate, Command, Program}
+use Rattle.sedck_expressions.specs.Tree.{Tree, Byte, Any, Group, Seq, Repeat, Then, Nil}
+use Rattle.sedck_commands.specs.Program.{Previous, Expression, Last, Context, NoAddress, One, Part, Text, Whole, Group as Reference, Substitution, Verb, Label, GetAppend, NextAppend, Delete, DeleteFirstLine, Quit, Substitute, Test, Transliterate, Command, Program}
 use Rattle.sedck_script.specs.ByteSafe.{IsByteSafe}
 use Rattle.sedck_flow.specs.declared.graph.Edge.{Edge}
 use Rattle.sedck_flow.specs.declared.graph.Kind.{Kind}
 use Rattle.sedck_flow.specs.declared.graph.Kind.TheVariants.{Consume, Shorten, Keep, Grow}
 use Rattle.sedck_flow.specs.Flow.{Flow}
+use Rattle.sedck_flow.specs.Patterns.{HasMatch}
 use Rattle.sedck_bre.specs.WideMatch.{WideMatch}
 use Rattle.sedck_flow.specs.Substitutes.{SubstitutesIn, Substitutes}
 use Rattle.sedck_flow.specs.Run.{Files, Machine, At, Done, Silent, StepIn, Step, Run}
@@ -146,6 +147,8 @@ pub record ExamplesHold : Type 0 where
   -- `&` alone keeps the length, and two of them may lengthen
   pub whole_keeps : Flow (replace_once one_x (Whole ∷ [])) (edge 0 false false 1 true false Keep)
   pub whole_twice_grows : Flow (replace_once one_x (Whole ∷ Whole ∷ [])) (edge 0 false false 1 true false Grow)
+  -- a match that selects a line may be anywhere in it
+  pub selects_inside : HasMatch drop_lines_with_x (Expression one_x) (codes "axb")
   -- on the last line `$!N` is skipped, and on another it isn't
   pub last_line : Step append_unless_last (At (machine [] [])) Silent (At (record (machine [] []) { at = 1 }))
   pub not_applied : ¬ Step append_unless_last (At (machine [] [])) Silent Done
