@@ -115,7 +115,8 @@ pub fn program<R: Files + AllocGlobal, W: Sink, E: Sink>(
     ensures never_no { result ≡ 1 → MayBeNo (asked words.now) }
     ensures refused { 1 < result → result < 4 → Keeps (W.taken out.old) (W.taken out.new) }
     ensures failed { result ≡ 4 → Keeps (W.taken out.old) (W.taken out.new) ⊎ BreaksOff unknown (asked words.now) (W.taken out.old) (W.taken out.new) }
-    ensures reported { 1 < result → E.has_failed err.new ≡ false → SaysRefusalFor unknown (asked words.now) (W.has_failed out.new) result (E.taken err.old) (E.taken err.new) }
+    ensures reported { 1 < result → E.has_failed err.new ≡ false
+        → SaysRefusalFor unknown (asked words.now) (W.has_failed out.new) result (E.taken err.old) (E.taken err.new) }
     ensures silent { result < 2 → Keeps (E.taken err.old) (E.taken err.new) }
 {
     program_over(rt.alloc(), &FromFiles::new(rt), words, out, err)
@@ -141,11 +142,14 @@ pub fn program_over<O: Opener, W: Sink, E: Sink>(
     ensures opened { result < 3 → AreOpened (O.known files.now) (asked words.now) }
     // A refusal writes nothing, but where writing fails.
     ensures refused { 1 < result → result < 4 → Keeps (W.taken out.old) (W.taken out.new) }
-    ensures failed { result ≡ 4 → Keeps (W.taken out.old) (W.taken out.new) ⊎ BreaksOff (O.known files.now) (asked words.now) (W.taken out.old) (W.taken out.new) }
+    ensures failed { result ≡ 4 → Keeps (W.taken out.old) (W.taken out.new)
+        ⊎ BreaksOff (O.known files.now) (asked words.now) (W.taken out.old) (W.taken out.new) }
     // A refusal says what is wrong with the bytes of these files, or what has failed.
-    ensures cause { 1 < result → (refusal : Refusal) × (status_of refusal ≡ result) × IsCause (O.known files.now) (asked words.now) (W.has_failed out.new) refusal }
+    ensures cause { 1 < result → (refusal : Refusal) × (status_of refusal ≡ result)
+        × IsCause (O.known files.now) (asked words.now) (W.has_failed out.new) refusal }
     // Its line, unless a write of it has failed.
-    ensures reported { 1 < result → E.has_failed err.new ≡ false → SaysRefusalFor (O.known files.now) (asked words.now) (W.has_failed out.new) result (E.taken err.old) (E.taken err.new) }
+    ensures reported { 1 < result → E.has_failed err.new ≡ false
+        → SaysRefusalFor (O.known files.now) (asked words.now) (W.has_failed out.new) result (E.taken err.old) (E.taken err.new) }
     ensures silent { result < 2 → Keeps (E.taken err.old) (E.taken err.new) }
 {
     match run(alloc, files, words, out) {
@@ -160,7 +164,8 @@ pub fn program_over<O: Opener, W: Sink, E: Sink>(
 pub fn flushed<W: Write + Drop, E: Sink>(status: u8, mut out: W, err: &mut E) -> u8
     ensures kept { 1 < status → result ≡ status }
     ensures within { (result ≡ status) ⊎ (result ≡ 4) }
-    ensures reported { result ≢ status → E.has_failed err.new ≡ false → Appends (E.taken err.old) (E.taken err.new) (refusal_line (Refusal.Run RunFault.Write)) }
+    ensures reported { result ≢ status → E.has_failed err.new ≡ false
+        → Appends (E.taken err.old) (E.taken err.new) (refusal_line (Refusal.Run RunFault.Write)) }
     ensures silent { result ≢ 4 → Keeps (E.taken err.old) (E.taken err.new) }
 {
     if status > 1 {
@@ -179,7 +184,8 @@ fn run<O: Opener, W: Sink>(
     words: &[String],
     out: &mut W,
 ) -> Result<Outcome, Refusal>
-    ensures leaves { Leaves (O.known files.now) (asked words.now) (record { before = W.taken out.old; after = W.taken out.new; failed = W.has_failed out.new }) result }
+    ensures leaves { Leaves (O.known files.now) (asked words.now)
+        (record { before = W.taken out.old; after = W.taken out.new; failed = W.has_failed out.new }) result }
     ensures option { has_option words.now ≡ true → result ≡ Err Refusal.Usage }
     ensures usage { IfErr result (λ refusal. refusal ≡ Refusal.Usage → (has_option words.now ≡ true) ⊎ (asked words.now ≡ Nothing)) }
 {
@@ -201,7 +207,8 @@ fn check<O: Opener, W: Sink>(
     certificate: &str,
     out: &mut W,
 ) -> Result<Outcome, Refusal>
-    ensures leaves { Leaves (O.known files.now) (Check script.now certificate.now) (record { before = W.taken out.old; after = W.taken out.new; failed = W.has_failed out.new }) result }
+    ensures leaves { Leaves (O.known files.now) (Check script.now certificate.now)
+        (record { before = W.taken out.old; after = W.taken out.new; failed = W.has_failed out.new }) result }
     ensures run { IfErr result (λ refusal. refusal ≢ Refusal.Usage) }
 {
     let mut script = open(files, script, Input::Script)?;
@@ -217,7 +224,8 @@ fn report<O: Opener, W: Sink>(
     path: &str,
     out: &mut W,
 ) -> Result<Outcome, Refusal>
-    ensures leaves { Leaves (O.known files.now) (report_asked kind path.now) (record { before = W.taken out.old; after = W.taken out.new; failed = W.has_failed out.new }) result }
+    ensures leaves { Leaves (O.known files.now) (report_asked kind path.now)
+        (record { before = W.taken out.old; after = W.taken out.new; failed = W.has_failed out.new }) result }
     ensures run { IfErr result (λ refusal. refusal ≢ Refusal.Usage) }
 {
     let mut script = open(files, path, Input::Script)?;
@@ -231,7 +239,8 @@ fn upgrade<O: Opener, W: Sink>(
     path: &str,
     out: &mut W,
 ) -> Result<Outcome, Refusal>
-    ensures leaves { Leaves (O.known files.now) (Upgrade path.now) (record { before = W.taken out.old; after = W.taken out.new; failed = W.has_failed out.new }) result }
+    ensures leaves { Leaves (O.known files.now) (Upgrade path.now)
+        (record { before = W.taken out.old; after = W.taken out.new; failed = W.has_failed out.new }) result }
     ensures run { IfErr result (λ refusal. refusal ≢ Refusal.Usage) }
 {
     let mut certificate = open(files, path, Input::Certificate)?;

@@ -137,7 +137,8 @@ pub fn locate<'a>(alloc: Global, text: &'a [u8]) -> Result<Located<'a>, ScriptFa
     ensures spelled { IfOk result (λ located. Spells text.now located.script) }
     ensures only { IfOk result (λ located. (other : Program) → Spells text.now other → other ≡ located.script) }
     ensures count { IfOk result (λ located. length located.locations.items ≡ length located.script.commands) }
-    ensures locations { IfOk result (λ located. (items : List Item) (spelled : Items text.now items) → located.locations.items ≡ locations_of (length text.now) spelled) }
+    ensures locations { IfOk result (λ located. (items : List Item) (spelled : Items text.now items)
+        → located.locations.items ≡ locations_of (length text.now) spelled) }
     ensures order { IfOk result (λ located. AreInOrder 0 (length text.now) located.locations.items) }
     ensures refused { IfErr result (λ fault. IsOfText fault → (other : Program) → Spells text.now other → ⊥) }
     ensures placed { IfErr result (λ fault. IsPlaced text.now fault) }

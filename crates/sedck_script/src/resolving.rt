@@ -118,7 +118,8 @@ pub fn linked<'a>(
     requires end { end ≡ length (commands_among (map item_of items.items)) }
     ensures resolved { IfOk result (λ v. Resolves (map view.command_of v.items) [] 0 (map item_of items.entry.items) (map view.command_of v.items)) }
     ensures lost { IfErr result (λ fault. IsOfText fault → Any (λ item. IsLostLabel labels.now (item_label (item_of item))) items.entry.items) }
-    ensures placed { IfErr result (λ fault. (text : List ℕ) → All (IsItemAt text) items.entry.items → (fault ≡ ScriptFault.OutOfMemory) ⊎ IsUnknownLabel labels.now text fault) }
+    ensures placed { IfErr result (λ fault. (text : List ℕ) → All (IsItemAt text) items.entry.items → (fault ≡ ScriptFault.OutOfMemory)
+        ⊎ IsUnknownLabel labels.now text fault) }
 {
     check_targets(&items, labels)?;
     resolve(alloc, items, end, labels)

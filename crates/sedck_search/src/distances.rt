@@ -110,7 +110,8 @@ fn relax_at(graph: Graph, _to: Node, reached: &NodeSet, index: usize, distances:
     ensures some { ArePathLengths graph.entry.script.now graph.entry.filter _to distances.new }
     ensures shorter { result ≡ true → total distances.new < total distances.old }
     ensures same { result ≡ false → distances.new ≡ distances.old }
-    ensures settled { result ≡ false → (n : Node) → IsIn reached.now n → node_index n ≡ index → IsSettled graph.entry.script.now graph.entry.filter distances.old n }
+    ensures settled { result ≡ false → (n : Node) → IsIn reached.now n → node_index n ≡ index
+        → IsSettled graph.entry.script.now graph.entry.filter distances.old n }
 {
     if !reached.has(index) {
         return false;
@@ -129,8 +130,10 @@ fn relaxed(graph: Graph, node: Node, distances: &[u16]) -> u16
     requires listed { IsTable graph.script.now graph.table.now }
     requires inside { node.at ≤ length graph.script.now.commands }
     requires long { length distances.now ≡ node_count (length graph.script.now.commands) }
-    ensures least { (e : Edge) → FollowedEdge graph.entry.script.now graph.entry.filter e → e.from ≡ node → (after : ℕ) → HasDistance distances.now e.to after → result ≤ suc after }
-    ensures some { result < 65535 → (distance : ℕ) × (result ≡ suc distance) × HasNeighborWithin graph.entry.script.now graph.entry.filter distances.now node distance }
+    ensures least { (e : Edge) → FollowedEdge graph.entry.script.now graph.entry.filter e → e.from ≡ node → (after : ℕ)
+        → HasDistance distances.now e.to after → result ≤ suc after }
+    ensures some { result < 65535 → (distance : ℕ) × (result ≡ suc distance)
+        × HasNeighborWithin graph.entry.script.now graph.entry.filter distances.now node distance }
 {
     let mut least = NONE;
     for edge in edges_of(graph, node) {
