@@ -5,7 +5,7 @@ use Rattle.std.specs.List.{AllByRecursion}
 use Rattle.std.proofs.lemmas.List.Elements.{All-from_recursion, All-contains, Contains-append_cases, Contains-append_right}
 use Rattle.sedck_script.proofs.SortedNames.{Contains-cons_cases}
 use Rattle.std.proofs.lemmas.Option.{slice_get_within}
-use Rattle.sedck_script.specs.Program.{Command, Program}
+use Rattle.sedck_commands.specs.Program.{Command, Program}
 use Rattle.sedck_flow.specs.Nodes.{start, node_index, node_count}
 use Rattle.sedck_flow.specs.Flow.{ReadsLine, CommandEdge, Flow, FlowFrom, IsEarlier, AreInOrder, ListsEdges}
 use Rattle.sedck_flow.specs.declared.graph.Node.{Node}

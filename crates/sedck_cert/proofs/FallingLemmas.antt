@@ -5,7 +5,7 @@ use Rattle.std.proofs.lemmas.List.Elements.{All-from_recursion, All-contains, Co
 use Rattle.std.specs.List.{AllByRecursion}
 use Rattle.sedck_script.proofs.SortedNames.{all_append}
 use Rattle.sedck_script.specs.Invariant.{AreWellFormed}
-use Rattle.sedck_script.specs.Program.{Program}
+use Rattle.sedck_commands.specs.Program.{Program}
 use Rattle.sedck_flow.specs.Flow.{ListsEdges}
 use Rattle.sedck_flow.specs.declared.graph.Edge.{Edge}
 use Rattle.sedck_flow.specs.WideRun.{WideRun}

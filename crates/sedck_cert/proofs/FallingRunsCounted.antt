@@ -1,7 +1,7 @@
 -- The steps of a falling script: each line that is read allows one more step than the greatest first rank.
 use Rattle.std.proofs.Common.{◌≡◌, ◌≢◌, ℕ, suc, ◌+◌, ◌*◌, ◌<◌, ◌≤◌, List, [], ◌∷◌, length, ap, ◌∙◌, inl, inr, arith}
 use Rattle.sedck_script.specs.Invariant.{AreWellFormed}
-use Rattle.sedck_script.specs.Program.{Program}
+use Rattle.sedck_commands.specs.Program.{Program}
 use Rattle.sedck_flow.specs.Run.{Files, Machine, State, Start, At, Done, Event, StepIn, StepsIn, Run}
 use Rattle.sedck_flow.specs.WideRun.{any_locale, all_lines}
 use Rattle.sedck_text.specs.Bytes.{newline}

@@ -11,7 +11,7 @@ use Rattle.std.proofs.lemmas.Map.Views.{btree_set_contains_iff}
 use Rattle.sedck_script.specs.Names.{AreIncreasing, read_names, write_names, sorted_names, reads, writes}
 use Rattle.std.specs.Prelude.{Some, slice_get, flat_map}
 use Rattle.std.proofs.lemmas.List.Elements.{Contains-append_left, Contains-append_right, Contains-append_cases}
-use Rattle.sedck_script.specs.Program.{Verb, Command, Program}
+use Rattle.sedck_commands.specs.Program.{Verb, Command, Program}
 use Rattle.sedck_script.proofs.SortedNames.{sorted_names-rise, sorted_names-same}
 use Rattle.sedck_flow.specs.Run.{NamesForReading, NamesForWriting}
 use Rattle.sedck_cert.specs.Ranked.{ListsNames}

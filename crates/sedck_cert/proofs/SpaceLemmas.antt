@@ -2,7 +2,7 @@
 use Rattle.std.proofs.Common.{◌≡◌, ℕ, ◌<◌, ◌≤◌, inl, inr, refl}
 use Rattle.std.specs.Prelude.{false, Option, Some, is_some, MatchOption, slice_get}
 use Rattle.std.proofs.lemmas.Bool.{cases_lt}
-use Rattle.sedck_script.specs.Program.{Command, Program, HoldAppend}
+use Rattle.sedck_commands.specs.Program.{Command, Program, HoldAppend}
 use Rattle.sedck_flow.specs.Flow.{Flow}
 use Rattle.sedck_flow.specs.declared.graph.Edge.{Edge}
 use Rattle.sedck_cert.specs.Certificate.{Certificate}

@@ -1,7 +1,7 @@
 -- The spaces of a compact script: the pattern space and what is left to read are never longer than the input, and the hold space only takes the pattern space.
 use Rattle.std.proofs.Common.{◌≡◌, ◌≢◌, ℕ, suc, ◌+◌, ◌≤◌, List, [], ◌∷◌, length, refl, sym, ap, ◌∙◌, inl, inr, arith}
 use Rattle.sedck_script.specs.Invariant.{AreWellFormed}
-use Rattle.sedck_script.specs.Program.{Program}
+use Rattle.sedck_commands.specs.Program.{Program}
 use Rattle.sedck_flow.specs.Run.{Files, Machine, State, Start, At, Done, Event, StepIn, StepsIn, Run, state_after}
 use Rattle.sedck_flow.specs.WideRun.{any_locale, WideRun, all_lines}
 use Rattle.sedck_flow.proofs.CharacterRuns.{character_run_wide}

@@ -3,7 +3,7 @@ use Rattle.std.proofs.Common.{◌≡◌, ℕ, zero, suc, ◌+◌, ◌*◌, ◌<�
 use Rattle.std.specs.Prelude.{Option, Some, None, MatchOption, slice_get, if◌then◌else◌}
 use Rattle.std.specs.Option.{option_flatten}
 use Rattle.std.proofs.lemmas.Bool.{false≢true}
-use Rattle.sedck_script.specs.Program.{Address, Substitution, Verb, Substitute, Command, Program}
+use Rattle.sedck_commands.specs.Program.{Address, Substitution, Verb, Substitute, Command, Program}
 use Rattle.sedck_flow.specs.Nodes.{start, node_index}
 use Rattle.sedck_flow.specs.Flow.{HasKind}
 use Rattle.sedck_flow.specs.LiteralKinds.{is_literal, HasLiteralKind}

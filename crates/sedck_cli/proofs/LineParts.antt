@@ -1,8 +1,8 @@
 -- The words of a fault, in the parts in which they are written.
 use Rattle.std.proofs.Common.{refl, ◌≡◌, ℕ, List, ◌++◌, Option, Some, None, codes, decimal, append_assoc, ap, ◌∙◌}
-use Rattle.sedck_bre.specs.FaultWords.{place_words, fault_words as expression_fault_words, fault_number as expression_fault_number, fault_name as expression_fault_name, fault_place as expression_fault_place}
+use Rattle.sedck_expressions.specs.FaultWords.{place_words, fault_words as expression_fault_words, fault_number as expression_fault_number, fault_name as expression_fault_name, fault_place as expression_fault_place}
 use Rattle.sedck_expressions.specs.declared.fault.ReFault.{ReFault}
-use Rattle.sedck_script.specs.FaultWords.{fault_words, fault_number, fault_name, fault_place, cause_words}
+use Rattle.sedck_commands.specs.FaultWords.{fault_words, fault_number, fault_name, fault_place, cause_words}
 use Rattle.sedck_commands.specs.declared.fault.ScriptFault.{ScriptFault}
 use Rattle.sedck_cert.specs.FaultText.{fault_text, number_of, name_of, place_text}
 use Rattle.sedck_cert.specs.Faults.{line_of}

@@ -1,6 +1,6 @@
 -- Why the program refuses, by what is known of its files, this project's own.
 use Rattle.std.specs.Prelude.{ℕ, Bool, true, false, IsTrue, List, Option, Some, None, IfSome, ◌⊎◌}
-use Rattle.sedck_script.specs.Program.{Program}
+use Rattle.sedck_commands.specs.Program.{Program}
 use Rattle.sedck_script.specs.Spelling.{Spells}
 use Rattle.sedck_engines.specs.Opened.{Known}
 use Rattle.sedck_engines.specs.Engines.{OfBytes, IsRefusedScript, IsRefusedCertificate}

@@ -1,7 +1,7 @@
 -- What a refusal says, this project's own.
 use Rattle.std.specs.Prelude.{◌≡◌, ℕ, Bool, List, ◌++◌, Option, codes}
 use Rattle.std.specs.Io.KnownBytes.{Appends}
-use Rattle.sedck_script.specs.FaultWords.{fault_words}
+use Rattle.sedck_commands.specs.FaultWords.{fault_words}
 use Rattle.sedck_cert.specs.FaultText.{fault_text}
 use Rattle.sedck_cert.specs.Text.{line}
 use Rattle.sedck_engines.specs.declared.answer.RunFault.TheVariants as fault

@@ -2,7 +2,7 @@
 
 ghost use Rattle.std.specs.Prelude.{◌++◌, OnOk, decimal, codes};
 ghost use Rattle.std.specs.Io.KnownBytes.{Appends};
-ghost use Rattle.sedck_script.specs.FaultWords.{fault_words, cause_words};
+ghost use Rattle.sedck_commands.specs.FaultWords.{fault_words, cause_words};
 ghost use Rattle.sedck_cert.specs.FaultText.{fault_text};
 ghost use Rattle.sedck_cert.specs.Streams.{ReportsFailure};
 ghost use Rattle.sedck_cli.specs.Lines.{refusal_words, refusal_line};

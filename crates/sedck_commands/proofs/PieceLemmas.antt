@@ -6,8 +6,8 @@ use Rattle.sedck_commands.specs.Parts as p
 use Rattle.sedck_commands.specs.declared.delimited.Piece.{Piece}
 use Rattle.sedck_commands.specs.declared.delimited.Piece.TheVariants as piece
 use Rattle.std.proofs.lemmas.Bool.Decides.{nat_tests}
-use Rattle.sedck_bre.specs.Tree.{Tree}
-use Rattle.sedck_bre.specs.Shape.{SpellsTree}
+use Rattle.sedck_expressions.specs.Tree.{Tree}
+use Rattle.sedck_expressions.specs.Shape.{SpellsTree}
 use Rattle.sedck_commands.specs.Narrowings.{Matched}
 use Rattle.sedck_commands.specs.ReadAlike.{read_alike}
 use Rattle.sedck_commands.specs.Program.{Pattern, Previous, Expression}

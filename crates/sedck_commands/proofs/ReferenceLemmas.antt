@@ -11,7 +11,7 @@ use Rattle.std.proofs.lemmas.Bool.{false≢true, or_parts, and_parts, not-true}
 use Rattle.std.proofs.lemmas.Bool.Decides.{nat_tests, eqb_tells}
 use Rattle.std.proofs.lemmas.Nat.Bits.{bit_at_or, bit_at-pow_same, bit_at-pow_other, bit_at-zero}
 use Rattle.sedck_text.specs.Text.{is_in}
-use Rattle.sedck_bre.specs.Tree.{Tree}
+use Rattle.sedck_expressions.specs.Tree.{Tree}
 use Rattle.sedck_bre.specs.Match.{Groups}
 use Rattle.sedck_bre.specs.Lengths.{IsLeastSize}
 use Rattle.sedck_bre.specs.Rests.{names, named, is_top_group, NamesTopGroups, texts_length, HasRest}

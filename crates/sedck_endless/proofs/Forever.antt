@@ -1,6 +1,6 @@
 -- A run that comes back to a state goes on for ever.
 use Rattle.std.proofs.Common.{◌≡◌, ℕ, zero, suc, ◌<◌, ◌≤◌, List, [], ◌∷◌, ◌++◌, length, sym, subst, arith, length-append}
-use Rattle.sedck_script.specs.Program.{Program}
+use Rattle.sedck_commands.specs.Program.{Program}
 use Rattle.sedck_flow.specs.Run.{State, Start, Event, Steps, state_after}
 use Rattle.sedck_endless.specs.Endless.{ComesBack, NeverEnds}
 

@@ -3,16 +3,16 @@ use Rattle.std.proofs.Common.{◌≡◌, ◌≢◌, ◌<◌, ◌≤◌, ◌+◌,
 use Rattle.std.specs.Prelude.{Some, unwrap_or}
 use Rattle.std.proofs.lemmas.Bool.{true≢false}
 use Rattle.std.proofs.lemmas.Grind.{common_steps}
-use Rattle.sedck_bre.specs.Faults.{IsOfText}
-use Rattle.sedck_bre.specs.Faults as expressions
-use Rattle.sedck_bre.specs.FaultWords as words
+use Rattle.sedck_expressions.specs.Faults.{IsOfText}
+use Rattle.sedck_expressions.specs.Faults as expressions
+use Rattle.sedck_expressions.specs.FaultWords as words
 use Rattle.sedck_expressions.specs.declared.fault.ReFault.{ReFault}
 use Rattle.sedck_expressions.specs.declared.fault.ReFault.TheVariants as cause
-use Rattle.sedck_script.specs.Cuts.{backslash}
-use Rattle.sedck_script.specs.Faults.{StandsAt, IsPlaced, IsNoExpression, IsMisjudged, IsRefusedExpression}
+use Rattle.sedck_commands.specs.Cuts.{backslash}
+use Rattle.sedck_commands.specs.Faults.{StandsAt, IsPlaced, IsNoExpression, IsMisjudged, IsRefusedExpression}
 use Rattle.sedck_commands.specs.declared.fault.ScriptFault.{ScriptFault}
 use Rattle.sedck_commands.specs.declared.fault.ScriptFault.TheVariants.{BadExpression}
-use Rattle.sedck_script.specs.Parts.{DelimitedExpression}
+use Rattle.sedck_commands.specs.Parts.{DelimitedExpression}
 use Rattle.sedck_commands.specs.Parts.DelimitedExpression.{ends, byte, escaped, pair}
 use Rattle.sedck_errors.specs.Errors.{bytes_before, IsFaultOffset}
 use Rattle.sedck_errors.specs.Private.Errors.{is_escaped, is_pair}

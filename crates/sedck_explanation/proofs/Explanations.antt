@@ -1,9 +1,9 @@
 -- From an answer to its explanation.
 use Rattle.std.proofs.Common.{◌≡◌, ◌∙◌, ℕ, List, Option, Some, None, Result, Ok, Err, IfOk, length, map, sym, ap, subst}
-use Rattle.sedck_script.specs.Program.{Program}
+use Rattle.sedck_commands.specs.Program.{Program}
 use Rattle.sedck_script.specs.Names.{reads, writes}
-use Rattle.sedck_script.specs.Items.{Item, Items}
-use Rattle.sedck_script.specs.Locations.{locations_of}
+use Rattle.sedck_commands.specs.Items.{Item, Items}
+use Rattle.sedck_commands.specs.Locations.{locations_of}
 use Rattle.sedck_commands.specs.declared.location.Location.{Location}
 use Rattle.sedck_flow.specs.Run.{NamesForReading, NamesForWriting}
 use Rattle.sedck_cert.specs.Certificate.{Certificate}

@@ -2,7 +2,7 @@
 use Rattle.std.proofs.Common.{◌≡◌, ℕ, zero, suc, ◌==◌, Bool, false, List, [], ◌∷◌, ◌++◌, refl, ap, sym, ◌∙◌, arith, append-nil}
 use Rattle.std.specs.List.{list_any}
 use Rattle.std.proofs.lemmas.Bool.{false≢true}
-use Rattle.sedck_bre.specs.Tree.{Byte}
+use Rattle.sedck_expressions.specs.Tree.{Byte}
 use Rattle.sedck_bre.specs.Match.{Groups, no_groups, Times}
 use Rattle.sedck_bre.specs.WideMatch.{WideMatch}
 use Rattle.sedck_flow.specs.Characters.{CharacterMatch}

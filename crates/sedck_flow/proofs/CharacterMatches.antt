@@ -3,7 +3,7 @@ use Rattle.std.proofs.Common.{◌≡◌, ◌≢◌, inl, inr, ℕ, zero, suc, �
 use Rattle.std.specs.Prelude.{◌||◌, ◌&&◌, MatchBool, if◌then◌else◌}
 use Rattle.std.proofs.lemmas.Bool.{false≢true, and_from}
 use Rattle.std.proofs.lemmas.Bool.Decides.{nat_tests}
-use Rattle.sedck_bre.specs.Tree.{Tree, Trees, Byte, Any, Set, Group, Seq, Repeat, Nil, Then}
+use Rattle.sedck_expressions.specs.Tree.{Tree, Trees, Byte, Any, Set, Group, Seq, Repeat, Nil, Then}
 use Rattle.sedck_bre.specs.Match.{Groups, Times}
 use Rattle.sedck_bre.specs.WideMatch.{WideMatch, WideMatchAll}
 use Rattle.sedck_script.specs.ByteSafe.{is_high, goes_on, bytes_due, splits_character, one_splits}

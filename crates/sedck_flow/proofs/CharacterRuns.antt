@@ -6,9 +6,9 @@ use Rattle.std.proofs.lemmas.List.Concat.{flat_map-append}
 use Rattle.std.proofs.lemmas.List.Elements.{All-head, All-tail}
 use Rattle.std.proofs.lemmas.List.Folds.{list_any-append}
 use Rattle.std.proofs.lemmas.Option.{none-some, same_Some, slice_get-map, slice_get_within, get_or_from_slice_get}
-use Rattle.sedck_bre.specs.Tree.{Tree}
+use Rattle.sedck_expressions.specs.Tree.{Tree}
 use Rattle.sedck_bre.specs.Match.{no_groups}
-use Rattle.sedck_script.specs.Program.{Pattern, Previous, Expression, Verb, Substitute, Transliterate, Command, Program, pattern_expressions, address_patterns, verb_patterns, patterns, expressions}
+use Rattle.sedck_commands.specs.Program.{Pattern, Previous, Expression, Verb, Substitute, Transliterate, Command, Program, pattern_expressions, address_patterns, verb_patterns, patterns, expressions}
 use Rattle.sedck_script.proofs.SortedNames.{Contains-cons_cases}
 use Rattle.sedck_script.specs.ByteSafe.{is_high, splits_character, replaces_byte, command_expressions, depends_on_characters, IsByteSafe}
 use Rattle.sedck_flow.specs.Patterns.{StandsFor}

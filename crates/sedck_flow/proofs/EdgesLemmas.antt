@@ -5,11 +5,11 @@ use Rattle.std.proofs.lemmas.Option.{get_or_from_slice_get, slice_get-map, slice
 use Rattle.std.proofs.lemmas.List.{length-map}
 use Rattle.std.proofs.lemmas.List.Elements.{All-contains}
 use Rattle.sedck_script.specs.Invariant.{IsTargetWithin, IsReplacement, AreWellFormed, IsScript}
-use Rattle.sedck_script.specs.Program.{Pattern, Previous, Expression, Verb, Branch, Test, Block, Substitute, Command, Program, expressions}
+use Rattle.sedck_commands.specs.Program.{Pattern, Previous, Expression, Verb, Branch, Test, Block, Substitute, Command, Program, expressions}
 use Rattle.sedck_script.specs.View.{command_of}
 use Rattle.sedck_script.specs.declared.script.Command.{Command as Coded}
-use Rattle.sedck_bre.specs.Tree.{Tree}
-use Rattle.sedck_bre.specs.WellFormed.{IsWellFormed}
+use Rattle.sedck_expressions.specs.Tree.{Tree}
+use Rattle.sedck_expressions.specs.WellFormed.{IsWellFormed}
 use Rattle.sedck_flow.specs.Patterns.{StandsFor}
 use Rattle.sedck_flow.specs.Private.Least.{IsFormed, HasFormed}
 use Rattle.sedck_flow.specs.Nodes.{start}

@@ -3,8 +3,8 @@ use Rattle.std.proofs.Common.{◌≡◌, ◌⊎◌, ◌↔◌, IsTrue, List, [],
 use Rattle.std.proofs.lemmas.Bool.{false≢true}
 use Rattle.sedck_bre.specs.Match.{Groups}
 use Rattle.sedck_bre.specs.Rests.{texts_length}
-use Rattle.sedck_script.specs.Program.{Part, Whole, Group, Substitution, Program}
-use Rattle.sedck_script.specs.References.{HasNoWhole, named_groups, AreDistinct, AreTopGroups, KeepsGroups}
+use Rattle.sedck_commands.specs.Program.{Part, Whole, Group, Substitution, Program}
+use Rattle.sedck_commands.specs.References.{HasNoWhole, named_groups, AreDistinct, AreTopGroups, KeepsGroups}
 use Rattle.sedck_flow.specs.Flow.{IsWholeAlone, Shortens, NeverLengthens, HasKind}
 use Rattle.sedck_flow.specs.LiteralKinds.{is_literal, LiteralShortens, LiteralNeverLengthens, HasLiteralKind}
 use Rattle.sedck_flow.proofs.VerbLemmas.{one_kind}

@@ -2,13 +2,13 @@
 use Rattle.std.proofs.Common.{◌≡◌, ◌⊎◌, ℕ, ◌+◌, Bool, IsTrue, List, [], ◌∷◌, length, refl, ◌∙◌, inl, inr, arith, length-append}
 use Rattle.std.specs.Prelude.{◌≢◌}
 use Rattle.std.proofs.lemmas.Bool.{cases_eq}
-use Rattle.sedck_bre.specs.Tree.{Tree}
+use Rattle.sedck_expressions.specs.Tree.{Tree}
 use Rattle.sedck_bre.specs.Match.{text_of}
 use Rattle.sedck_bre.specs.Rests.{is_top_group, texts_length}
 use Rattle.sedck_bre.proofs.DifferentGroups.{AreDifferentTopGroups}
 use Rattle.sedck_commands.proofs.ReferenceLemmas.{not_in}
-use Rattle.sedck_script.specs.References.{HasNoWhole, named_groups, IsNotIn, AreDistinct, AreTopGroups, KeepsGroups}
-use Rattle.sedck_script.specs.Program.{Pattern, Previous, Expression, Part, Text, Whole, Group, literal_length}
+use Rattle.sedck_commands.specs.References.{HasNoWhole, named_groups, IsNotIn, AreDistinct, AreTopGroups, KeepsGroups}
+use Rattle.sedck_commands.specs.Program.{Pattern, Previous, Expression, Part, Text, Whole, Group, literal_length}
 use Rattle.sedck_flow.specs.Flow.{IsWholeAlone}
 use Rattle.sedck_flow.specs.Substitutes.{Occurrence, replacement}
 

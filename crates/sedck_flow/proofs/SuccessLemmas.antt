@@ -3,14 +3,14 @@ use Rattle.std.proofs.Common.{◌≡◌, ℕ, ◌<◌, length, refl, sym, ap, su
 use Rattle.std.proofs.Math.Logic.{∥∥₁_elim}
 use Rattle.std.proofs.Math.Bridge.{le_prop}
 use Rattle.std.specs.Prelude.{Option, Some, None}
-use Rattle.sedck_bre.specs.Tree.{Tree}
+use Rattle.sedck_expressions.specs.Tree.{Tree}
 use Rattle.sedck_bre.specs.Match.{Groups, no_groups, Match}
 use Rattle.sedck_bre.specs.Lengths.{IsLeastSize}
 use Rattle.sedck_bre.specs.Rests.{texts_length, HasRest, IsLeastRest}
-use Rattle.sedck_bre.specs.WellFormed.{IsWellFormed}
+use Rattle.sedck_expressions.specs.WellFormed.{IsWellFormed}
 use Rattle.sedck_bre.proofs.DifferentGroups.{least_rest_of}
-use Rattle.sedck_script.specs.Program.{Pattern, Previous, Expression, Substitution, Program, expressions}
-use Rattle.sedck_script.specs.References.{named_groups, AreTopGroups, KeepsGroups, IsLeastOutside, IsOutside}
+use Rattle.sedck_commands.specs.Program.{Pattern, Previous, Expression, Substitution, Program, expressions}
+use Rattle.sedck_commands.specs.References.{named_groups, AreTopGroups, KeepsGroups, IsLeastOutside, IsOutside}
 use Rattle.sedck_script.specs.Shortest.{SomeHasLength}
 use Rattle.sedck_flow.specs.Patterns.{StandsFor}
 use Rattle.sedck_flow.specs.Flow.{AreRestsAbove, AreRestsAtLeast}

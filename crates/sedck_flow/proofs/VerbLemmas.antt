@@ -1,7 +1,7 @@
 -- The edges that are found for a verb are those that it has.
 use Rattle.std.proofs.Common.{◌≡◌, ◌⊎◌, ◌↔◌, ℕ, ◌<◌, Bool, true, false, List, refl, sym, subst, inl, inr, arith}
 use Rattle.std.proofs.lemmas.Bool.{cases_order}
-use Rattle.sedck_script.specs.Program.{Address, DeleteFirstLine, Next, Substitution, Substitute, Program}
+use Rattle.sedck_commands.specs.Program.{Address, DeleteFirstLine, Next, Substitution, Substitute, Program}
 use Rattle.sedck_script.specs.View.{verb_of}
 use Rattle.sedck_commands.specs.declared.types.Substitution.{Substitution as CodedSubstitution}
 use Rattle.sedck_commands.specs.declared.types.Verb.{Verb as Coded}

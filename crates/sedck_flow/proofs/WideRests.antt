@@ -2,14 +2,14 @@
 use Rattle.std.proofs.Common.{ℕ, ◌+◌, ◌≤◌, List, length, Contains, sym, subst, arith}
 use Rattle.std.proofs.lemmas.List.Elements.{All-contains}
 use Rattle.sedck_bre.proofs.DifferentGroups.{AreDifferentTopGroups, wide_rest_of}
-use Rattle.sedck_bre.specs.WellFormed.{IsWellFormed}
+use Rattle.sedck_expressions.specs.WellFormed.{IsWellFormed}
 use Rattle.sedck_bre.specs.Rests.{texts_length}
-use Rattle.sedck_bre.specs.Tree.{Tree}
+use Rattle.sedck_expressions.specs.Tree.{Tree}
 use Rattle.sedck_bre.specs.Match.{Groups, no_groups}
 use Rattle.sedck_bre.specs.WideMatch.{WideMatch}
 use Rattle.sedck_script.specs.Invariant.{AreWellFormed}
-use Rattle.sedck_script.specs.Program.{Pattern, Previous, Expression, Substitution, Program, expressions}
-use Rattle.sedck_script.specs.References.{named_groups, AreDistinct, AreTopGroups, KeepsGroups}
+use Rattle.sedck_commands.specs.Program.{Pattern, Previous, Expression, Substitution, Program, expressions}
+use Rattle.sedck_commands.specs.References.{named_groups, AreDistinct, AreTopGroups, KeepsGroups}
 use Rattle.sedck_flow.specs.Patterns.{StandsFor}
 use Rattle.sedck_flow.specs.Flow.{AreRestsAtLeast}
 use Rattle.sedck_flow.proofs.References.{different_groups, no_groups_of_previous}

@@ -2,10 +2,10 @@
 use Rattle.std.proofs.Common.{◌≡◌, ◌⊎◌, ℕ, Bool, true, false, List, [], ◌∷◌, ◌++◌, refl, inl, inr}
 use Rattle.std.specs.Prelude.{Option, Some, None, MatchOption, MatchBool, slice_get}
 use Rattle.sedck_text.specs.Bytes.{newline}
-use Rattle.sedck_bre.specs.Tree.{Tree}
+use Rattle.sedck_expressions.specs.Tree.{Tree}
 use Rattle.sedck_bre.specs.Match.{Groups, no_groups}
 use Rattle.sedck_bre.proofs.MatchIsWide.{widens}
-use Rattle.sedck_script.specs.Program.{Pattern, Context, Address, One, Substitution, Verb, Substitute, Transliterate, Command, Program}
+use Rattle.sedck_commands.specs.Program.{Pattern, Context, Address, One, Substitution, Verb, Substitute, Transliterate, Command, Program}
 use Rattle.sedck_flow.specs.Patterns.{StandsFor}
 use Rattle.sedck_flow.specs.Substitutes.{Occurrence, AreMatchesIn, SubstitutesIn}
 use Rattle.sedck_flow.specs.Run.{Locale, Machine, State, Start, At, Done, Event, IsPartner, MayBecome, Transliterates, Does, MaySelect, MayNotSelect, StepPast, StepAt, StepIn, StepsIn, state_after, posix}

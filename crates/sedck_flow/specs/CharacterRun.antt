@@ -1,6 +1,6 @@
 -- The runs of a script in a locale of UTF-8: those where matches are by characters, and `y` replaces characters (XCU sed, "y").
 use Rattle.std.specs.Prelude.{◌≡◌, ◌⊎◌, ℕ, if◌then◌else◌, List, [], ◌∷◌, ◌++◌, All, flat_map, slice_get, Some}
-use Rattle.sedck_script.specs.Program.{Program}
+use Rattle.sedck_commands.specs.Program.{Program}
 use Rattle.sedck_flow.specs.Run.{Locale, Files, State, Start, Event, StepsIn}
 use Rattle.sedck_flow.specs.Characters.{is_character, IsOne, CharacterMatch}
 

@@ -1,7 +1,7 @@
 -- What an expression matches by characters of UTF-8, where a byte above 127 is a part of a character (XBD 6.1, 7.3.1, 9.2; RFC 3629, section 3), as
 -- GNU sed, BusyBox and others match in such a locale.
 use Rattle.std.specs.Prelude.{◌≡◌, ◌⊎◌, ℕ, ◌&&◌, Bool, false, IsTrue, MatchBool, List, [], ◌∷◌, ◌++◌, length, nat_lt}
-use Rattle.sedck_bre.specs.Tree.{Tree, Trees, Byte, Any, Set, Group, Seq, Repeat, Nil, Then}
+use Rattle.sedck_expressions.specs.Tree.{Tree, Trees, Byte, Any, Set, Group, Seq, Repeat, Nil, Then}
 use Rattle.sedck_bre.specs.Match.{Groups, with_text, unset, IsWithin, Times, Match}
 
 -- ---- Characters

@@ -1,7 +1,7 @@
 -- The kinds of substitutions by literal parts alone: where a part stands for the match or a group, the kind is Grow. This project's own.
 -- Certificates were first judged by these; the law `kinds_agree` compares them with the kinds of the flow graph.
 use Rattle.std.specs.Prelude.{ℕ, ◌<◌, ◌≤◌, Bool, true, false, ◌&&◌, IsTrue, List, [], ◌∷◌, length}
-use Rattle.sedck_script.specs.Program.{Part, Whole, Group, Substitution, Program, literal_length}
+use Rattle.sedck_commands.specs.Program.{Part, Whole, Group, Substitution, Program, literal_length}
 use Rattle.sedck_flow.specs.Patterns.{PatternLanguage}
 use Rattle.sedck_flow.specs.declared.graph.Kind.{Kind}
 use Rattle.sedck_flow.specs.declared.graph.Kind.TheVariants.{Consume, Shorten, Keep, Grow}

@@ -2,7 +2,7 @@
 -- the last line. Only what is said of such certificates cites it. Which kind a successful substitution has is left open here, since that changed
 -- while such certificates were made: by literal parts alone at first (`HasLiteralKind`), and with references later (`HasKind`).
 use Rattle.std.specs.Prelude.{◌≡◌, ◌⊎◌, ℕ, suc, ◌+◌, ◌*◌, Bool, true, false, if◌then◌else◌, IsTrue, length, MatchOption, slice_get}
-use Rattle.sedck_script.specs.Program.{Address, Two, Substitution, Verb, Block, Branch, Change, Delete, DeleteFirstLine, Exchange, Get, GetAppend, Next, NextAppend, Quit, Substitute, Test, Command, Program}
+use Rattle.sedck_commands.specs.Program.{Address, Two, Substitution, Verb, Block, Branch, Change, Delete, DeleteFirstLine, Exchange, Get, GetAppend, Next, NextAppend, Quit, Substitute, Test, Command, Program}
 use Rattle.sedck_flow.specs.Run.{is_conditional, KeptOrReset}
 use Rattle.sedck_flow.specs.declared.graph.Node.{Node}
 use Rattle.sedck_flow.specs.declared.graph.Edge.{Edge}

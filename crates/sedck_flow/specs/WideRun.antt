@@ -2,7 +2,7 @@
 -- is here, and in no other point.
 use Rattle.std.specs.Prelude.{◌≡◌, ◌⊎◌, ℕ, List, [], ◌∷◌, ◌++◌}
 use Rattle.sedck_bre.specs.WideMatch.{WideMatch}
-use Rattle.sedck_script.specs.Program.{Program}
+use Rattle.sedck_commands.specs.Program.{Program}
 use Rattle.sedck_flow.specs.Run.{Locale, Files, State, Start, Event, IsPartner, StepsIn}
 
 -- a byte that `y` lists may also stay, being a part of a character that isn't listed

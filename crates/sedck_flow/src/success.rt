@@ -1,8 +1,8 @@
 //! The kind of the edge along which a command substitutes.
 
 ghost use Rattle.std.specs.Prelude.{◌≡◌, ◌↔◌, ◌≤◌, IsTrue, MatchOption, map};
-ghost use Rattle.sedck_script.specs.Program.{literal_length};
-ghost use Rattle.sedck_script.specs.References.{KeepsGroups};
+ghost use Rattle.sedck_commands.specs.Program.{literal_length};
+ghost use Rattle.sedck_commands.specs.References.{KeepsGroups};
 ghost use Rattle.sedck_script.specs.View.{part_of, substitution_of};
 ghost use Rattle.sedck_flow.specs.Flow.{IsWholeAlone, HasKind};
 ghost use Rattle.sedck_flow.specs.Private.Least.{IsFormed, IsLeastOfRests};

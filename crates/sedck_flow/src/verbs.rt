@@ -1,7 +1,7 @@
 //! The edges of a command that is applied, by its verb.
 
 ghost use Rattle.std.specs.Prelude.{◌≡◌, ℕ, ◌+◌, ◌<◌, ◌≤◌, false, if◌then◌else◌, List, length};
-ghost use Rattle.sedck_script.specs.Program as plain;
+ghost use Rattle.sedck_commands.specs.Program as plain;
 ghost use Rattle.sedck_script.specs.Invariant.{IsTargetWithin, IsReplacement};
 ghost use Rattle.sedck_script.specs.View.{address_of, verb_of};
 ghost use Rattle.sedck_flow.specs.Flow.{VerbEdge};

@@ -1,7 +1,7 @@
 -- From a report in the format `sed` to what is written of it.
 use Rattle.std.proofs.Common.{◌≡◌, ◌≢◌, ℕ, List, Option, Some, None, IfSome, sym, subst}
 use Rattle.std.specs.Io.KnownBytes.{Keeps, Appends}
-use Rattle.sedck_script.specs.Program.{Program}
+use Rattle.sedck_commands.specs.Program.{Program}
 use Rattle.sedck_script.specs.Spelling.{Spells}
 use Rattle.sedck_plain.specs.WrittenLists.{HaveSameLists}
 use Rattle.sedck_answer.specs.declared.explanation.Explanation.{Explanation}

@@ -4,7 +4,7 @@ use Rattle.std.proofs.lemmas.List.{take_more, map-append}
 use Rattle.std.proofs.lemmas.List.Elements.{Contains-get_or}
 use Rattle.std.specs.Borrow.{Bor}
 use Rattle.sedck_script.proofs.SortedNames.{Contains-cons_cases, Contains-cons_more}
-use Rattle.sedck_bre.specs.View.{tree}
+use Rattle.sedck_expressions.specs.View.{tree}
 use Rattle.sedck_expressions.specs.declared.tree.Bre.{Bre}
 use Rattle.sedck_model.specs.Private.Candidates.{trees_in}
 

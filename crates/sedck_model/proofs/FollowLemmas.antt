@@ -2,9 +2,9 @@
 use Rattle.std.proofs.Common.{◌≡◌, ℕ, ◌+◌, ◌-◌, ◌≤◌, List, [], ◌∷◌, length, drop, Some, None, Vec, Global, Result, ◌⊎◌, inl, inr, refl, sym, ap, ◌∙◌, subst, arith}
 use Rattle.std.specs.Prelude.{◌↔◌, Contains, IfOk}
 use Rattle.std.proofs.lemmas.Result.{IfOk-weaker}
-use Rattle.sedck_bre.specs.Tree.{Tree, Trees, Group, Seq, Repeat, Then}
+use Rattle.sedck_expressions.specs.Tree.{Tree, Trees, Group, Seq, Repeat, Then}
 use Rattle.sedck_bre.specs.Match.{unset}
-use Rattle.sedck_bre.specs.View.{tree}
+use Rattle.sedck_expressions.specs.View.{tree}
 use Rattle.sedck_expressions.specs.declared.tree.Bre.{Bre}
 use Rattle.sedck_model.specs.declared.spending.Undecided.{Undecided}
 use Rattle.sedck_model.specs.declared.spots.Spot.{Spot}

@@ -5,7 +5,7 @@ use Rattle.std.specs.List.{list_any}
 use Rattle.std.proofs.Math.Path.{fun_ext}
 use Rattle.std.proofs.lemmas.Bool.Decides.{eqb_tells}
 use Rattle.std.proofs.lemmas.List.{take_at, get_or-set_same, get_or-set_other}
-use Rattle.sedck_bre.specs.Tree.{Tree, groups_in, is_in}
+use Rattle.sedck_expressions.specs.Tree.{Tree, groups_in, is_in}
 use Rattle.sedck_bre.specs.Match.{unset, with_text}
 use Rattle.sedck_model.specs.declared.spots.Span.{Span}
 use Rattle.sedck_model.specs.declared.spots.Spot.{Spot}

@@ -2,7 +2,7 @@
 use Rattle.std.proofs.Common.{◌≡◌, ℕ, zero, suc, List, [], ◌∷◌, ◌++◌, Option, ◌⊎◌, inl, inr, refl, sym, ap, ◌∙◌, subst, append_assoc}
 use Rattle.std.specs.Prelude.{◌↔◌}
 use Rattle.std.proofs.lemmas.List.{append_cancel_right}
-use Rattle.sedck_bre.specs.Tree.{Tree, Trees, Byte, Any, Set, Maybe, Group, Ref, Seq, Repeat, Nil, Then}
+use Rattle.sedck_expressions.specs.Tree.{Tree, Trees, Byte, Any, Set, Maybe, Group, Ref, Seq, Repeat, Nil, Then}
 use Rattle.sedck_bre.specs.Match.{Groups, Match, Times, IsWithin, unset, text_of}
 use Rattle.sedck_model.specs.Spots.{Reached, Leads}
 use Rattle.sedck_model.specs.Private.Lists.{Relation}

@@ -4,9 +4,9 @@ use Rattle.std.proofs.lemmas.List.{append_cancel_right, take-append-drop, append
 use Rattle.std.proofs.lemmas.List.Elements.{All-contains}
 use Rattle.std.proofs.Math.Seq.{take-append_seam, drop-append_seam}
 use Rattle.sedck_model.proofs.Contained.{contains_mapped, mapped_contains}
-use Rattle.sedck_bre.specs.Tree.{Tree}
+use Rattle.sedck_expressions.specs.Tree.{Tree}
 use Rattle.sedck_bre.specs.Match.{Groups, no_groups, Match}
-use Rattle.sedck_script.specs.Program.{Part, Text, Newline, Tab, Whole, Group, Substitution, Program}
+use Rattle.sedck_commands.specs.Program.{Part, Text, Newline, Tab, Whole, Group, Substitution, Program}
 use Rattle.sedck_script.specs.View.{part_of}
 use Rattle.sedck_commands.specs.declared.types.Part as code
 use Rattle.sedck_flow.specs.Patterns.{StandsFor}

@@ -4,10 +4,10 @@ use Rattle.std.specs.Borrow.{Bor}
 use Rattle.std.specs.List.{All}
 use Rattle.std.proofs.lemmas.List.{map_more, take_all}
 use Rattle.std.proofs.lemmas.List.Elements.{All-push, All-contains}
-use Rattle.sedck_bre.specs.Tree.{Tree}
-use Rattle.sedck_bre.specs.View.{tree}
+use Rattle.sedck_expressions.specs.Tree.{Tree}
+use Rattle.sedck_expressions.specs.View.{tree}
 use Rattle.sedck_expressions.specs.declared.tree.Bre.{Bre}
-use Rattle.sedck_script.specs.Program.{Program, Pattern, Previous, Expression, Command, patterns, expressions}
+use Rattle.sedck_commands.specs.Program.{Program, Pattern, Previous, Expression, Command, patterns, expressions}
 use Rattle.sedck_flow.specs.Patterns.{StandsFor, HasMatch}
 use Rattle.sedck_flow.proofs.ExpressionPatterns.{expressions_are_patterns}
 use Rattle.sedck_model.specs.Spots.{HasPartIn}

@@ -4,7 +4,7 @@ use Rattle.std.specs.Result.{IfOk}
 use Rattle.std.specs.List.{slice_get}
 use Rattle.std.proofs.lemmas.List.{length-map, get_or-map}
 use Rattle.std.proofs.lemmas.Option.{slice_get_read, slice_get_past}
-use Rattle.sedck_script.specs.Program.{Command as Plain}
+use Rattle.sedck_commands.specs.Program.{Command as Plain}
 use Rattle.sedck_script.specs.View.{command_of}
 use Rattle.sedck_script.specs.declared.script.Command.{Command}
 

@@ -1,9 +1,9 @@
 -- The tree of each form that has no parts.
 use Rattle.std.proofs.Common.{◌≡◌, ℕ, ◌<◌, List, sym, ap, ◌∙◌}
-use Rattle.sedck_bre.specs.Tree.{Tree, is_in}
+use Rattle.sedck_expressions.specs.Tree.{Tree, is_in}
 use Rattle.sedck_expressions.proofs.BracketSets.{in_where}
-use Rattle.sedck_bre.specs.View.{tree, node_tree, has_bit, bytes_in}
-use Rattle.sedck_bre.specs.Tree as spec
+use Rattle.sedck_expressions.specs.View.{tree, node_tree, has_bit, bytes_in}
+use Rattle.sedck_expressions.specs.Tree as spec
 use Rattle.sedck_expressions.specs.declared.tree.ByteSet.{ByteSet}
 use Rattle.sedck_expressions.specs.declared.tree.Bre.{Bre-F, fold-roll-Bre}
 use Rattle.sedck_expressions.specs.declared.tree.Bre.TheVariants.{Byte, Set, Maybe, Ref, rolls-Byte, rolls-Set, rolls-Maybe, rolls-Ref}

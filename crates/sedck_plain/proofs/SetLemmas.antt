@@ -8,8 +8,8 @@ use Rattle.std.specs.Int.{bit_at}
 use Rattle.std.proofs.lemmas.Bool.{false≢true}
 use Rattle.std.proofs.lemmas.Grind.{same_number_lists}
 use Rattle.std.proofs.lemmas.Nat.Bits.{bit_at-lt, same_from_bits_below}
-use Rattle.sedck_bre.specs.Tree.{is_in}
-use Rattle.sedck_bre.specs.View.{has_bit, bytes_in}
+use Rattle.sedck_expressions.specs.Tree.{is_in}
+use Rattle.sedck_expressions.specs.View.{has_bit, bytes_in}
 use Rattle.sedck_expressions.specs.Private.Sets.{AreWords}
 use Rattle.sedck_expressions.proofs.BracketSets.{in_where}
 

@@ -6,7 +6,7 @@ use Rattle.std.proofs.lemmas.List.{get_or-map, length-map}
 use Rattle.std.specs.Borrow.{Bor}
 use Rattle.std.specs.HashMap.{HashMap}
 use Rattle.sedck_text.specs.Text.{one_of}
-use Rattle.sedck_bre.specs.Tree.{Tree}
+use Rattle.sedck_expressions.specs.Tree.{Tree}
 use Rattle.sedck_commands.specs.Program.{Pattern, Previous, Expression, NoAddress, Label, Command, Program, address_patterns, verb_patterns, patterns, expressions}
 use Rattle.sedck_commands.specs.Items.{Known, Item, Written, Closing, Items}
 use Rattle.sedck_script.specs.Resolution.{Defines, AreLabelsDistinct, LeadsTo, Resolves, done, known, jump, opening, closing}

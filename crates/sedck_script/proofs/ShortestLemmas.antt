@@ -5,7 +5,7 @@ use Rattle.std.proofs.lemmas.Bool.{cases_lt, false≢true}
 use Rattle.std.proofs.lemmas.List.{map_more}
 use Rattle.std.proofs.lemmas.List.Concat.{flat_map-append}
 use Rattle.std.proofs.lemmas.List.Elements.{Contains-append_left, Contains-append_right, Contains-append_cases}
-use Rattle.sedck_bre.specs.Tree.{Tree}
+use Rattle.sedck_expressions.specs.Tree.{Tree}
 use Rattle.sedck_bre.specs.Lengths.{IsLeastSize, HasLength, cap}
 use Rattle.sedck_commands.specs.Program.{Pattern, Command, address_patterns, verb_patterns, patterns, pattern_expressions, expressions}
 use Rattle.sedck_commands.specs.View.{verb_of}

@@ -2,7 +2,7 @@
 -- the portable set have one byte). Ours, for UTF-8, where GNU sed, BusyBox and others match, repeat and replace whole characters.
 use Rattle.std.specs.Prelude.{◌≡◌, ℕ, ◌-◌, ◌==◌, ◌&&◌, ◌||◌, ◌++◌, Bool, false, List, nat_lt, flat_map, if◌then◌else◌}
 use Rattle.std.specs.List.{list_any}
-use Rattle.sedck_bre.specs.Tree.{Tree, Trees, Byte, Group, Seq, Repeat, Nil, Then}
+use Rattle.sedck_expressions.specs.Tree.{Tree, Trees, Byte, Group, Seq, Repeat, Nil, Then}
 use Rattle.sedck_commands.specs.Program.{Verb, Transliterate, Command, Program, address_patterns, verb_patterns, pattern_expressions}
 
 -- no byte of the portable set

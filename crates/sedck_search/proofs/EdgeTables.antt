@@ -5,7 +5,7 @@ use Rattle.std.specs.List.{slice_range}
 use Rattle.std.proofs.Math.Seq.{drop-append_seam}
 use Rattle.std.proofs.lemmas.Bool.{cases_lt}
 use Rattle.std.proofs.lemmas.List.{length_push, length-drop, get_or_append_left, get_or_push, take-append-le, drop-append-le, take_all}
-use Rattle.sedck_script.specs.Program.{Program}
+use Rattle.sedck_commands.specs.Program.{Program}
 use Rattle.sedck_flow.specs.Nodes.{node_index}
 use Rattle.sedck_flow.specs.Flow.{FlowFrom, ListsEdges}
 use Rattle.sedck_flow.specs.declared.graph.Node.{Node}

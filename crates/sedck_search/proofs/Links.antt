@@ -1,7 +1,7 @@
 -- Links of nodes in the depth-first search, and what members of a component count.
 use Rattle.std.proofs.Common.{◌≡◌, ℕ, ◌<◌, ◌≤◌, List, length, sym, ap, ◌∙◌, subst, arith}
 use Rattle.std.specs.Prelude.{Some, slice_get, set}
-use Rattle.sedck_script.specs.Program.{Program}
+use Rattle.sedck_commands.specs.Program.{Program}
 use Rattle.sedck_flow.specs.Nodes.{node_index, node_count}
 use Rattle.sedck_flow.specs.declared.graph.Node.{Node}
 use Rattle.sedck_flow.proofs.NodeLemmas.{node_same}

@@ -1,7 +1,7 @@
 -- Where no command asks for the last line, edges on which no line is read lead alike before it and on it.
 use Rattle.std.proofs.Common.{◌≡◌, ◌≢◌, ℕ, Bool, true, false, List, [], ◌∷◌, length, refl, ap, inl, inr}
 use Rattle.std.specs.Prelude.{Option, Some, None, MatchOption, MatchBool, slice_get, if◌then◌else◌}
-use Rattle.sedck_script.specs.Program.{Last, Address, One, Two, Verb, Block, Change, Delete, DeleteFirstLine, Next, NextAppend, Quit, Substitute, Test, Command, Program}
+use Rattle.sedck_commands.specs.Program.{Last, Address, One, Two, Verb, Block, Change, Delete, DeleteFirstLine, Next, NextAppend, Quit, Substitute, Test, Command, Program}
 use Rattle.sedck_flow.specs.Nodes.{start, moved_to, next, with_flag}
 use Rattle.sedck_flow.specs.Flow.{MaySelectAt, MayNotSelectAt, ReadsLine, VerbEdge, node_past, CommandEdge, Flow}
 use Rattle.sedck_flow.specs.declared.graph.Node.{Node}

@@ -1,7 +1,7 @@
 -- Paths over followed edges, and sets that no followed edge leaves.
 use Rattle.std.proofs.Common.{ℕ, ◌<◌, ◌≤◌, List, [], ◌∷◌, ◌++◌, length, refl, sym, subst, arith}
 use Rattle.sedck_script.specs.Invariant.{AreTargetsWithin, IsScript}
-use Rattle.sedck_script.specs.Program.{Program}
+use Rattle.sedck_commands.specs.Program.{Program}
 use Rattle.sedck_flow.specs.Nodes.{node_index}
 use Rattle.sedck_flow.specs.Flow.{FlowFrom}
 use Rattle.sedck_flow.specs.declared.graph.Node.{Node}

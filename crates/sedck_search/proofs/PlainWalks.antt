@@ -1,6 +1,6 @@
 -- A walk between nodes that know the last line, without what they say of it.
 use Rattle.std.proofs.Common.{◌≡◌, ◌≢◌, ◌<◌, List, [], ◌∷◌, length, ap, inl, inr, arith}
-use Rattle.sedck_script.specs.Program.{Program}
+use Rattle.sedck_commands.specs.Program.{Program}
 use Rattle.sedck_flow.specs.Flow.{HasKind}
 use Rattle.sedck_flow.specs.VersionOne.{plain_node}
 use Rattle.sedck_flow.specs.declared.graph.Node.{Node}

@@ -1,7 +1,7 @@
 -- Obstacles in the flow graphs by which certificates of version 1 were judged, this project's own: closed walks that no such certificate allowed.
 -- The law `obstacles_were_there` cites them alone.
 use Rattle.std.specs.Prelude.{◌≡◌, ◌≢◌, ◌⊎◌, ◌<◌, List, [], ◌∷◌, length}
-use Rattle.sedck_script.specs.Program.{Program}
+use Rattle.sedck_commands.specs.Program.{Program}
 use Rattle.sedck_flow.specs.VersionOne.{NodeOne, start_one, Kinds, FlowOne, plain_node}
 use Rattle.sedck_flow.specs.declared.graph.Node.{Node}
 use Rattle.sedck_flow.specs.declared.graph.Kind.{Kind}

@@ -1,8 +1,8 @@
 -- The least rest of a match.
 use Rattle.std.specs.Prelude.{ℕ, ◌<◌, ◌≤◌}
 use Rattle.sedck_bre.specs.Lengths.{cap}
-use Rattle.sedck_bre.specs.WellFormed.{IsWellFormed}
-use Rattle.sedck_script.specs.Program.{Pattern, Previous, Expression, Substitution, Verb, Substitute, Program}
+use Rattle.sedck_expressions.specs.WellFormed.{IsWellFormed}
+use Rattle.sedck_commands.specs.Program.{Pattern, Previous, Expression, Substitution, Verb, Substitute, Program}
 use Rattle.sedck_flow.specs.Flow.{AreRestsAbove, AreRestsAtLeast}
 
 -- an expression of the command's own is well formed

@@ -1,6 +1,6 @@
 -- Whether there are expressions, and the least length of their texts.
 use Rattle.std.specs.Prelude.{◌≡◌, ℕ, min, Bool, true, false, List, [], ◌∷◌, Option, Some, None}
-use Rattle.sedck_bre.specs.Tree.{Tree}
+use Rattle.sedck_expressions.specs.Tree.{Tree}
 use Rattle.sedck_bre.specs.Lengths.{IsLeastSize}
 use Rattle.sedck_script.specs.Shortest.{SomeHasLength}
 

@@ -1,6 +1,6 @@
 -- Edges that close a walk, known by the counts of their ends.
 use Rattle.std.specs.Prelude.{◌≡◌, ℕ, ◌<◌, ◌≤◌, List, Some, slice_get}
-use Rattle.sedck_script.specs.Program.{Program}
+use Rattle.sedck_commands.specs.Program.{Program}
 use Rattle.sedck_flow.specs.Nodes.{node_index}
 use Rattle.sedck_flow.specs.Flow.{Flow}
 use Rattle.sedck_flow.specs.declared.graph.Edge.{Edge}

@@ -1,7 +1,7 @@
 -- The edges of all nodes in one list, node after node, and where those of each node begin.
 use Rattle.std.specs.Prelude.{◌≡◌, ℕ, suc, ◌<◌, ◌≤◌, List, length, slice_index}
 use Rattle.std.specs.List.{slice_range}
-use Rattle.sedck_script.specs.Program.{Program}
+use Rattle.sedck_commands.specs.Program.{Program}
 use Rattle.sedck_flow.specs.Nodes.{node_index, node_count}
 use Rattle.sedck_flow.specs.Flow.{FlowFrom, ListsEdges}
 use Rattle.sedck_flow.specs.declared.graph.Node.{Node}

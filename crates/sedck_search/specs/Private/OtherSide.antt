@@ -1,6 +1,6 @@
 -- Nodes on the other side of the last line, in scripts that ask nowhere for it.
 use Rattle.std.specs.Prelude.{◌≡◌, ℕ, Some, not, slice_get}
-use Rattle.sedck_script.specs.Program.{Last, Address, One, Command, Program}
+use Rattle.sedck_commands.specs.Program.{Last, Address, One, Command, Program}
 use Rattle.sedck_flow.specs.Nodes.{with_last}
 use Rattle.sedck_flow.specs.declared.graph.Node.{Node}
 use Rattle.sedck_flow.specs.declared.graph.Edge.{Edge}

@@ -2,7 +2,7 @@ use Rattle.std.proofs.Common.{◌≡◌, length, refl, sym, ap, ◌∙◌, inl, 
 use Rattle.std.proofs.lemmas.Bool.{cases_lt}
 use Rattle.std.proofs.lemmas.List.{length-map}
 use Rattle.std.proofs.lemmas.Option.{same_Some, none-some, slice_get_past}
-use Rattle.sedck_script.specs.Program.{Command}
+use Rattle.sedck_commands.specs.Program.{Command}
 use Rattle.sedck_script.specs.View.{command_of}
 use Rattle.sedck_flow.proofs.EdgesLemmas.{read_command}
 use Rattle.sedck_cert.proofs.SpaceLemmas.{none_appends}

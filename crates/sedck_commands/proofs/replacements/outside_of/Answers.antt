@@ -1,7 +1,7 @@
 use Rattle.std.proofs.Common.{◌≡◌, ℕ, List, map, Some, ap, sym, subst}
 use Rattle.std.proofs.lemmas.List.Elements.{recursion_from_All}
 use Rattle.std.specs.List.{All}
-use Rattle.sedck_bre.specs.Tree.{Tree}
+use Rattle.sedck_expressions.specs.Tree.{Tree}
 use Rattle.sedck_commands.specs.Program.{Pattern, Expression, Part}
 use Rattle.sedck_commands.specs.Parts.{IsPart}
 use Rattle.sedck_commands.specs.Private.Keeping.{kept_from}

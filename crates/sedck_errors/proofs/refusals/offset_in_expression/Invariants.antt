@@ -1,6 +1,6 @@
 use Rattle.std.proofs.Common.{◌≤◌, ◌<◌, ◌+◌, ◌-◌, ℕ, List, length, drop}
-use Rattle.sedck_script.specs.Faults.{StandsAt}
-use Rattle.sedck_script.specs.Parts.{DelimitedExpression}
+use Rattle.sedck_commands.specs.Faults.{StandsAt}
+use Rattle.sedck_commands.specs.Parts.{DelimitedExpression}
 use Rattle.sedck_errors.specs.Errors.{bytes_before}
 use Rattle.sedck_errors.proofs.Offsets.{IsBefore}
 use Rattle.sedck_errors.proofs.refusals.offset_in_expression.Given as goal

@@ -1,6 +1,6 @@
 use Rattle.std.proofs.Common.{◌≡◌, List, length}
-use Rattle.sedck_script.specs.Items.{Item, Items}
-use Rattle.sedck_script.specs.Locations.{locations_of}
+use Rattle.sedck_commands.specs.Items.{Item, Items}
+use Rattle.sedck_commands.specs.Locations.{locations_of}
 use Rattle.sedck_script.specs.declared.parsing.Located.{Located}
 use Rattle.sedck_commands.proofs.ResultLemmas.{if_some_at}
 use Rattle.sedck_script.specs.Spelling.{Spells}

@@ -1,5 +1,5 @@
 use Rattle.std.proofs.Common.{◌≡◌, map, take}
-use Rattle.sedck_script.specs.Program.{expressions}
+use Rattle.sedck_commands.specs.Program.{expressions}
 use Rattle.sedck_script.specs.View.{command_of}
 use Rattle.sedck_model.specs.Private.Candidates.{trees_in}
 use Rattle.sedck_model.proofs.candidates.all_of.Given as goal

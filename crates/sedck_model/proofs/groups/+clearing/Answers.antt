@@ -1,7 +1,7 @@
 use Rattle.std.proofs.Common.{ℕ, ◌+◌, None, List, ◌∷◌, cond, get_or, drop, map, sym, ap, ◌∙◌}
 use Rattle.std.proofs.lemmas.List.{at_drop_more, at_drop_all}
-use Rattle.sedck_bre.specs.Tree.{groups_in, groups_in_all, trees, is_in}
-use Rattle.sedck_bre.specs.View.{tree}
+use Rattle.sedck_expressions.specs.Tree.{groups_in, groups_in_all, trees, is_in}
+use Rattle.sedck_expressions.specs.View.{tree}
 use Rattle.sedck_expressions.specs.declared.tree.Bre.{Bre}
 use Rattle.sedck_model.proofs.GroupLemmas.{clear_more}
 use Rattle.sedck_model.proofs.groups.+clearing.Goals as goal

@@ -2,7 +2,7 @@ use Rattle.std.proofs.Common.{◌≤◌, [], ◌∷◌, length, None}
 use Rattle.std.specs.Prelude.{replicate}
 use Rattle.std.specs.List.{All}
 use Rattle.std.proofs.lemmas.Result.{IfOk-weaker}
-use Rattle.sedck_bre.specs.View.{tree}
+use Rattle.sedck_expressions.specs.View.{tree}
 use Rattle.sedck_model.specs.declared.spots.Spot.{Spot}
 use Rattle.sedck_model.specs.Spots.{beginning, AreEnds, Leads}
 use Rattle.sedck_model.specs.Private.Lists.{AreLed, AreWithin}

@@ -1,10 +1,10 @@
 use Rattle.std.proofs.Common.{◌≡◌, List, ℕ, Option, refl, sym, ap, ◌∙◌, subst, inl, inr}
-use Rattle.sedck_bre.specs.Tree.{Tree}
-use Rattle.sedck_bre.specs.View.{tree, bytes_in}
+use Rattle.sedck_expressions.specs.Tree.{Tree}
+use Rattle.sedck_expressions.specs.View.{tree, bytes_in}
 use Rattle.sedck_expressions.specs.declared.tree.Bre.{Bre}
 use Rattle.sedck_expressions.proofs.ViewLemmas.{tree-Any}
 use Rattle.sedck_model.proofs.ViewLemmas.{tree-Byte, tree-Set, tree-Maybe}
-use Rattle.sedck_bre.specs.Tree as spec
+use Rattle.sedck_expressions.specs.Tree as spec
 use Rattle.sedck_model.specs.declared.spots.Spot.{Spot}
 use Rattle.sedck_model.specs.Private.Lists.{Relation, IsNext}
 use Rattle.sedck_model.specs.Private.Relations.{Consumes, Passes}

@@ -1,5 +1,5 @@
 use Rattle.std.proofs.Common.{◌≤◌, [], take}
-use Rattle.sedck_bre.specs.View.{tree}
+use Rattle.sedck_expressions.specs.View.{tree}
 use Rattle.sedck_model.specs.Private.Lists.{AddsLed, AreWithin}
 use Rattle.sedck_model.specs.Private.Relations.{Passes}
 use Rattle.sedck_model.proofs.single.pass.Given as goal

@@ -2,8 +2,8 @@ use Rattle.std.proofs.Common.{◌≡◌, ◌≤◌, false, true, List, [], ◌�
 use Rattle.std.specs.Prelude.{◌↔◌}
 use Rattle.std.proofs.lemmas.Bool.{false≢true}
 use Rattle.std.proofs.lemmas.List.{drop_all}
-use Rattle.sedck_bre.specs.Tree.{trees}
-use Rattle.sedck_bre.specs.View.{tree}
+use Rattle.sedck_expressions.specs.Tree.{trees}
+use Rattle.sedck_expressions.specs.View.{tree}
 use Rattle.sedck_expressions.specs.declared.tree.Bre.{Bre}
 use Rattle.sedck_plain.proofs.same.+same.Goals as goal
 

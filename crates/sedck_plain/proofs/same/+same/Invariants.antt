@@ -1,6 +1,6 @@
 use Rattle.std.proofs.Common.{◌≡◌, ◌↔◌, map, drop}
-use Rattle.sedck_bre.specs.Tree.{trees}
-use Rattle.sedck_bre.specs.View.{tree}
+use Rattle.sedck_expressions.specs.Tree.{trees}
+use Rattle.sedck_expressions.specs.View.{tree}
 use Rattle.sedck_plain.proofs.same.+same.Given as goal
 
 abbrev pub invariant-same_trees-loop-item : goal.invariant-same_trees-loop-item

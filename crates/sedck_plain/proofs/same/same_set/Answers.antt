@@ -1,6 +1,6 @@
 use Rattle.std.proofs.Common.{◌≡◌, true, subst}
 use Rattle.std.specs.Prelude.{◌↔◌}
-use Rattle.sedck_bre.specs.View.{bytes_in}
+use Rattle.sedck_expressions.specs.View.{bytes_in}
 use Rattle.sedck_plain.proofs.SetLemmas.{sets_decided}
 use Rattle.sedck_plain.proofs.same.same_set.Goals as goal
 

@@ -2,7 +2,7 @@ use Rattle.std.proofs.Common.{◌≡◌, ◌≤◌, ◌<◌, ◌+◌, ◌⊎◌,
 use Rattle.std.specs.Prelude.{Some, slice_get}
 use Rattle.std.proofs.lemmas.Bool.{true≢false}
 use Rattle.std.proofs.lemmas.List.{length-map}
-use Rattle.sedck_script.specs.Program.{Program}
+use Rattle.sedck_commands.specs.Program.{Program}
 use Rattle.sedck_script.specs.View.{command_of}
 use Rattle.sedck_flow.specs.Nodes.{start, node_index, node_count}
 use Rattle.sedck_flow.specs.declared.graph.Node.{Node}

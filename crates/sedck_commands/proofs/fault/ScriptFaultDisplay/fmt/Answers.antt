@@ -1,5 +1,5 @@
 use Rattle.std.proofs.Common.{◌≡◌, ℕ, List, ◌++◌, codes, decimal, append_assoc}
-use Rattle.sedck_bre.specs.FaultWords.{fault_words as expression_fault_words}
+use Rattle.sedck_expressions.specs.FaultWords.{fault_words as expression_fault_words}
 use Rattle.sedck_commands.specs.FaultWords.{fault_words}
 use Rattle.sedck_commands.proofs.fault.ScriptFaultDisplay.fmt.Goals as goal
 
