@@ -107,6 +107,11 @@ ROWS = [
     ("a.sh", [], 'sed "# $x\np"\n', 5, [("1:1", IF, None)]),
     # Values.
     ("a.sh", [], 'a=u\nsed "s/$a/b/"\n', 5, [("2:1", IF, ["s/u/b/"])]),
+    # What is set for one command alone isn't seen by its own words, and what is private isn't seen by recipes.
+    ("a.sh", [], 'a=u sed "s/$a/b/"\n', 5, [("1:5", IF, ["s/x/b/"])]),
+    ("a.sh", [], 'a=u\na=v sed "s/$a/b/"\n', 5, [("2:5", IF, ["s/x/b/"])]),
+    ("Makefile", [], "A = u\nprivate A = v\nB = w\nall:\n\tsed 's/$(A)/$(B)/' f\n", 5, [("5:2", IF, ["s/x/w/", "f"])]),
+    ("Makefile", [], "export private A = u\nall:\n\tsed 's/$(A)/b/' f\n", 5, [("3:2", IF, ["s/x/b/", "f"])]),
     ("a.sh", [], 'a=\nsed "s/$a$a/b/"\nsed p f\n', 2, [("2:1", REFUSED, ["s//b/"]), ("3:1", A, ["p", "f"])]),
     ("a.sh", [], 'a=u\nsed ":x;s/$a/$a/;tx"\n', 1, [("2:1", LOOP, [":x;s/u/u/;tx"])]),
     ("a.sh", [], 'a=u\nif c; then sed "s/$a/b/"; fi\nf() { sed "s/$a/c/"; }\n', 5, [("2:12", IF, ["s/u/b/"]), ("3:7", IF, ["s/u/c/"])]),
