@@ -1,8 +1,17 @@
-//! Blanks, and the bytes of labels and other names.
+//! What a text begins with, and which bytes it has.
+
+use sedck_report::{line_len, skipped};
+
+pub(crate) const DIGITS: &str = "0123456789";
 
 /// Whether the byte is a space or a tab.
 pub fn is_blank(byte: u8) -> bool {
-    matches!(byte, b' ' | b'\t')
+    byte == b' ' || byte == b'\t'
+}
+
+/// Whether the byte ends most commands.
+pub(crate) fn ends_command(byte: &u8) -> bool {
+    is_among(*byte, ";\n")
 }
 
 /// Whether labels, and names in general, may have the byte.
@@ -10,15 +19,94 @@ pub(crate) fn is_of_label(byte: u8) -> bool {
     byte.is_ascii_alphanumeric() || matches!(byte, b'_' | b'.' | b'-')
 }
 
-/// The text after the blanks with which it begins.
-pub(crate) fn without_blanks(text: &[u8]) -> &[u8] {
-    let start = text.iter().position(|byte| !is_blank(*byte));
-    text.get(start.unwrap_or(text.len())..).unwrap_or(&[])
+/// The byte at this offset; a newline where the text has none there.
+pub(crate) fn byte_at(text: &[u8], offset: usize) -> u8 {
+    text.get(offset).copied().unwrap_or(b'\n')
 }
 
-/// The byte after digits and blanks.
-pub(crate) fn verb_in(text: &[u8]) -> Option<u8> {
-    text.iter()
-        .find(|byte| !is_blank(**byte) && !byte.is_ascii_digit())
-        .copied()
+/// Whether the byte is one of these.
+pub(crate) fn is_among(byte: u8, bytes: &str) -> bool {
+    bytes.as_bytes().contains(&byte)
+}
+
+/// Whether the text has all of this somewhere.
+pub(crate) fn has(text: &[u8], wanted: &str) -> bool {
+    for start in 0..text.len() {
+        if skipped(text, start).starts_with(wanted.as_bytes()) {
+            return true;
+        }
+    }
+    false
+}
+
+/// Whether the text begins with one of these words.
+pub(crate) fn begins_with_one(text: &[u8], words: &[&str]) -> bool {
+    for word in words {
+        if text.starts_with(word.as_bytes()) {
+            return true;
+        }
+    }
+    false
+}
+
+/// The text after those of these bytes with which it begins.
+pub(crate) fn after_any<'a>(text: &'a [u8], bytes: &str) -> &'a [u8] {
+    for (index, byte) in text.iter().enumerate() {
+        if !is_among(*byte, bytes) {
+            return skipped(text, index);
+        }
+    }
+    &[]
+}
+
+/// The text after the blanks with which it begins.
+pub(crate) fn without_blanks(text: &[u8]) -> &[u8] {
+    after_any(text, " \t")
+}
+
+/// The text after the digits and blanks with which it begins.
+pub(crate) fn from_verb(text: &[u8]) -> &[u8] {
+    after_any(text, " \t0123456789")
+}
+
+/// The text before those of these bytes with which it ends.
+pub(crate) fn before_any<'a>(text: &'a [u8], bytes: &str) -> &'a [u8] {
+    let mut length = text.len();
+    for byte in text.iter().rev() {
+        if !is_among(*byte, bytes) {
+            break;
+        }
+        length = length.saturating_sub(1);
+    }
+    first_bytes(text, length)
+}
+
+/// So many bytes of the text, or none where it has fewer.
+pub(crate) fn first_bytes(text: &[u8], length: usize) -> &[u8] {
+    text.get(..length).unwrap_or(&[])
+}
+
+/// The text before the first of these bytes.
+pub(crate) fn until_any<'a>(text: &'a [u8], bytes: &str) -> &'a [u8] {
+    for (index, byte) in text.iter().enumerate() {
+        if is_among(*byte, bytes) {
+            return first_bytes(text, index);
+        }
+    }
+    text
+}
+
+/// The text before the `;` or the newline that ends a command.
+pub(crate) fn first_command(text: &[u8]) -> &[u8] {
+    until_any(text, ";\n")
+}
+
+/// The text behind that `;` or newline.
+pub(crate) fn behind_command(text: &[u8]) -> &[u8] {
+    skipped(text, first_command(text).len().saturating_add(1))
+}
+
+/// The text before its first newline.
+pub(crate) fn first_line(text: &[u8]) -> &[u8] {
+    &text[..line_len(text)]
 }

@@ -1,6 +1,8 @@
 //! What to write in place of an escape of an expression that is refused.
 
-use crate::bytes::without_blanks;
+use crate::bytes::{
+    behind_command, byte_at, ends_command, first_bytes, has, is_among, without_blanks,
+};
 use crate::spot::{Purpose, Spot};
 use sedck_parts::Reading;
 
@@ -9,15 +11,12 @@ pub fn escape_hint(spot: Spot) -> &'static str {
     if spot.reading().is_in_list() {
         return list_escape_hint(spot.rest);
     }
-    let Some(escaped) = spot.rest.get(1) else {
-        return PLAIN;
-    };
-    match *escaped {
+    match byte_at(spot.rest, 1) {
         b'+' | b'?' => repeat_hint(spot),
         b'|' => bar_hint(spot),
         b'B' => inner_hint(spot),
         b'b' | b'<' | b'>' => word_hint(spot),
-        b'd' if !matches!(spot.rest.get(2), Some(b'0'..=b'9')) => {
+        b'd' if !byte_at(spot.rest, 2).is_ascii_digit() => {
             "if a digit is meant write `[[:digit:]]`"
         }
         escaped => letter_hint(escaped),
@@ -43,36 +42,41 @@ fn letter_hint(escaped: u8) -> &'static str {
 
 /// In a bracket list.
 fn list_escape_hint(rest: &[u8]) -> &'static str {
-    match (rest.get(1), rest.get(2)) {
-        (Some(b'd'), Some(b'0'..=b'9'))
-        | (Some(b'o'), Some(b'0'..=b'7'))
-        | (Some(b'x'), Some(b'0'..=b'9' | b'a'..=b'f' | b'A'..=b'F')) => {
-            "GNU sed turns this into a byte before it reads the list: write that byte itself"
-        }
-        (Some(b'd'), _) =>
+    let digit = byte_at(rest, 2);
+    match byte_at(rest, 1) {
+        b'd' if digit.is_ascii_digit() => BYTE_IN_LIST,
+        b'o' if b'0' <= digit && digit <= b'7' => BYTE_IN_LIST,
+        b'x' if digit.is_ascii_hexdigit() => BYTE_IN_LIST,
+        b'd' =>
             "if a digit is meant write `[[:digit:]]`; GNU sed reads this as a `d`; for a backslash and a `d` write `[\\\\d]`",
         _ =>
             "GNU sed turns `\\c` and what follows into one byte: for a backslash and the letter write two backslashes, as in `[\\\\c]`",
     }
 }
 
+const BYTE_IN_LIST: &str =
+    "GNU sed turns this into a byte before it reads the list: write that byte itself";
+
 /// For `\+` and `\?`.
 fn repeat_hint(spot: Spot) -> &'static str {
     if spot.begins() {
         return "at the start of an expression or a group GNU sed reads this as a literal character: write it without the backslash";
     }
-    let is_plus = spot.rest.get(1) == Some(&b'+');
-    if !is_plus && spot.inside().ends_with(b"\\$") {
+    let is_comma = spot.delimiter() == b',';
+    if byte_at(spot.rest, 1) == b'+' {
+        if is_comma {
+            return "for `x\\+` write `xx*`, or `x\\{1\\,\\}`, since `,` is the delimiter";
+        }
+        return "for `x\\+` write `x\\{1,\\}` or `xx*`";
+    }
+    if spot.inside().ends_with(b"\\$") {
         return "if the two characters `$?` are meant write `\\$?`; GNU sed reads `\\$\\?` as a `$` that may be missing: for that write \
             `\\$\\{0,1\\}`, with `\\,` where the comma is the delimiter";
     }
-    match (is_plus, spot.delimiter() == b',') {
-        (true, true) => "for `x\\+` write `xx*`, or `x\\{1\\,\\}`, since `,` is the delimiter",
-        (true, false) => "for `x\\+` write `x\\{1,\\}` or `xx*`",
-        (false, true) =>
-            "for `x\\?` write `x\\{0\\,1\\}`, since `,` is the delimiter; if the character `?` is meant write `?`",
-        (false, false) => "for `x\\?` write `x\\{0,1\\}`; if the character `?` is meant write `?`",
+    if is_comma {
+        return "for `x\\?` write `x\\{0\\,1\\}`, since `,` is the delimiter; if the character `?` is meant write `?`";
     }
+    "for `x\\?` write `x\\{0,1\\}`; if the character `?` is meant write `?`"
 }
 
 /// For `\|`.
@@ -139,17 +143,17 @@ fn tested_end_hint(spot: Spot) -> &'static str {
 
 /// Whether a label precedes the fault, so that the `t` behind it may lead back.
 fn follows_label(spot: Spot) -> bool {
-    spot.before
-        .split(|byte| matches!(*byte, b';' | b'\n'))
-        .any(|command| without_blanks(command).starts_with(b":"))
+    for command in spot.before.split(ends_command) {
+        if without_blanks(command).starts_with(b":") {
+            return true;
+        }
+    }
+    false
 }
 
 /// Whether a `t` comes right after the `s` whose expression has the fault.
 fn is_tested(spot: Spot) -> bool {
-    let flags = spot.flags();
-    let end = flags.iter().position(|byte| matches!(*byte, b';' | b'\n'));
-    let start = end.unwrap_or(flags.len()).saturating_add(1);
-    without_blanks(flags.get(start..).unwrap_or(&[])).starts_with(b"t")
+    without_blanks(behind_command(spot.flags())).starts_with(b"t")
 }
 
 /// Whether the expression is that of an `s`.
@@ -163,21 +167,21 @@ fn word_hint(spot: Spot) -> &'static str {
         return NEXT_TO_WORD;
     }
     let begins = has_one_end(spot) && spot.begins();
-    let ends = has_one_end(spot) && spot.rest.get(2) == Some(&spot.delimiter());
-    match (begins, ends, copies_in(spot)) {
-        (_, _, Copies::Groups) => GROUPS,
-        (true, _, Copies::Nothing) =>
+    let ends = has_one_end(spot) && byte_at(spot.rest, 2) == spot.delimiter();
+    match copies_in(spot) {
+        Copies::Groups => GROUPS,
+        Copies::Nothing if begins =>
             "for `s/\\<WORD/NEW/g` write `s/^/\\n/`, `s/\\([^[:alnum:]_]\\)WORD/\\1NEW/g` and `s/^\\n//`; the first `s` sets the flag that `t` tests",
-        (true, _, Copies::Whole) =>
+        Copies::Whole if begins =>
             "for `s/\\<WORD/X&/g` write `s/^/\\n/`, `s/\\([^[:alnum:]_]\\)\\(WORD\\)/\\1X\\2/g` and `s/^\\n//`; the first `s` sets the flag that `t` tests",
-        (_, true, Copies::Nothing) =>
+        Copies::Nothing if ends =>
             "for `s/WORD\\>/NEW/g` write `s/$/\\n/`, `s/WORD\\([^[:alnum:]_]\\)/NEW\\1/g` and `s/\\n$//`; the first `s` sets the flag that `t` tests",
-        (_, true, Copies::Whole) =>
+        Copies::Whole if ends =>
             "for `s/WORD\\>/X&/g` write `s/$/\\n/`, `s/\\(WORD\\)\\([^[:alnum:]_]\\)/X\\1\\2/g` and `s/\\n$//`; the first `s` sets the flag that `t` tests",
-        (_, _, Copies::Nothing) =>
+        Copies::Nothing =>
             "for `s/\\bWORD\\b/NEW/g` write `s/.*/\\n&\\n/`, twice `s/\\([^[:alnum:]_]\\)WORD\\([^[:alnum:]_]\\)/\\1NEW\\2/g`, and \
                 `s/^\\n\\(.*\\)\\n$/\\1/`, if NEW has no such word; without `g` only once; the first `s` sets the flag that `t` tests",
-        (_, _, Copies::Whole) =>
+        Copies::Whole =>
             "for `s/\\bWORD\\b/X&/` write `s/.*/\\n&\\n/`, `s/\\([^[:alnum:]_]\\)\\(WORD\\)\\([^[:alnum:]_]\\)/\\1X\\2\\3/` and \
                 `s/^\\n\\(.*\\)\\n$/\\1/`; with `g` this leaves out words that share a byte between them; the first `s` sets the flag that `t` tests",
     }
@@ -200,11 +204,12 @@ fn inner_hint(spot: Spot) -> &'static str {
         return "for commas in numbers that stand alone write `s/\\(.*[0-9]\\)\\([0-9]\\{3\\}\\)/\\1,\\2/` as often as a line may need one, without a \
             loop, as docs/MENDING.md shows";
     }
-    match (spot.purpose(), copies_in(spot)) {
-        (Purpose::ReplacesAll, _) | (_, Copies::Groups) => GROUPS,
-        (_, Copies::Nothing) =>
+    match copies_in(spot) {
+        _ if matches!(spot.purpose(), Purpose::ReplacesAll) => GROUPS,
+        Copies::Groups => GROUPS,
+        Copies::Nothing =>
             "`\\B` wants a byte of a word on both sides, or on none: for `s/\\BWORD/NEW/` write `s/\\([[:alnum:]_]\\)WORD/\\1NEW/`, and so for `WORD\\B`",
-        (_, Copies::Whole) =>
+        Copies::Whole =>
             "`\\B` wants a byte of a word on both sides, or on none: for `s/\\BWORD/X&/` write `s/\\([[:alnum:]_]\\)\\(WORD\\)/\\1X\\2/`, and so for \
                 `WORD\\B`",
     }
@@ -221,18 +226,13 @@ pub(crate) enum Copies {
 }
 
 pub(crate) fn copies_in(spot: Spot) -> Copies {
-    if spot.inside().windows(2).any(opens_group) || spot.left().windows(2).any(opens_group) {
+    if has(spot.inside(), "\\(") || has(spot.left(), "\\(") {
         return Copies::Groups;
     }
     if replacement_of(spot).contains(&b'&') {
         return Copies::Whole;
     }
     Copies::Nothing
-}
-
-/// Whether the bytes open a group, or look like it.
-fn opens_group(bytes: &[u8]) -> bool {
-    bytes.starts_with(b"\\(")
 }
 
 /// The replacement of the `s` in whose expression the fault is.
@@ -242,7 +242,7 @@ fn replacement_of(spot: Spot) -> &[u8] {
         .len()
         .saturating_sub(spot.flags().len())
         .saturating_sub(1);
-    behind.get(..length).unwrap_or(&[])
+    first_bytes(behind, length)
 }
 
 /// Whether the fault is the only sign of a word's end in its expression, as far as escapes go.
@@ -250,7 +250,7 @@ fn has_one_end(spot: Spot) -> bool {
     let mut reading = Reading::START;
     let mut ends: usize = 0;
     for byte in spot.left() {
-        if reading.is_escaped && matches!(*byte, b'b' | b'<' | b'>') {
+        if reading.is_escaped && is_among(*byte, "b<>") {
             ends = ends.saturating_add(1);
         }
         reading = reading.after(*byte);

@@ -1,6 +1,9 @@
 //! What to write in place of what is refused.
 
-use crate::bytes::{verb_in, without_blanks};
+use crate::bytes::{
+    DIGITS, after_any, before_any, begins_with_one, behind_command, byte_at, first_command,
+    first_line, from_verb, has, is_among, until_any, without_blanks,
+};
 use crate::edges::{edge_hint, is_edge};
 use crate::escapes::escape_hint;
 use crate::misjudged::{is_misjudged, misjudged_hint};
@@ -8,6 +11,7 @@ use crate::multiples::multiples_hint;
 use crate::spot::{Spot, behind_part};
 use sedck_bre::ReFault;
 use sedck_parts::{Place, Reading};
+use sedck_report::skipped;
 use sedck_script::ScriptFault;
 
 /// What to write instead, by the fault and by what is around it.
@@ -22,9 +26,9 @@ pub fn script_hint(fault: ScriptFault, spot: Spot) -> Option<&'static str> {
         ScriptFault::UnknownCommand { .. } => command_hint(spot),
         ScriptFault::BadAddress { .. } => address_hint(spot),
         ScriptFault::BadExpression { fault, .. } => expression_hint(fault, spot),
-        ScriptFault::BadReplacement { .. } => replacement_hint(spot.rest),
-        ScriptFault::BadFlag { .. } => flag_hint(spot.rest),
-        ScriptFault::BadTransliteration { .. } => list_hint(spot.rest),
+        ScriptFault::BadReplacement { .. } => Some(replacement_hint(spot.rest)),
+        ScriptFault::BadFlag { .. } => Some(flag_hint(spot.rest)),
+        ScriptFault::BadTransliteration { .. } => Some(list_hint(spot.rest)),
         ScriptFault::MissingText { .. } => Some(text_hint(spot.rest)),
         ScriptFault::BadLabel { .. } => Some(label_hint(spot.rest)),
         ScriptFault::ExtraText { .. } => Some(end_hint(spot)),
@@ -67,17 +71,16 @@ pub(crate) const BYTE_ORDER_MARK: &[u8] = b"\xef\xbb\xbf";
 
 /// Whether a carriage return ends the line here.
 pub(crate) fn ends_in_return(rest: &[u8]) -> bool {
-    rest.starts_with(b"\r") && matches!(rest.get(1), None | Some(b'\n'))
+    rest.starts_with(b"\r") && byte_at(rest, 1) == b'\n'
 }
 
 fn command_hint(spot: Spot) -> Option<&'static str> {
-    let Some(first) = spot.rest.first() else {
-        return Some("a command is missing after the address");
-    };
-    match *first {
+    if spot.rest.starts_with(b"\\!") {
+        return Some("`!` needs no backslash here");
+    }
+    match byte_at(spot.rest, 0) {
         b'~' => multiples_hint(spot.before, spot.behind()),
-        b'\\' if spot.rest.get(1) == Some(&b'!') => Some("`!` needs no backslash here"),
-        b'$' if spot.previous() == Some(b'$') => Some(
+        b'$' if spot.follows("$") => Some(
             "in a makefile `$$` becomes one `$`: write one, or check the script that the shell passes on",
         ),
         b'Q' => Some(quit_hint(spot)),
@@ -88,21 +91,21 @@ fn command_hint(spot: Spot) -> Option<&'static str> {
 
 /// In place of `Q`, which may have an exit status.
 fn quit_hint(spot: Spot) -> &'static str {
-    let has_status = matches!(without_blanks(spot.behind()).first(), Some(b'0'..=b'9'));
-    match (spot.previous(), has_status) {
-        (Some(b'!'), false) =>
-            "for `/x/!Q` write `/x/!{`, `:end`, `$d`, `N`, `s/.*\\n//`, `b end` and `}` on lines of their own",
-        (Some(b'!'), true) =>
+    let has_status = byte_at(without_blanks(spot.behind()), 0).is_ascii_digit();
+    match (spot.follows("!"), has_no_address(spot)) {
+        (true, _) if has_status =>
             "for `/x/!Q` write `/x/!{`, `:end`, `$d`, `N`, `s/.*\\n//`, `b end` and `}` on lines of their own; the status is then 0, since no \
                 command of POSIX gives another one",
-        (None | Some(b'{' | b'}' | b';' | b'\n'), false) =>
-            "for `/x/Q` write `/x/,$d`; for `Q` without an address, as in a block, write `:end`, `$d`, `N`, `s/.*\\n//` and `b end` on lines of their own",
-        (None | Some(b'{' | b'}' | b';' | b'\n'), true) =>
+        (true, _) =>
+            "for `/x/!Q` write `/x/!{`, `:end`, `$d`, `N`, `s/.*\\n//`, `b end` and `}` on lines of their own",
+        (_, true) if has_status =>
             "for `/x/Q` write `/x/,$d`; for `Q` without an address, as in a block, write `:end`, `$d`, `N`, `s/.*\\n//` and `b end` on lines of their \
                 own; the status is then 0, since no command of POSIX gives another one",
-        (_, false) => "for `/x/Q` write `/x/,$d`",
         (_, true) =>
+            "for `/x/Q` write `/x/,$d`; for `Q` without an address, as in a block, write `:end`, `$d`, `N`, `s/.*\\n//` and `b end` on lines of their own",
+        _ if has_status =>
             "for `/x/Q` write `/x/,$d`; no command of POSIX gives an exit status: look for the line outside the script, as with `grep`",
+        _ => "for `/x/Q` write `/x/,$d`",
     }
 }
 
@@ -116,27 +119,18 @@ const QUOTES: &str = "quotes belong to the shell: leave them out of the script";
 
 /// Whether the `T` and the `b` behind it are one `t`: neither has an address, and the `T` leads right behind the `b`.
 fn is_turned_test(spot: Spot) -> bool {
-    let mut commands = spot.rest.split(ends_command);
-    let test = commands.next().unwrap_or(&[]);
-    let branch = without_blanks(commands.next().unwrap_or(&[]));
-    let label = without_blanks(commands.next().unwrap_or(&[]));
-    let more = commands.next();
-    let wanted = without_blanks(test.get(1..).unwrap_or(&[]));
-    let found = match label.strip_prefix(b":") {
-        Some(found) => without_blanks(found),
-        None => label,
-    };
-    let is_behind = found == wanted && (!wanted.is_empty() || more.is_none());
-    has_no_address(spot) && branch.starts_with(b"b") && is_behind
-}
-
-fn ends_command(byte: &u8) -> bool {
-    matches!(*byte, b';' | b'\n')
+    let branch = without_blanks(behind_command(spot.rest));
+    let label = without_blanks(behind_command(branch));
+    let wanted = without_blanks(skipped(first_command(spot.rest), 1));
+    let found = without_blanks(label.strip_prefix(b":").unwrap_or(label));
+    let is_behind = first_command(found) == wanted;
+    let is_last = first_command(label).len() == label.len();
+    has_no_address(spot) && branch.starts_with(b"b") && is_behind && (!wanted.is_empty() || is_last)
 }
 
 /// Whether nothing is before the command in its line or block, or only another command.
 fn has_no_address(spot: Spot) -> bool {
-    matches!(spot.previous(), None | Some(b'{' | b'}' | b';' | b'\n'))
+    spot.follows("{};\n")
 }
 
 /// By the byte in place of a verb.
@@ -163,12 +157,12 @@ fn verb_hint(verb: u8) -> Option<&'static str> {
 }
 
 fn address_hint(spot: Spot) -> Option<&'static str> {
-    match spot.rest.first() {
-        Some(b'0') => zero_hint(spot.rest),
-        Some(b'1'..=b'9') => Some("a line number is at most 4,294,967,295"),
-        Some(b'+') => Some(following_hint(spot)),
-        Some(b'~') if follows_number(spot) => Some("for `5,~4` write `5,8`"),
-        Some(b'~') => Some(OUTSIDE),
+    match byte_at(spot.rest, 0) {
+        b'0' => zero_hint(spot.rest),
+        b'1'..=b'9' => Some("a line number is at most 4,294,967,295"),
+        b'+' => Some(following_hint(spot)),
+        b'~' if follows_number(spot) => Some("for `5,~4` write `5,8`"),
+        b'~' => Some(OUTSIDE),
         _ => Some("an address is a line number, `$`, or an expression between delimiters"),
     }
 }
@@ -191,10 +185,10 @@ fn zero_hint(rest: &[u8]) -> Option<&'static str> {
 
 /// By what follows `0,/x/`.
 fn first_match_hint(behind: &[u8]) -> &'static str {
-    match verb_in(behind) {
-        Some(b'd') =>
+    match byte_at(from_verb(behind), 0) {
+        b'd' =>
             "for `0,/x/d` alone in a script write `/x/!d`, `$d`, `N`, `s/.*\\n//`, `:rest`, `n` and `b rest` on lines of their own",
-        Some(b's' | b'p' | b'y' | b'=' | b'w' | b'a' | b'i' | b'r' | b'l') =>
+        verb if is_among(verb, "spy=wairl") =>
             "for `0,/x/s/a/b/` alone in a script write `/x/{`, `s/a/b/`, `:rest`, `n`, `b rest`, `}` and once more `s/a/b/` on lines of their own, \
                 and so for `p`",
         _ => "`1,/x/` is the same if the first line doesn't match",
@@ -204,7 +198,7 @@ fn first_match_hint(behind: &[u8]) -> &'static str {
 /// Whether a line number and a comma precede the fault.
 fn follows_number(spot: Spot) -> bool {
     let start = spot.before.strip_suffix(b",").unwrap_or(&[]);
-    matches!(start.last(), Some(b'0'..=b'9'))
+    before_any(start, DIGITS).len() < start.len()
 }
 
 /// By what is around the `+`.
@@ -213,12 +207,12 @@ fn following_hint(spot: Spot) -> &'static str {
     if follows_number(spot) {
         return "for `6,+2` write `6,8`";
     }
-    if behind.starts_with(b"0") && matches!(behind.get(1), Some(next) if !next.is_ascii_digit()) {
+    if behind.starts_with(b"0") && behind.len() > 1 && !byte_at(behind, 1).is_ascii_digit() {
         return "for `/x/,+0` write `/x/`";
     }
-    match verb_in(behind) {
-        Some(b'd') => "for `/x/,+2d` write `/x/{`, `$!N`, `$!N`, `d` and `}` on lines of their own",
-        Some(b'!') =>
+    match byte_at(from_verb(behind), 0) {
+        b'd' => "for `/x/,+2d` write `/x/{`, `$!N`, `$!N`, `d` and `}` on lines of their own",
+        b'!' =>
             "for `/x/,+2!d` alone in a script write `/x/{`, `n`, `n`, `b`, `}` and `d` on lines of their own",
         _ =>
             "for `/x/,+2p` alone in a script write `/x/{`, `p`, `n`, `p`, `n`, `p` and `}` on lines of their own; for `d` write `$!N` twice and one `d`",
@@ -251,7 +245,7 @@ fn expression_hint(fault: ReFault, spot: Spot) -> Option<&'static str> {
 
 /// At a repetition of a repetition.
 fn repeat_hint(spot: Spot) -> &'static str {
-    if spot.previous() == Some(b'*') && spot.rest.starts_with(b"*") {
+    if spot.follows("*") && spot.rest.starts_with(b"*") {
         return "one `*` is enough";
     }
     "a group may be repeated again, as in `\\(a\\{2\\}\\)*`"
@@ -259,30 +253,22 @@ fn repeat_hint(spot: Spot) -> &'static str {
 
 /// Whether a bracket list that isn't closed has a `]`, and the beginning of a class or a symbol, which isn't closed either.
 pub fn has_open_class(spot: Spot) -> bool {
-    let list = spot.left().get(1..).unwrap_or(&[]);
-    list.contains(&b']') && list.windows(2).any(begins_class)
+    let list = skipped(spot.left(), 1);
+    list.contains(&b']') && (has(list, "[.") || has(list, "[:") || has(list, "[="))
 }
 
-/// Whether the bytes begin a class or a symbol.
-fn begins_class(bytes: &[u8]) -> bool {
-    bytes.starts_with(b"[") && matches!(bytes.get(1), Some(b'.' | b':' | b'='))
-}
+/// What begins a class or a symbol.
+static CLASS_STARTS: &'static [&'static str] = &["[.", "[:", "[="];
 
 /// Where a list isn't closed: nothing on its line ends it, the delimiter does, or it has the beginning of a class or a symbol.
 fn unclosed_hint(spot: Spot) -> &'static str {
-    if !has_bracket(spot.rest) {
+    if !first_line(spot.rest).contains(&b']') {
         return "a list ends with a `]`; for the bracket itself write `\\[`";
     }
     if has_open_class(spot) {
         return "in a bracket list `[.`, `[=` and `[:` begin a symbol or a class: put the `[` last, as in `[].*[]`";
     }
     "a delimiter in a bracket list ends the expression: use another one, as in `s,[/],x,` or `\\,[/],p`; in `[\\/]` some seds keep the backslash"
-}
-
-/// Whether a `]` is on the line.
-fn has_bracket(rest: &[u8]) -> bool {
-    let line = rest.split(|byte| *byte == b'\n').next().unwrap_or(rest);
-    line.contains(&b']')
 }
 
 /// By an invalid element.
@@ -310,33 +296,26 @@ static CLASSES: &'static [&'static str] = &[
 
 /// Whether the element is a class with a name that no class has.
 fn is_unknown_class(rest: &[u8]) -> bool {
-    match rest.strip_prefix(b"[:") {
-        Some(name) => !CLASSES
-            .iter()
-            .any(|class| name.starts_with(class.as_bytes())),
-        None => false,
-    }
+    rest.starts_with(b"[:") && !begins_with_one(skipped(rest, 2), CLASSES)
 }
 
 /// Whether the element is a range of two bytes, of which the first is the greater one.
 fn is_reversed(rest: &[u8]) -> bool {
-    let end = rest.get(2..).unwrap_or(&[]);
+    let end = skipped(rest, 2);
     let last = if end.starts_with(b"\\n") {
-        Some(b'\n')
+        b'\n'
     } else {
-        end.first().copied()
+        byte_at(end, 0)
     };
-    match (rest.first(), rest.get(1), last) {
-        (Some(first), Some(b'-'), Some(last)) => *first > last && !begins_class(end),
-        _ => false,
-    }
+    let is_range = byte_at(rest, 1) == b'-' && !end.is_empty();
+    is_range && byte_at(rest, 0) > last && !begins_with_one(end, CLASS_STARTS)
 }
 
 /// Whether the element is `[.` or `[=`, the same byte twice, and a `]`.
 fn is_symbol_of_its_mark(rest: &[u8]) -> bool {
     (rest.starts_with(b"[.") || rest.starts_with(b"[="))
-        && rest.get(4) == Some(&b']')
-        && rest.get(2) == rest.get(3)
+        && byte_at(rest, 4) == b']'
+        && byte_at(rest, 2) == byte_at(rest, 3)
 }
 
 const EARLY: &str =
@@ -349,107 +328,94 @@ fn has_early_end(rest: &[u8]) -> bool {
 
 /// The same of a range whose hyphen is at this offset.
 fn ends_in_bracket(rest: &[u8], hyphen: usize) -> bool {
-    let end = rest.get(hyphen..).unwrap_or(&[]);
+    let end = skipped(rest, hyphen);
     end.starts_with(b"-[]") || end.starts_with(b"-[^")
 }
 
 /// By the bytes of an interval.
 fn interval_hint(spot: Spot) -> &'static str {
-    if spot.delimiter() == b',' && !ends_before(spot.rest, b",") {
+    if spot.delimiter() == b',' && !ends_before(spot.rest, ",") {
         return "the comma is the delimiter here: write `\\{1\\,2\\}`, or use another delimiter";
     }
-    if spot.rest.get(2) == Some(&b',') {
+    if byte_at(spot.rest, 2) == b',' {
         return "for `x\\{,3\\}` write `x\\{0,3\\}`";
     }
-    if ends_before(spot.rest, b"\n") {
+    if ends_before(spot.rest, "\n") {
         return "write a longer repetition as two, as in `a\\{255\\}a\\{45\\}`";
     }
     "an interval ends in `\\}`; write a literal `{` without a backslash"
 }
 
-/// Whether the interval has its `\}` before any of these bytes.
-fn ends_before(rest: &[u8], ends: &[u8]) -> bool {
-    for pair in rest.windows(2) {
-        if pair.starts_with(b"\\}") {
-            return true;
-        }
-        if matches!(pair.first(), Some(byte) if ends.contains(byte)) {
-            return false;
-        }
-    }
-    false
+/// Whether the interval has its `\}` before this byte.
+fn ends_before(rest: &[u8], end: &str) -> bool {
+    has(until_any(rest, end), "\\}")
 }
 
 /// By the byte after the backslash.
-fn replacement_hint(rest: &[u8]) -> Option<&'static str> {
-    match rest.get(1) {
-        Some(b'0') => Some("for `\\0` write `&`"),
-        Some(b'U' | b'L' | b'u' | b'l' | b'E') => {
-            Some("to change whole lines write `y/abc../ABC../` with the whole alphabet")
+fn replacement_hint(rest: &[u8]) -> &'static str {
+    match byte_at(rest, 1) {
+        b'0' => "for `\\0` write `&`",
+        b'U' | b'L' | b'u' | b'l' | b'E' => {
+            "to change whole lines write `y/abc../ABC../` with the whole alphabet"
         }
-        Some(b'1'..=b'9') => Some(
+        b'1'..=b'9' =>
             "the expression has fewer groups: a group is written `\\(` and `\\)`; is the script meant for `sed -E`?",
-        ),
-        Some(b'x' | b'o' | b'c' | b'd') => {
-            Some("write the byte itself, `&` as `\\&` and a backslash as `\\\\`")
+        b'x' | b'o' | b'c' | b'd' => {
+            "write the byte itself, `&` as `\\&` and a backslash as `\\\\`"
         }
-        Some(b'r' | b'f' | b'v' | b'a') => Some(
+        b'r' | b'f' | b'v' | b'a' =>
             "GNU sed reads this as a control character: write that character itself, or the letter if that is meant",
-        ),
-        _ => Some("write the character without the backslash"),
+        _ => "write the character without the backslash",
     }
 }
 
-fn flag_hint(rest: &[u8]) -> Option<&'static str> {
-    match rest.first() {
-        Some(b'I' | b'i') => Some("for `s/hello/x/I` write `s/[hH][eE][lL][lL][oO]/x/`"),
-        Some(b'e') => Some("POSIX sed can't run other programs: do it outside the script"),
-        Some(b'm' | b'M') => Some(LINES),
-        Some(b'"' | b'\'') => Some(QUOTES),
-        Some(b'0') => Some("matches are counted from 1"),
-        Some(b'1'..=b'9') => Some("give only one number among the flags, of at most 4,294,967,295"),
-        _ => Some(
+fn flag_hint(rest: &[u8]) -> &'static str {
+    match byte_at(rest, 0) {
+        b'I' | b'i' => "for `s/hello/x/I` write `s/[hH][eE][lL][lL][oO]/x/`",
+        b'e' => "POSIX sed can't run other programs: do it outside the script",
+        b'm' | b'M' => LINES,
+        b'"' | b'\'' => QUOTES,
+        b'0' => "matches are counted from 1",
+        b'1'..=b'9' => "give only one number among the flags, of at most 4,294,967,295",
+        _ =>
             "does the text have the delimiter? Then use another one, as in `s,a/b,c,`; the flags are `g`, `p`, a number, and `w` with a file name, each once",
-        ),
     }
 }
 
 /// At a backslash, at a `[` of the first list, or at the verb.
-fn list_hint(rest: &[u8]) -> Option<&'static str> {
-    match rest.first() {
-        Some(b'\\') => Some(
+fn list_hint(rest: &[u8]) -> &'static str {
+    match byte_at(rest, 0) {
+        b'\\' =>
             "write the character itself; a backslash may only precede a backslash, an `n` or the delimiter",
-        ),
-        Some(b'[') => Some(
+        b'[' =>
             "BusyBox reads `[` as the start of a bracket list here: add one character and a `]` after it to both lists, as in `y/[a]/(a]/` for `y/[/(/`",
-        ),
-        _ => Some("make both lists the same length"),
+        _ => "make both lists the same length",
     }
 }
 
 /// Whether the command with this verb has a text on the same line that begins with a backslash.
 pub fn has_escaped_text(rest: &[u8]) -> bool {
-    let text = without_blanks(rest.get(1..).unwrap_or(&[]));
-    text.starts_with(b"\\") && matches!(text.get(1), Some(byte) if *byte != b'\n')
+    let text = without_blanks(skipped(rest, 1));
+    text.starts_with(b"\\") && byte_at(text, 1) != b'\n'
 }
 
 /// At the verb of a text.
 fn text_hint(rest: &[u8]) -> &'static str {
-    let text = without_blanks(rest.get(1..).unwrap_or(&[]));
-    let Some(behind) = text.strip_prefix(b"\\") else {
-        return match rest.first() {
-            Some(b'c') => "write `c\\` and the text on the next line",
-            Some(b'i') => "write `i\\` and the text on the next line",
+    let text = without_blanks(skipped(rest, 1));
+    if !text.starts_with(b"\\") {
+        return match byte_at(rest, 0) {
+            b'c' => "write `c\\` and the text on the next line",
+            b'i' => "write `i\\` and the text on the next line",
             _ => "write `a\\` and the text on the next line",
         };
-    };
-    if behind.strip_prefix(b"\n").unwrap_or(behind).is_empty() {
+    }
+    if "\\\n".as_bytes().starts_with(text) {
         return "`$a\\` adds a missing last newline, but only in GNU sed: add it before sed; for a text write `a\\` and the text on the next line";
     }
-    match rest.first() {
-        Some(b'c') =>
+    match byte_at(rest, 0) {
+        b'c' =>
             "seds differ on a text that begins with a backslash: write `c\\`, a newline and the text",
-        Some(b'i') =>
+        b'i' =>
             "seds differ on a text that begins with a backslash: write `i\\`, a newline and the text",
         _ =>
             "seds differ on a text that begins with a backslash: write `a\\`, a newline and the text",
@@ -459,8 +425,7 @@ fn text_hint(rest: &[u8]) -> &'static str {
 /// Whether braces are next, after blanks or none, and a comment right after them.
 fn has_braced_comment(rest: &[u8]) -> bool {
     let braces = without_blanks(rest);
-    let behind = braces.iter().find(|byte| **byte != b'}');
-    braces.starts_with(b"}") && behind == Some(&b'#')
+    braces.starts_with(b"}") && after_any(braces, "}").starts_with(b"#")
 }
 
 fn label_hint(rest: &[u8]) -> &'static str {
@@ -482,17 +447,20 @@ fn end_hint(spot: Spot) -> &'static str {
         return "BusyBox joins this line with the next one: end the name or the comment with another character";
     }
     let Reading { place, command, .. } = spot.in_script();
-    match (place, spot.rest.first()) {
-        (_, Some(11 | 12)) => "BusyBox skips this character: begin the name with another one",
-        (Place::Flags, Some(b'g' | b'p' | b'w' | b'0'..=b'9' | b'I' | b'i' | b'm' | b'M' | b'e')) =>
+    let byte = byte_at(spot.rest, 0);
+    if byte == 11 || byte == 12 {
+        return "BusyBox skips this character: begin the name with another one";
+    }
+    match place {
+        Place::Flags if is_among(byte, "gpw0123456789IimMe") =>
             "remove the blank before the flag: `s/a/b/p` for `s/a/b/ p`",
-        (Place::Command, Some(b'g')) if command == b'y' =>
+        Place::Command if byte == b'g' && command == b'y' =>
             "`y` takes no flags, and always replaces every character: leave it out",
-        (Place::Label | Place::LabelEnd, _) =>
+        Place::Label | Place::LabelEnd =>
             "a label can't contain blanks: write `:two_words`, and the same after `b` and `t`; a command follows a `;` or a newline",
-        (_, Some(b'0'..=b'9')) if spot.previous() == Some(b'q') =>
+        _ if byte.is_ascii_digit() && spot.follows("q") =>
             "an exit status of `q` is an extension of GNU sed: without it the status is 0, so look for the line outside the script, as with `grep`",
-        (_, Some(b'0'..=b'9')) if matches!(spot.previous(), Some(b'l' | b'L')) => {
+        _ if byte.is_ascii_digit() && spot.follows("lL") => {
             "an exit status of `q` and a width of `l` are extensions of GNU sed: leave them out"
         }
         _ => "end each command with a newline or a `;`",

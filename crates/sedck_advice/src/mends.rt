@@ -1,6 +1,6 @@
 //! Mends that need no judgement: what to write in place of a few bytes, so that the script is read as GNU sed reads it now.
 
-use crate::bytes::is_blank;
+use crate::bytes::{DIGITS, before_any, byte_at, is_among};
 use crate::hints::{BYTE_ORDER_MARK, ends_in_return};
 use crate::spot::Spot;
 use sedck_bre::ReFault;
@@ -49,29 +49,19 @@ fn replaced(after: usize, text: &'static str) -> Mend {
     }
 }
 
-/// The mend, where it is one.
-fn mend_where(is_mend: bool, mend: Mend) -> Option<Mend> {
-    if is_mend { Some(mend) } else { None }
-}
-
 /// For `\!` before a command.
 fn negation_mend(rest: &[u8]) -> Option<Mend> {
-    mend_where(rest.starts_with(b"\\!"), replaced(1, ""))
+    rest.starts_with(b"\\!").then_some(replaced(1, ""))
 }
 
 /// Without the blanks before a flag of `s`.
 fn flag_mend(spot: Spot) -> Option<Mend> {
-    if !is_new_flag(spot) || spot.in_script().place != Place::Flags {
+    if !is_new_flag(spot) || !matches!(spot.in_script().place, Place::Flags) {
         return None;
     }
-    let blanks = spot
-        .before
-        .iter()
-        .rev()
-        .take_while(|byte| is_blank(**byte))
-        .count();
+    let flags = before_any(spot.before, " \t");
     Some(Mend {
-        before: blanks,
+        before: spot.before.len().saturating_sub(flags.len()),
         after: 0,
         text: NewText::Plain(""),
     })
@@ -79,24 +69,21 @@ fn flag_mend(spot: Spot) -> Option<Mend> {
 
 /// Whether the fault is at a flag of POSIX that isn't the last one before the blanks.
 fn is_new_flag(spot: Spot) -> bool {
-    match (spot.previous(), spot.rest.first()) {
-        (Some(b'0'..=b'9'), Some(b'0'..=b'9')) => false,
-        (previous, Some(flag)) => {
-            matches!(*flag, b'g' | b'p' | b'w' | b'1'..=b'9') && previous != Some(*flag)
-        }
-        _ => false,
+    match byte_at(spot.rest, 0) {
+        b'1'..=b'9' => !spot.follows(DIGITS),
+        flag => is_among(flag, "gpw") && spot.previous() != Some(flag),
     }
 }
 
 /// A `;` between a label and the `}` right after it.
 fn label_mend(rest: &[u8]) -> Option<Mend> {
-    mend_where(rest.starts_with(b"}"), replaced(0, ";"))
+    rest.starts_with(b"}").then_some(replaced(0, ";"))
 }
 
 /// For `\0`, where `&` isn't the delimiter.
 fn replacement_mend(spot: Spot) -> Option<Mend> {
     let is_mended = spot.rest.starts_with(b"\\0") && spot.in_script().delimiter != b'&';
-    mend_where(is_mended, replaced(2, "&"))
+    is_mended.then_some(replaced(2, "&"))
 }
 
 /// Another delimiter, for a command in the text that has its own in a list at this offset.
@@ -104,14 +91,15 @@ fn delimiter_mend(text: &[u8], offset: usize) -> Option<Mend> {
     let found = mend_at(text, offset)?;
     let end = found.last.saturating_add(1);
     let part = text.get(found.first..end).unwrap_or(&[]);
-    part.is_ascii().then_some(Mend {
+    let mend = Mend {
         before: offset.saturating_sub(found.first),
         after: end.saturating_sub(offset),
         text: NewText::Delimited {
             other: found.other,
             is_bare: found.is_bare,
         },
-    })
+    };
+    part.is_ascii().then_some(mend)
 }
 
 /// In an expression, where the text has no delimiter.
@@ -129,7 +117,7 @@ fn expression_mend(fault: ReFault, spot: Spot) -> Option<Mend> {
 
 /// For the escapes of GNU sed that POSIX spells in another way.
 fn escape_mend(spot: Spot) -> Option<Mend> {
-    let text = match *spot.rest.get(1)? {
+    let text = match byte_at(spot.rest, 1) {
         b'+' if is_repeatable(spot) => "\\{1,\\}",
         b'?' if is_repeatable(spot) && !is_status(spot) => "\\{0,1\\}",
         b's' => "[[:space:]]",
@@ -149,10 +137,8 @@ fn comma_mend(spot: Spot) -> Option<Mend> {
     if spot.rest.starts_with(b"\\+") {
         return Some(replaced(2, "\\{1\\,\\}"));
     }
-    mend_where(
-        spot.rest.starts_with(b"\\?") && !is_status(spot),
-        replaced(2, "\\{0\\,1\\}"),
-    )
+    let is_mended = spot.rest.starts_with(b"\\?") && !is_status(spot);
+    is_mended.then_some(replaced(2, "\\{0\\,1\\}"))
 }
 
 /// Whether `\$` is before the fault, so that the `$?` of a shell may be meant.
@@ -170,6 +156,6 @@ fn is_repeatable(spot: Spot) -> bool {
 
 /// For `\{,n\}`.
 fn interval_mend(rest: &[u8]) -> Option<Mend> {
-    let is_mended = rest.starts_with(b"\\{,") && matches!(rest.get(3), Some(b'0'..=b'9'));
-    mend_where(is_mended, replaced(2, "\\{0"))
+    let is_mended = rest.starts_with(b"\\{,") && byte_at(rest, 3).is_ascii_digit();
+    is_mended.then_some(replaced(2, "\\{0"))
 }

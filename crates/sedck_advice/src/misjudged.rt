@@ -7,7 +7,8 @@ use sedck_parts::Reading;
 /// Whether the fault is one of an expression that matchers get wrong, at a reference or an anchor of it.
 pub fn is_misjudged(fault: ReFault, spot: Spot) -> bool {
     match fault {
-        ReFault::NothingToRepeat { .. } => matches!(spot.rest.first(), Some(b'^' | b'$')),
+        ReFault::NothingToRepeat { .. } => spot.rest.starts_with(b"^")
+            || spot.rest.starts_with(b"$"),
         ReFault::BadReference { .. } => match spot.rest.get(1) {
             Some(digit) => closes_group(spot, usize::from(digit.saturating_sub(b'0'))),
             None => false,

@@ -1,26 +1,28 @@
 //! What to write in place of `first~step`, an address of GNU sed: each `n` goes on by a line.
 
-use crate::bytes::{verb_in, without_blanks};
+use crate::bytes::{DIGITS, before_any, byte_at, from_verb, without_blanks};
+use sedck_report::skipped;
 
 /// By what ends with the digits before the `~`, and by what follows it. Nothing for an end of a range, nor for a range that begins so.
 pub(crate) fn multiples_hint(before: &[u8], behind: &[u8]) -> Option<&'static str> {
-    let start = match before.iter().rposition(|byte| !byte.is_ascii_digit()) {
-        Some(last) => last.saturating_add(1),
-        None => 0,
-    };
-    if before.get(..start).unwrap_or(&[]).ends_with(b",") {
+    let opening = before_any(before, DIGITS);
+    let verb = byte_at(from_verb(behind), 0);
+    if opening.ends_with(b",") || verb == b',' {
         return None;
     }
-    let first = number_in(before.get(start..).unwrap_or(&[]));
+    let first = number_in(skipped(before, opening.len()));
     let step = number_in(without_blanks(behind));
-    match (step, verb_in(behind)) {
-        (_, Some(b',')) => None,
-        (0, _) => Some("a step of 0 is no step: for `2~0` write `2`"),
-        (1, _) => Some("for `3~1` write `3,$`; `0~1` and `1~1` are all lines"),
-        (_, Some(b'!')) if first > step => None,
-        (_, Some(b'!')) => Some(other_lines_hint(behind)),
-        (_, verb) if first > step => Some(later_hint(verb)),
-        (_, Some(b'd')) => Some(
+    if step == 0 {
+        return Some("a step of 0 is no step: for `2~0` write `2`");
+    }
+    if step == 1 {
+        return Some("for `3~1` write `3,$`; `0~1` and `1~1` are all lines");
+    }
+    match verb {
+        b'!' if first > step => None,
+        b'!' => Some(other_lines_hint(behind)),
+        _ if first > step => Some(later_hint(verb)),
+        b'd' => Some(
             "for `0~3d` alone in a script write `n`, `n` and `d`; for `1~2d` write `$d`, `N` and `s/.*\\n//`; for `2~3d` put an `n` before these, \
                 and for `1~3d` after them",
         ),
@@ -31,25 +33,20 @@ pub(crate) fn multiples_hint(before: &[u8], behind: &[u8]) -> Option<&'static st
 }
 
 /// Where the first line comes after the first step.
-fn later_hint(verb: Option<u8>) -> &'static str {
-    match verb {
-        Some(b'd') =>
-            "for `5~2d` alone in a script write `1,4b`, `$d`, `N` and `s/.*\\n//`; for `5~3d` put an `n` after these",
-        _ =>
-            "for `5~2p` alone in a script write `1,4b`, `p` and `n`; for `5~3p` put one more `n` after these",
+fn later_hint(verb: u8) -> &'static str {
+    if verb == b'd' {
+        return "for `5~2d` alone in a script write `1,4b`, `$d`, `N` and `s/.*\\n//`; for `5~3d` put an `n` after these";
     }
+    "for `5~2p` alone in a script write `1,4b`, `p` and `n`; for `5~3p` put one more `n` after these"
 }
 
 /// Where a `!` follows the step.
 fn other_lines_hint(behind: &[u8]) -> &'static str {
-    let mark = behind.iter().position(|byte| *byte == b'!');
-    let start = mark.unwrap_or(0).saturating_add(1);
-    match verb_in(behind.get(start..).unwrap_or(&[])) {
-        Some(b'd') =>
-            "for `0~3!d` alone in a script write `$d`, `N`, `$d`, `N` and `s/.*\\n//`; for `1~3!d` write `n`, `$!N` and `d`",
-        _ =>
-            "for `0~3!p` alone in a script write `p`, `n`, `p` and `n`; for `1~3!p` write `n`, `p`, `n` and `p`",
+    let negated = skipped(from_verb(behind), 1);
+    if from_verb(negated).starts_with(b"d") {
+        return "for `0~3!d` alone in a script write `$d`, `N`, `$d`, `N` and `s/.*\\n//`; for `1~3!d` write `n`, `$!N` and `d`";
     }
+    "for `0~3!p` alone in a script write `p`, `n`, `p` and `n`; for `1~3!p` write `n`, `p`, `n` and `p`"
 }
 
 /// The number with which the text begins; 0 where it begins with none.

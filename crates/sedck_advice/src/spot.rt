@@ -1,7 +1,8 @@
 //! What is around a fault, as far as a hint depends on it.
 
-use crate::bytes::{is_blank, without_blanks};
+use crate::bytes::{after_any, before_any, byte_at, first_bytes, is_among, without_blanks};
 use sedck_parts::{Place, Reading};
+use sedck_report::skipped;
 
 /// Where a fault is, and what is around it.
 #[derive(Clone, Copy)]
@@ -52,7 +53,7 @@ impl<'a> Spot<'a> {
 
     /// The expression up to the fault.
     pub(crate) fn inside(self) -> &'a [u8] {
-        self.before.get(self.expression..).unwrap_or(&[])
+        skipped(self.before, self.expression)
     }
 
     /// Whether nothing precedes the fault in its expression or group, but for an anchor.
@@ -68,7 +69,7 @@ impl<'a> Spot<'a> {
             .rest
             .len()
             .saturating_sub(self.after_expression().len());
-        self.rest.get(..length).unwrap_or(&[])
+        first_bytes(self.rest, length)
     }
 
     /// What follows the expression and its delimiter.
@@ -83,35 +84,36 @@ impl<'a> Spot<'a> {
 
     /// The script from the byte after the fault's first one on.
     pub(crate) fn behind(self) -> &'a [u8] {
-        self.rest.get(1..).unwrap_or(&[])
+        skipped(self.rest, 1)
     }
 
     /// The byte before the blanks before the fault.
     pub fn previous(self) -> Option<u8> {
-        last_byte(self.before)
+        before_any(self.before, " \t").last().copied()
+    }
+
+    /// Whether one of these is that byte; a newline counts as before the script.
+    pub(crate) fn follows(self, bytes: &str) -> bool {
+        is_among(self.previous().unwrap_or(b'\n'), bytes)
     }
 
     /// What the expression is for.
     pub fn purpose(self) -> Purpose {
-        let opening = self
-            .before
-            .get(..self.expression.saturating_sub(1))
-            .unwrap_or(&[]);
+        let opening = first_bytes(self.before, self.expression.saturating_sub(1));
         if opening.ends_with(b"s") {
-            let mut flags = self.flags().iter();
-            return match flags.find(|byte| !matches!(**byte, b'0'..=b'9' | b'p')) {
-                Some(b'g') => Purpose::ReplacesAll,
-                _ => Purpose::Replaces,
-            };
+            if after_any(self.flags(), "0123456789p").starts_with(b"g") {
+                return Purpose::ReplacesAll;
+            }
+            return Purpose::Replaces;
         }
         let opening = opening.strip_suffix(b"\\").unwrap_or(opening);
-        if last_byte(opening) == Some(b',') {
+        if before_any(opening, " \t").ends_with(b",") {
             return Purpose::Range;
         }
-        match without_blanks(self.after_expression()).first() {
-            Some(b',') => Purpose::Range,
-            Some(b'!') => Purpose::Unless,
-            Some(b'd') => Purpose::Deletes,
+        match byte_at(without_blanks(self.after_expression()), 0) {
+            b',' => Purpose::Range,
+            b'!' => Purpose::Unless,
+            b'd' => Purpose::Deletes,
             _ => Purpose::Selects,
         }
     }
@@ -126,14 +128,9 @@ pub(crate) fn behind_part(part: &[u8], delimiter: u8) -> &[u8] {
     };
     for (index, byte) in part.iter().enumerate() {
         reading = reading.after(*byte);
-        if reading.place == Place::Flags {
-            return part.get(index + 1..).unwrap_or(&[]);
+        if matches!(reading.place, Place::Flags) {
+            return skipped(part, index + 1);
         }
     }
     &[]
-}
-
-/// The last byte that is no blank.
-fn last_byte(text: &[u8]) -> Option<u8> {
-    text.iter().rev().find(|byte| !is_blank(**byte)).copied()
 }
