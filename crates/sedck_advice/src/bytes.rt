@@ -4,9 +4,18 @@ use sedck_report::{line_len, skipped};
 
 pub(crate) const DIGITS: &str = "0123456789";
 
+/// What labels, and names in general, may have.
+pub(crate) const OF_NAMES: &str =
+    "ABCDEFGHIJKLMNOPQRSTUVWXYZabcdefghijklmnopqrstuvwxyz0123456789_.-";
+
 /// Whether the byte is a space or a tab.
 pub fn is_blank(byte: u8) -> bool {
     byte == b' ' || byte == b'\t'
+}
+
+/// Whether the byte ends a word.
+pub(crate) fn ends_word(byte: &u8) -> bool {
+    is_blank(*byte)
 }
 
 /// Whether the byte ends most commands.

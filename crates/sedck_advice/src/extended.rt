@@ -1,19 +1,22 @@
 //! Signs of extended expressions in those of a script, which are read as basic ones.
 
-use crate::bytes::{is_blank, is_of_label};
+use crate::bytes::{DIGITS, OF_NAMES, after_any, byte_at, is_among, is_blank};
 use sedck_parts::{Expression, Reading, expressions_in};
+use sedck_report::skipped;
 use sedck_script::Location;
 use std::alloc::{AllocError, Global};
 
-/// The first sign of an extended expression in what the command has of them.
+/// The first sign of an extended expression in what the commands have of them.
 pub(crate) fn extended_in(
     alloc: Global,
     text: &[u8],
-    location: Location,
+    locations: &[Location],
 ) -> Result<Option<usize>, AllocError> {
-    for expression in &expressions_in(alloc, text, location)? {
-        if let Some(sign) = extended_at(*expression) {
-            return Ok(Some(sign));
+    for location in locations {
+        for expression in &expressions_in(alloc, text, *location)? {
+            if let Some(sign) = extended_at(*expression) {
+                return Ok(Some(sign));
+            }
         }
     }
     Ok(None)
@@ -24,7 +27,7 @@ fn extended_at(expression: Expression) -> Option<usize> {
     let bytes = expression.bytes;
     let mut seen = Seen::before(expression);
     for (index, byte) in bytes.iter().enumerate() {
-        let rest = bytes.get(index.saturating_add(1)..).unwrap_or(&[]);
+        let rest = skipped(bytes, index.saturating_add(1));
         if let Some(sign) = seen.sign_at(index, *byte, rest) {
             return expression.start.checked_add(sign);
         }
@@ -37,8 +40,8 @@ fn extended_at(expression: Expression) -> Option<usize> {
 #[derive(Clone, Copy)]
 struct Seen {
     reading: Reading,
-    /// The byte before, where it is neither of a list nor escaped.
-    previous: Option<u8>,
+    /// The byte before, or a newline where that is of a list or escaped.
+    previous: u8,
     /// Whether a list, a `)` or a `.` is before, which a sign of repetition would repeat.
     may_repeat: bool,
     /// Whether the byte before is of a word behind a backslash or an `@`, as TeX and Texinfo write commands.
@@ -68,7 +71,7 @@ impl Seen {
     fn before(expression: Expression) -> Seen {
         Seen {
             reading: Reading::of_expression(expression.delimiter),
-            previous: None,
+            previous: b'\n',
             may_repeat: false,
             is_markup: false,
             is_open: false,
@@ -90,54 +93,51 @@ impl Seen {
         match byte {
             b'+' | b'?' | b'{' if self.repeats(byte, rest) => Some(index),
             b')' => self.bar.or(self.pair.sign_at(index, rest)),
-            b'^' if self.previous == Some(b'|') => index.checked_sub(1),
-            b'|' if self.previous == Some(b'$') && begins_alternative(rest) => Some(index),
+            b'^' if self.previous == b'|' => index.checked_sub(1),
+            b'|' if self.previous == b'$' && begins_alternative(rest) => Some(index),
             _ => None,
         }
     }
 
     /// Whether this `+`, `?` or `{` looks as if it repeats what is before.
     fn repeats(self, byte: u8, rest: &[u8]) -> bool {
-        let Some(previous) = self.previous else {
-            return self.may_repeat && (byte != b'{' || begins_with_digit(rest));
-        };
         match byte {
-            b'+' => self.may_repeat || (is_ordinary(previous) && is_end_anchor(rest)),
-            b'?' => self.may_repeat || (previous.is_ascii_alphabetic() && goes_on(rest)),
-            _ if self.may_repeat => begins_with_digit(rest),
-            _ => is_ordinary(previous) && !self.is_markup && is_interval(rest),
+            b'{' if self.may_repeat => byte_at(rest, 0).is_ascii_digit(),
+            b'{' => is_ordinary(self.previous) && !self.is_markup && is_interval(rest),
+            b'+' => self.may_repeat || (is_ordinary(self.previous) && is_end_anchor(rest)),
+            _ => self.may_repeat || (self.previous.is_ascii_alphabetic() && goes_on(rest)),
         }
     }
 
     /// What is seen after this byte.
     fn after(self, index: usize, byte: u8) -> Seen {
-        let is_plain = self.is_plain();
         let reading = self.reading.after(byte);
+        let is_markup = match byte {
+            b'\\' => self.reading.is_escaped,
+            b'@' => self.is_plain(),
+            _ => self.is_markup && byte.is_ascii_alphabetic(),
+        };
+        if !self.is_plain() {
+            return Seen {
+                reading,
+                previous: b'\n',
+                may_repeat: self.reading.is_in_list() && !reading.is_in_list(),
+                is_markup,
+                ..self
+            };
+        }
         Seen {
             reading,
-            previous: if is_plain && byte != b'\\' {
-                Some(byte)
-            } else {
-                None
-            },
-            may_repeat: (self.reading.is_in_list() && !reading.is_in_list())
-                || (is_plain && matches!(byte, b')' | b'.')),
-            is_markup: match byte {
-                b'\\' => self.reading.is_escaped,
-                b'@' => is_plain,
-                _ => self.is_markup && byte.is_ascii_alphabetic(),
-            },
-            is_open: self.is_open || (is_plain && byte == b'('),
-            bar: if is_plain && self.is_open && byte == b'|' {
+            previous: if byte == b'\\' { b'\n' } else { byte },
+            may_repeat: byte == b')' || byte == b'.',
+            is_markup,
+            is_open: self.is_open || byte == b'(',
+            bar: if self.is_open && byte == b'|' {
                 Some(index)
             } else {
                 self.bar
             },
-            pair: if is_plain {
-                self.pair.after(index, byte, self.previous)
-            } else {
-                self.pair
-            },
+            pair: self.pair.after(index, byte, self.previous),
         }
     }
 }
@@ -166,19 +166,20 @@ impl Pair {
     }
 
     /// The pair after this byte, which is neither of a list nor escaped.
-    fn after(self, index: usize, byte: u8, previous: Option<u8>) -> Pair {
-        match (byte, self.start) {
-            (b'(', None) => Pair {
+    fn after(self, index: usize, byte: u8, previous: u8) -> Pair {
+        match byte {
+            b'(' if self.start.is_none() => Pair {
                 start: Some(index),
-                is_first: previous == Some(b'^'),
+                is_first: previous == b'^',
                 has_operator: false,
                 ..self
             },
-            (b')', _) => Pair::none(self.is_literal),
-            _ => Pair {
-                has_operator: self.has_operator || matches!(byte, b'*' | b'[' | b'|'),
+            b')' => Pair::none(self.is_literal),
+            b'*' | b'[' | b'|' => Pair {
+                has_operator: true,
                 ..self
             },
+            _ => self,
         }
     }
 }
@@ -203,41 +204,23 @@ fn is_end_anchor(rest: &[u8]) -> bool {
 /// Whether the byte is one that nobody means to be next to a literal `+` at the end, nor to `{3}`. So not `$`, `#` and `%`, which
 /// begin names of other languages, and not `+`, as in `c++`.
 fn is_ordinary(byte: u8) -> bool {
-    byte.is_ascii_alphanumeric()
-        || is_blank(byte)
-        || matches!(byte, b'-' | b'_' | b'=' | b',' | b';' | b':' | b'/')
+    byte.is_ascii_alphanumeric() || is_blank(byte) || is_among(byte, "-_=,;:/")
 }
 
 /// Whether a letter follows a `?`, and not a field of an address of the web, as in `page?id=1`.
 fn goes_on(rest: &[u8]) -> bool {
-    let name = rest.iter().position(|byte| !is_of_label(*byte));
-    let behind = rest.get(name.unwrap_or(rest.len())..).unwrap_or(&[]);
-    matches!(rest.first(), Some(byte) if byte.is_ascii_alphabetic()) && !behind.starts_with(b"=")
+    byte_at(rest, 0).is_ascii_alphabetic() && !after_any(rest, OF_NAMES).starts_with(b"=")
 }
 
 /// Whether what follows `$|` can be an alternative, and no use of Perl's variable.
 fn begins_alternative(rest: &[u8]) -> bool {
-    match rest.first() {
-        Some(byte) => !is_blank(*byte) && !matches!(*byte, b'=' | b'+' | b';'),
-        None => false,
-    }
+    !rest.is_empty() && !is_among(byte_at(rest, 0), " \t=+;")
 }
 
 /// Whether what follows a `{` is a number or two, and a `}`.
 fn is_interval(rest: &[u8]) -> bool {
-    let first = without_digits(rest);
-    let behind = first
-        .strip_prefix(b",")
-        .map_or(first, |second| without_digits(second));
-    begins_with_digit(rest) && behind.starts_with(b"}")
-}
-
-/// The text after the digits with which it begins.
-fn without_digits(text: &[u8]) -> &[u8] {
-    let digits = text.iter().position(|byte| !byte.is_ascii_digit());
-    text.get(digits.unwrap_or(text.len())..).unwrap_or(&[])
-}
-
-fn begins_with_digit(text: &[u8]) -> bool {
-    matches!(text.first(), Some(byte) if byte.is_ascii_digit())
+    let behind = after_any(rest, DIGITS);
+    let is_pair = behind.starts_with(b",")
+        && after_any(skipped(behind, 1), DIGITS).starts_with(b"}");
+    byte_at(rest, 0).is_ascii_digit() && (behind.starts_with(b"}") || is_pair)
 }

@@ -4,12 +4,12 @@ ghost use Rattle.std.specs.Prelude.{◌≡◌, false, OnOk};
 ghost use Rattle.sedck_report.specs.Levels.{is_error, is_locale};
 ghost use Rattle.sedck_advice.specs.Added.{AddsOthers};
 
-use crate::bytes::{is_blank, without_blanks};
+use crate::bytes::{after_any, byte_at, ends_word, first_line, is_among, without_blanks};
 use crate::comments::silencing;
 use crate::extended::extended_in;
 use sedck_parts::{Place, Reading};
 use sedck_report::{
-    Code, Finding, Fix, Level, NewText, Position, end_behind, line_len, position_at, positions,
+    Code, Finding, Fix, Level, NewText, Position, end_behind, position_at, positions, skipped,
 };
 use sedck_script::Location;
 use std::alloc::{AllocError, Global};
@@ -75,19 +75,19 @@ pub(crate) fn looks_of(
     for position in &positions(alloc, text, &silencing(alloc, text)?)? {
         looks.push(comment_look(text, *position))?;
     }
-    for location in locations {
-        if let Some(look) = text_look(text, *location) {
-            looks.push(look)?;
-            break;
-        }
-    }
-    for location in locations {
-        if let Some(offset) = extended_in(alloc, text, *location)? {
-            looks.push(extended_look(position_at(text, offset)))?;
-            break;
-        }
+    push_any(&mut looks, text_look(text, locations))?;
+    if let Some(offset) = extended_in(alloc, text, locations)? {
+        looks.push(extended_look(position_at(text, offset)))?;
     }
     Ok(looks)
+}
+
+/// Adds what is said, if anything is.
+pub(crate) fn push_any(looks: &mut Vec<Look>, look: Option<Look>) -> Result<(), AllocError> {
+    if let Some(look) = look {
+        looks.push(look)?;
+    }
+    Ok(())
 }
 
 /// What is said of options in the first line.
@@ -147,30 +147,33 @@ fn comment_look(text: &[u8], position: Position) -> Look {
     }
 }
 
-/// What is said of a text on the line of its command. Where it begins with a backslash, `sed --posix` takes it.
-fn text_look(text: &[u8], location: Location) -> Option<Look> {
-    let command = text.get(location.verb..location.end)?;
-    let verb = *command.first()?;
-    if !matches!(verb, b'a' | b'c' | b'i') {
-        return None;
+/// What is said of the first text on the line of its command.
+fn text_look(text: &[u8], locations: &[Location]) -> Option<Look> {
+    for location in locations {
+        let command = text.get(location.verb..location.end).unwrap_or(&[]);
+        let given = without_blanks(skipped(command, 1));
+        if is_among(byte_at(command, 0), "aci") && !given.starts_with(b"\\\n") {
+            return Some(given_look(text, location.verb, given));
+        }
     }
-    let given = without_blanks(command.get(1..)?);
-    if given.starts_with(b"\\\n") {
-        return None;
-    }
+    None
+}
+
+/// The same of this text of this verb. Where it begins with a backslash, `sed --posix` takes it.
+fn given_look(text: &[u8], verb: usize, given: &[u8]) -> Look {
     let message = if given.starts_with(b"\\") {
         "seds that know the form of the standard alone refuse a text on the line of its command"
     } else {
         "`sed --posix`, and seds that know the form of the standard alone, refuse a text on the line of its command"
     };
-    Some(Look {
-        position: position_at(text, location.verb),
+    Look {
+        position: position_at(text, verb),
         end: None,
         code: Code::OneLineText,
         message,
-        hint: standing_text(verb),
+        hint: standing_text(byte_at(text, verb)),
         fix: None,
-    })
+    }
 }
 
 /// How the text of this verb is written on a line of its own.
@@ -200,9 +203,8 @@ fn has_options(text: &[u8]) -> bool {
     if !text.starts_with(b"#!") {
         return false;
     }
-    let line = &text[..line_len(text)];
     let mut is_behind = false;
-    for word in line.split(|byte| is_blank(*byte)) {
+    for word in first_line(text).split(ends_word) {
         if is_behind && is_option(word) {
             return true;
         }
@@ -213,10 +215,7 @@ fn has_options(text: &[u8]) -> bool {
 
 /// Whether the word is an option other than `-n` and `-f`.
 fn is_option(word: &[u8]) -> bool {
-    match word.strip_prefix(b"-") {
-        Some(letters) => letters.iter().any(|byte| !matches!(*byte, b'n' | b'f')),
-        None => false,
-    }
+    word.starts_with(b"-") && !after_any(skipped(word, 1), "nf").is_empty()
 }
 
 /// Where branches end in a `}` that some seds take for a part of the label.
@@ -226,7 +225,7 @@ fn braces(alloc: Global, text: &[u8], locations: &[Location]) -> Result<Vec<usiz
         let command = text.get(location.verb..location.end).unwrap_or(&[]);
         let end = Reading::SCRIPT.through(command).place;
         let is_joined = matches!(end, Place::LabelBegin | Place::Label);
-        if is_joined && text.get(location.end) == Some(&b'}') {
+        if is_joined && byte_at(text, location.end) == b'}' {
             offsets.push(location.end)?;
         }
     }
