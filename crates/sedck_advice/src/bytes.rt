@@ -23,11 +23,6 @@ pub(crate) fn ends_command(byte: &u8) -> bool {
     is_among(*byte, ";\n")
 }
 
-/// Whether labels, and names in general, may have the byte.
-pub(crate) fn is_of_label(byte: u8) -> bool {
-    byte.is_ascii_alphanumeric() || matches!(byte, b'_' | b'.' | b'-')
-}
-
 /// The byte at this offset; a newline where the text has none there.
 pub(crate) fn byte_at(text: &[u8], offset: usize) -> u8 {
     text.get(offset).copied().unwrap_or(b'\n')
@@ -36,6 +31,11 @@ pub(crate) fn byte_at(text: &[u8], offset: usize) -> u8 {
 /// Whether the byte is one of these.
 pub(crate) fn is_among(byte: u8, bytes: &str) -> bool {
     bytes.as_bytes().contains(&byte)
+}
+
+/// Whether the text has one of these bytes.
+pub(crate) fn has_one_of(text: &[u8], bytes: &str) -> bool {
+    until_any(text, bytes).len() < text.len()
 }
 
 /// Whether the text has all of this somewhere.
@@ -113,6 +113,12 @@ pub(crate) fn first_command(text: &[u8]) -> &[u8] {
 /// The text behind that `;` or newline.
 pub(crate) fn behind_command(text: &[u8]) -> &[u8] {
     skipped(text, first_command(text).len().saturating_add(1))
+}
+
+/// The label or other name with which the text begins.
+pub(crate) fn first_name(text: &[u8]) -> &[u8] {
+    let length = text.len().saturating_sub(after_any(text, OF_NAMES).len());
+    first_bytes(text, length)
 }
 
 /// The text before its first newline.

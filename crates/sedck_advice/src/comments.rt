@@ -1,8 +1,8 @@
 //! The comments of a script, and those that some seds take for `#n`, by which a sed prints no line on its own.
 
-use crate::bytes::is_blank;
+use crate::bytes::{first_line, is_blank};
 use sedck_parts::{Place, Reading};
-use sedck_report::line_len;
+use sedck_report::skipped;
 use std::alloc::{AllocError, Global};
 
 /// A comment of a script.
@@ -25,13 +25,12 @@ pub(crate) fn comments_in(alloc: Global, text: &[u8]) -> Result<Vec<Comment>, Al
     for (offset, byte) in text.iter().enumerate() {
         let before = reading.place;
         reading = reading.after(*byte);
-        if reading.place == Place::Comment && before != Place::Comment {
-            let rest = text.get(offset..).unwrap_or(&[]);
+        if matches!(reading.place, Place::Comment) && !matches!(before, Place::Comment) {
             comments.push(Comment {
                 offset,
-                bytes: rest.get(..line_len(rest)).unwrap_or(&[]),
+                bytes: first_line(skipped(text, offset)),
                 is_alone,
-                follows_flags: before == Place::Flags,
+                follows_flags: matches!(before, Place::Flags),
             })?;
         }
         is_alone = *byte == b'\n' || is_alone && is_blank(*byte);

@@ -1,6 +1,9 @@
 //! Texts that are no scripts of sed, by how they begin.
 
-use crate::bytes::{is_blank, is_of_label, without_blanks};
+use crate::bytes::{
+    after_any, begins_with_one, byte_at, first_line, first_name, has, without_blanks,
+};
+use sedck_report::skipped;
 
 /// What is said of a refused text that looks like something else.
 #[derive(Clone, Copy)]
@@ -40,16 +43,22 @@ pub fn other_kind(text: &[u8]) -> Option<Foreign> {
     if text.starts_with(b"sedck ") {
         return Some(CERTIFICATE);
     }
-    let mut lines = text.split(is_newline).filter(|line| !is_left_out(line));
-    let first = lines.next()?;
-    let second = lines.next().unwrap_or(&[]);
-    other_lines(first, second)
+    let mut first: &[u8] = &[];
+    for line in text.split(is_newline) {
+        if is_left_out(line) {
+            continue;
+        }
+        if !first.is_empty() {
+            return other_lines(first, line);
+        }
+        first = line;
+    }
+    other_lines(first, &[])
 }
 
 /// By the first line, which names a program.
 fn other_program(text: &[u8]) -> Option<Foreign> {
-    let first = text.split(is_newline).next().unwrap_or(&[]);
-    if names_sed(first) {
+    if names_sed(first_line(text)) {
         return None;
     }
     Some(Foreign {
@@ -66,7 +75,7 @@ fn is_newline(byte: &u8) -> bool {
 fn other_lines(first: &[u8], second: &[u8]) -> Option<Foreign> {
     let message = if is_target(first) && second.starts_with(b"\t") {
         "this looks like a makefile, not a sed script"
-    } else if is_assignment(first) || begins_command(first) {
+    } else if is_assignment(first) || begins_with_one(first, SHELL_WORDS) {
         "this looks like a shell script or a makefile, not a sed script"
     } else {
         return None;
@@ -77,46 +86,25 @@ fn other_lines(first: &[u8], second: &[u8]) -> Option<Foreign> {
     })
 }
 
-/// Whether the line begins with one of the shell's words.
-fn begins_command(line: &[u8]) -> bool {
-    SHELL_WORDS
-        .iter()
-        .any(|word| line.starts_with(word.as_bytes()))
-}
-
 /// Whether a word of the line ends in `sed`.
 fn names_sed(line: &[u8]) -> bool {
-    line.split(|byte| is_blank(*byte))
-        .any(|word| word.ends_with(b"sed"))
+    line.ends_with(b"sed") || has(line, "sed ") || has(line, "sed\t")
 }
 
 /// Whether the line is blank or a comment.
 fn is_left_out(line: &[u8]) -> bool {
-    match without_blanks(line).first() {
-        Some(byte) => *byte == b'#',
-        None => true,
-    }
+    let text = without_blanks(line);
+    text.is_empty() || text.starts_with(b"#")
 }
 
 /// Whether the line begins with a name of at least two bytes and a `=`, as `prefix=/usr` and `CC := cc`.
 fn is_assignment(line: &[u8]) -> bool {
-    let length = name_length(line);
-    let rest = line.get(length..).unwrap_or(&[]);
-    let start = rest
-        .iter()
-        .position(|byte| !matches!(*byte, b' ' | b':' | b'?' | b'+'))
-        .unwrap_or(rest.len());
-    length > 1 && rest.get(start) == Some(&b'=')
+    let length = first_name(line).len();
+    length > 1 && after_any(skipped(line, length), " :?+").starts_with(b"=")
 }
 
 /// Whether the line begins with a name of at least two bytes and a `:`, as `all: sedck`.
 fn is_target(line: &[u8]) -> bool {
-    let length = name_length(line);
-    length > 1 && line.get(length) == Some(&b':')
-}
-
-/// How many letters, digits, `_`, `.` and `-` the line begins with.
-fn name_length(line: &[u8]) -> usize {
-    let length = line.iter().position(|byte| !is_of_label(*byte));
-    length.unwrap_or(line.len())
+    let length = first_name(line).len();
+    length > 1 && byte_at(line, length) == b':'
 }

@@ -1,7 +1,7 @@
 //! Labels that are read as POSIX has them, and otherwise by some seds.
 
-use crate::bytes::{is_of_label, without_blanks};
-use crate::looks::Look;
+use crate::bytes::{OF_NAMES, byte_at, first_name, is_among, without_blanks};
+use crate::looks::{Look, push_any};
 use sedck_parts::{Place, Reading};
 use sedck_report::{Code, end_behind, position_at};
 use sedck_script::Location;
@@ -18,22 +18,18 @@ pub(crate) fn label_looks(
     text: &[u8],
     locations: &[Location],
 ) -> Result<Vec<Look>, AllocError> {
+    let alike = alike_label(alloc, text, locations)?;
     let mut looks = Vec::new(alloc);
-    if let Some(look) = followed_label(text, locations) {
-        looks.push(look)?;
-    }
-    if let Some(look) = alike_label(alloc, text, locations)? {
-        looks.push(look)?;
-    }
+    push_any(&mut looks, followed_label(text, locations))?;
+    push_any(&mut looks, alike)?;
     Ok(looks)
 }
 
 /// Of the first label of `:`, `b` or `t` that something follows on its line, also where it is left out.
 fn followed_label(text: &[u8], locations: &[Location]) -> Option<Look> {
     for location in locations {
-        let verb = text.get(location.verb).copied().unwrap_or(b'\n');
-        let next = text.get(location.end).copied().unwrap_or(b'\n');
-        if matches!(verb, b':' | b'b' | b't') && next != b'\n' {
+        let verb = byte_at(text, location.verb);
+        if is_among(verb, ":bt") && byte_at(text, location.end) != b'\n' {
             let position = position_at(text, location.end);
             return Some(Look {
                 position,
@@ -80,9 +76,7 @@ fn label_of(text: &[u8], location: Location) -> &[u8] {
     let Some(rest) = command.strip_prefix(b":") else {
         return &[];
     };
-    let label = without_blanks(rest);
-    let length = label.iter().position(|byte| !is_of_label(*byte));
-    label.get(..length.unwrap_or(label.len())).unwrap_or(&[])
+    first_name(without_blanks(rest))
 }
 
 /// The most labels that are listed.
@@ -95,9 +89,10 @@ pub fn listed_labels(alloc: Global, text: &[u8]) -> Result<String, AllocError> {
     let mut count = 0usize;
     let mut reading = Reading::SCRIPT;
     // A newline ends a label that is the script's end, too.
-    for byte in text.iter().chain(b"\n".iter()) {
+    for offset in 0..text.len().saturating_add(1) {
+        let byte = byte_at(text, offset);
         let before = reading.place;
-        reading = reading.after(*byte);
+        reading = reading.after(byte);
         if reading.command == b':' {
             let words = match (before, reading.place) {
                 (Place::LabelBegin, Place::Label) => {
@@ -109,8 +104,11 @@ pub fn listed_labels(alloc: Global, text: &[u8]) -> Result<String, AllocError> {
                 _ => "",
             };
             listed.push_str(words)?;
-            if reading.place == Place::Label && count <= LISTED && is_of_label(*byte) {
-                listed.push(char::from(*byte))?;
+            if matches!(reading.place, Place::Label)
+                && count <= LISTED
+                && is_among(byte, OF_NAMES)
+            {
+                listed.push(char::from(byte))?;
             }
         }
     }

@@ -1,5 +1,6 @@
 //! Bracket lists and lists of `y` that are read as POSIX has them, and seldom mean that.
 
+use crate::bytes::{after_any, byte_at, has_one_of, is_among};
 use crate::looks::Look;
 use sedck_parts::{Expression, Place, Reading, expressions_in};
 use sedck_report::{Code, end_behind, position_at};
@@ -107,7 +108,7 @@ fn escape_in(expression: Expression) -> Option<usize> {
     let mut reading = Reading::of_expression(expression.delimiter);
     let mut is_escaped = false;
     for (index, byte) in expression.bytes.iter().enumerate() {
-        if is_escaped && matches!(*byte, b'a' | b'f' | b'r' | b't' | b'v') {
+        if is_escaped && is_among(*byte, "afrtv") {
             return expression.start.checked_add(index)?.checked_sub(1);
         }
         is_escaped = *byte == b'\\' && is_before_member(reading.place) && !is_escaped;
@@ -148,11 +149,8 @@ fn class_in(expression: Expression) -> Option<List> {
 
 /// Whether GNU sed refuses the list for its colons: one is first, one is last, and between are other bytes, but no range and no class.
 fn is_bare_class(list: &[u8]) -> bool {
-    match colon_name(list) {
-        Some(name) => name.iter().any(|byte| *byte != b':')
-            && !name.iter().any(|byte| matches!(*byte, b'-' | b'[')),
-        None => false,
-    }
+    let name = colon_name(list).unwrap_or(&[]);
+    !after_any(name, ":").is_empty() && !has_one_of(name, "-[")
 }
 
 /// What is between the colons of a list that begins and ends with one.
@@ -179,16 +177,10 @@ fn has_ranges(command: &[u8]) -> bool {
 
 /// Whether the bytes around this one are ends of a range: both digits, capital or small letters, in their order.
 fn is_range(bytes: &[u8], index: usize) -> bool {
-    let before = bytes.get(index.saturating_sub(1));
-    let (Some(from), Some(b'-'), Some(to)) = (
-        before,
-        bytes.get(index),
-        bytes.get(index.saturating_add(1)),
-    ) else {
-        return false;
-    };
+    let from = byte_at(bytes, index.saturating_sub(1));
+    let to = byte_at(bytes, index.saturating_add(1));
     let is_of_one_kind = (from.is_ascii_digit() && to.is_ascii_digit())
         || (from.is_ascii_uppercase() && to.is_ascii_uppercase())
         || (from.is_ascii_lowercase() && to.is_ascii_lowercase());
-    is_of_one_kind && from < to
+    byte_at(bytes, index) == b'-' && is_of_one_kind && from < to
 }
