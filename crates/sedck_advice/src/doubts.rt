@@ -3,6 +3,7 @@
 ghost use Rattle.std.specs.Prelude.{◌≡◌, true, false};
 ghost use Rattle.sedck_report.specs.Levels.{is_locale};
 
+use crate::bytes::{begins_with_one, has, has_one_of};
 use sedck_call::last_part;
 use sedck_report::{Code, is_printable};
 
@@ -55,19 +56,18 @@ pub(crate) fn reason_of(code: Code) -> &'static str {
 pub(crate) fn is_doubtful(code: Code, name: &[u8]) -> bool
     ensures { result ≡ true → is_locale code ≡ false }
 {
-    let mut parts = name.split(|byte| *byte == b'/');
     match code {
         Code::StreamName => is_one_of(name, STREAMS),
-        Code::DeviceName => is_device(name) && !is_one_of(name, STREAMS),
-        Code::AbsoluteName => name.starts_with(b"/") && !is_device(name),
-        Code::UpwardName => parts.any(|part| part == b"..".as_slice()),
+        Code::DeviceName => begins_with_one(name, DEVICE_FOLDERS) && !is_one_of(name, STREAMS),
+        Code::AbsoluteName => name.starts_with(b"/") && !begins_with_one(name, DEVICE_FOLDERS),
+        Code::UpwardName => leads_up(name),
         Code::UnprintableName => name.iter().any(|byte| !is_printable(*byte)),
         Code::BlankAtEnd => name.ends_with(b" "),
-        Code::CommandInName => name.iter().any(|byte| matches!(*byte, b';' | b'}' | b'#')),
-        Code::HiddenName => { parts.any(|part| part.starts_with(b".") && !is_one_of(part, DOTS)) }
+        Code::CommandInName => has_one_of(name, ";}#"),
+        Code::HiddenName => is_hidden(name),
         Code::MakefileName => is_one_of(last_part(name), MAKEFILES),
         Code::OptionName => name.starts_with(b"-"),
-        Code::ShellByteInName => has_shell_byte(name),
+        Code::ShellByteInName => name.starts_with(b"~") || has_one_of(name, "'\"*?[$|`&<>"),
         _ => false,
     }
 }
@@ -85,17 +85,26 @@ static DEVICE_FOLDERS: &'static [&'static str] = &["/dev/", "/proc/", "/sys/"];
 static MAKEFILES: &'static [&'static str] = &["Makefile", "makefile", "GNUmakefile"];
 
 fn is_one_of(name: &[u8], names: &[&str]) -> bool {
-    names.iter().any(|other| other.as_bytes() == name)
+    for other in names {
+        if other.as_bytes() == name {
+            return true;
+        }
+    }
+    false
 }
 
-fn is_device(name: &[u8]) -> bool {
-    DEVICE_FOLDERS
-        .iter()
-        .any(|folder| name.starts_with(folder.as_bytes()))
+/// Whether a part of the name is `..`.
+fn leads_up(name: &[u8]) -> bool {
+    let is_at_end = name.starts_with(b"../") || name.ends_with(b"/..");
+    is_at_end || has(name, "/../") || name == b"..".as_slice()
 }
 
-/// Whether a shell would name another file by these bytes.
-fn has_shell_byte(name: &[u8]) -> bool {
-    let marks = "'\"*?[$|`&<>".as_bytes();
-    name.starts_with(b"~") || name.iter().any(|byte| marks.contains(byte))
+/// Whether a part of the name begins with a `.`, and is no name of a folder.
+fn is_hidden(name: &[u8]) -> bool {
+    for part in name.split(|byte| *byte == b'/') {
+        if part.starts_with(b".") && !is_one_of(part, DOTS) {
+            return true;
+        }
+    }
+    false
 }

@@ -105,12 +105,13 @@ fn push_doubts<'a>(
     access: Access,
 ) -> Result<(), AllocError> {
     let name = file.name;
+    let is_written = matches!(access, Access::Write);
     for code in DOUBTS {
         let is_meant = match *code {
             // What is read of both is no matter.
-            Code::ReadAndWritten => access == Access::Write && has_name(paths.files.reads, name),
-            Code::NamesItself => access == Access::Write && paths.is_own(name),
-            Code::WritesItsInput => access == Access::Write && paths.is_input(alloc, name)?,
+            Code::ReadAndWritten => is_written && has_name(paths.files.reads, name),
+            Code::NamesItself => is_written && paths.is_own(name),
+            Code::WritesItsInput => is_written && paths.is_input(alloc, name)?,
             Code::SameFile => paths.is_shared(alloc, name)?,
             code => is_doubtful(code, name),
         };

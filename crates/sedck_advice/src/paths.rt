@@ -53,9 +53,10 @@ impl<'a> Paths<'a> {
         let Ok(index) = self.sorted.binary_search(&path) else {
             return Ok(false);
         };
-        let before = index
-            .checked_sub(1)
-            .and_then(|before| self.sorted.get(before));
+        let before = match index.checked_sub(1) {
+            Some(before) => self.sorted.get(before),
+            None => None,
+        };
         let behind = self.sorted.get(index.saturating_add(1));
         Ok(before == Some(&path) || behind == Some(&path))
     }

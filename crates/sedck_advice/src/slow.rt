@@ -42,11 +42,12 @@ pub fn slow_of(script: &Script, positions: &[Position]) -> Option<Slow>
 
 /// Where the first command is that repeats a reference.
 fn first_repeating(script: &Script, positions: &[Position]) -> Option<Position> {
-    let index = script
-        .commands()
-        .iter()
-        .position(|command| weight_of_command(command).repetition)?;
-    positions.get(index).copied()
+    for (command, position) in script.commands().iter().zip(positions) {
+        if weight_of_command(command).repetition {
+            return Some(*position);
+        }
+    }
+    None
 }
 
 /// Where the command is whose intervals write out the most items.
