@@ -4,9 +4,10 @@ ghost use Rattle.std.specs.Prelude.{◌≡◌, OnOk};
 ghost use Rattle.sedck_advice.specs.Added.{AddsOthers};
 ghost use Rattle.sedck_advice.specs.Ignored.{is_kept};
 
-use crate::bytes::{is_blank, without_blanks};
+use crate::bytes::{is_among, until_any, without_blanks};
 use crate::comments::{Comment, comments_in};
-use sedck_report::{Code, Finding, Level, Position, end_behind, positions, shown_name};
+use crate::doubts::DOUBTS;
+use sedck_report::{Code, Finding, Level, Position, end_behind, positions, shown_name, skipped};
 use std::alloc::{AllocError, Global};
 
 /// What stands for a code in such a comment, or a word because of which the comment ignores nothing.
@@ -19,7 +20,7 @@ pub struct Word<'a> {
 }
 
 /// What a word is in its comment.
-#[derive(Clone, Copy, PartialEq, Eq)]
+#[derive(Clone, Copy)]
 enum Role {
     /// It stands for a code.
     Code,
@@ -36,18 +37,15 @@ enum Role {
 impl Word<'_> {
     /// The code of a warning or a note that it names.
     fn named(self) -> Option<Code> {
-        NAMED
-            .iter()
-            .find(|code| code.name().as_bytes() == self.bytes)
-            .copied()
+        code_among(NAMED, self.bytes).or(code_among(DOUBTS, self.bytes))
     }
 
     /// The code that it names, if that may be ignored.
     pub fn code(self) -> Option<Code> {
-        if self.role != Role::Code {
-            return None;
+        match self.named() {
+            Some(code) if matches!(self.role, Role::Code) && !is_kept(code) => Some(code),
+            _ => None,
         }
-        self.named().filter(|code| !is_kept(*code))
     }
 }
 
@@ -69,7 +67,17 @@ pub fn is_kept(code: Code) -> bool
     )
 }
 
-/// The codes of warnings and notes on what a script is: all but those on what isn't known of it.
+/// The code with this name, if it is one of these.
+fn code_among(codes: &[Code], name: &[u8]) -> Option<Code> {
+    for code in codes {
+        if code.name().as_bytes() == name {
+            return Some(*code);
+        }
+    }
+    None
+}
+
+/// The codes of warnings and notes on what a script is, beside those on names: all but those on what isn't known of it.
 static NAMED: &'static [Code] = &[
     Code::OptionsInFirstLine,
     Code::BraceBehindLabel,
@@ -80,21 +88,6 @@ static NAMED: &'static [Code] = &[
     Code::BackslashInList,
     Code::ClassWithoutList,
     Code::RangeInY,
-    Code::StreamName,
-    Code::DeviceName,
-    Code::AbsoluteName,
-    Code::UpwardName,
-    Code::UnprintableName,
-    Code::BlankAtEnd,
-    Code::CommandInName,
-    Code::HiddenName,
-    Code::MakefileName,
-    Code::OptionName,
-    Code::ShellByteInName,
-    Code::ReadAndWritten,
-    Code::SameFile,
-    Code::NamesItself,
-    Code::WritesItsInput,
     Code::UnknownCode,
     Code::InPlace,
     Code::NoBound,
@@ -126,34 +119,31 @@ fn add_words<'a>(
     comment: Comment<'a>,
     order: &'a [u8],
 ) -> Result<(), AllocError> {
-    if order.is_empty() {
-        let Comment { offset, bytes, .. } = comment;
-        let role = Role::Empty;
-        return Ok(words.push(Word {
-            offset,
-            bytes,
-            role,
-        })?);
-    }
-    let first = order.split(|byte| is_blank(*byte)).next().unwrap_or(order);
-    let listed = order.get(first.len()..).unwrap_or(&[]);
+    let first = until_any(order, " \t");
+    let listed = skipped(order, first.len());
     let before = comment.bytes.len().saturating_sub(order.len());
     let offset = comment.offset.saturating_add(before);
-    let role = role_of(first, listed, comment.is_alone);
-    if role == Role::Code {
-        return add_codes(words, offset.saturating_add(first.len()), listed);
-    }
-    let word = Word {
-        offset,
-        bytes: first,
-        role,
+    let word = match role_of(first, listed, comment.is_alone) {
+        Role::Code => return add_codes(words, offset.saturating_add(first.len()), listed),
+        Role::Empty => Word {
+            offset: comment.offset,
+            bytes: comment.bytes,
+            role: Role::Empty,
+        },
+        role => Word {
+            offset,
+            bytes: first,
+            role,
+        },
     };
     Ok(words.push(word)?)
 }
 
 /// What the first word of a comment makes of it, by what follows the word. It is `Code` where codes are listed.
 fn role_of(first: &[u8], listed: &[u8], is_alone: bool) -> Role {
-    if first != b"ignore".as_slice() {
+    if first.is_empty() {
+        Role::Empty
+    } else if first != b"ignore".as_slice() {
         Role::Order
     } else if !is_alone {
         Role::AfterCommand
@@ -171,7 +161,7 @@ fn add_codes<'a>(
     listed: &'a [u8],
 ) -> Result<(), AllocError> {
     let mut offset = start;
-    for bytes in listed.split(|byte| is_blank(*byte) || *byte == b',') {
+    for bytes in listed.split(ends_code) {
         if !bytes.is_empty() {
             words.push(Word {
                 offset,
@@ -182,6 +172,10 @@ fn add_codes<'a>(
         offset = offset.saturating_add(bytes.len()).saturating_add(1);
     }
     Ok(())
+}
+
+fn ends_code(byte: &u8) -> bool {
+    is_among(*byte, " \t,")
 }
 
 /// A warning for each of the first words that name no code that may be ignored.
@@ -241,52 +235,47 @@ fn push_unknown(
 
 /// Why the comment ignores nothing by the word, and a hint.
 fn unknown_words_of(alloc: Global, word: Word) -> Result<(String, &'static str), AllocError> {
-    let name = shown_name(alloc, word.bytes)?;
-    match word.role {
-        Role::Code => code_words(alloc, name.as_str(), word.named().is_some()),
-        Role::Order => Ok((
-            format!(in alloc; "\"{name}\" is unknown here: this comment ignores nothing")?,
-            "`# sedck: ignore CODE` ignores the warnings and notes with that code",
-        )),
-        Role::Empty => Ok((
-            String::from_str(
-                alloc,
-                "nothing follows `sedck:`, so this comment ignores nothing",
-            )?,
-            "`# sedck: ignore CODE` ignores the warnings and notes with that code",
-        )),
-        Role::Alone => Ok((
-            String::from_str(alloc, "this comment names no code, so it ignores nothing")?,
-            "write the codes after `ignore`, as `# sedck: ignore absolute-name`",
-        )),
-        Role::AfterCommand => Ok((
-            String::from_str(
-                alloc,
-                "this comment follows a command, so it ignores nothing",
-            )?,
-            "put it on a line of its own",
-        )),
-    }
+    let (before, behind, hint) = words_around(word);
+    let named: &[u8] = match word.role {
+        Role::Code | Role::Order => word.bytes,
+        _ => &[],
+    };
+    let name = shown_name(alloc, named)?;
+    Ok((format!(in alloc; "{before}{name}{behind}")?, hint))
 }
 
-/// Why a comment doesn't ignore what is named, which is a code or isn't, and a hint.
-fn code_words(
-    alloc: Global,
-    name: &str,
-    is_code: bool,
-) -> Result<(String, &'static str), AllocError> {
-    if is_code {
-        return Ok((
-            format!(in alloc;
-                "no comment can ignore \"{name}\": whether a yes holds depends on it"
-            )?,
+/// What is said before and behind the word where it is named, or without it, and a hint.
+fn words_around(word: Word) -> (&'static str, &'static str, &'static str) {
+    match word.role {
+        Role::Code if word.named().is_some() => (
+            "no comment can ignore \"",
+            "\": whether a yes holds depends on it",
             "take the code out of the comment, and change the script where it is reported",
-        ));
+        ),
+        Role::Code => (
+            "\"",
+            "\" is not the code of a warning or a note: this comment doesn't ignore it",
+            "a code is what a report shows in brackets after a message; errors can't be ignored",
+        ),
+        Role::Order => (
+            "\"",
+            "\" is unknown here: this comment ignores nothing",
+            "`# sedck: ignore CODE` ignores the warnings and notes with that code",
+        ),
+        Role::Empty => (
+            "nothing follows `sedck:`, so this comment ignores nothing",
+            "",
+            "`# sedck: ignore CODE` ignores the warnings and notes with that code",
+        ),
+        Role::Alone => (
+            "this comment names no code, so it ignores nothing",
+            "",
+            "write the codes after `ignore`, as `# sedck: ignore absolute-name`",
+        ),
+        Role::AfterCommand => (
+            "this comment follows a command, so it ignores nothing",
+            "",
+            "put it on a line of its own",
+        ),
     }
-    Ok((
-        format!(in alloc;
-            "\"{name}\" is not the code of a warning or a note: this comment doesn't ignore it"
-        )?,
-        "a code is what a report shows in brackets after a message; errors can't be ignored",
-    ))
 }
