@@ -1,7 +1,9 @@
 //! Where bytes above 127 are repeated by themselves, are in no whole character, or are in lists of `y`, and the characters of UTF-8 of
 //! which they are parts.
 
+use crate::bytes::{byte_at, first_bytes};
 use sedck_parts::{Expression, Reading, expressions_in};
+use sedck_report::skipped;
 use sedck_script::{Location, Part, Pattern, Script, Verb};
 use std::alloc::{AllocError, Global};
 use std::str;
@@ -55,7 +57,7 @@ fn repeated_in(expression: Expression, command: &[u8]) -> Option<Character> {
     let mut groups = 0usize;
     for (index, byte) in expression.bytes.iter().enumerate() {
         let end = index.saturating_add(1);
-        let rest = expression.bytes.get(end..).unwrap_or(&[]);
+        let rest = skipped(expression.bytes, end);
         if *byte > 127 && !reading.is_in_list() && is_repeated(rest) {
             let may_be_grouped = may_be_grouped(expression, command, groups);
             return Some(character_before(expression, end, may_be_grouped));
@@ -75,18 +77,14 @@ fn is_repeated(rest: &[u8]) -> bool {
 
 /// The character that ends here in the expression, or its last byte.
 fn character_before(expression: Expression, end: usize, may_be_grouped: bool) -> Character {
+    let before = first_bytes(expression.bytes, end);
     for length in 2..=4usize {
         let start = end.saturating_sub(length);
-        let bytes = expression.bytes.get(start..end).unwrap_or(&[]);
-        if let Some(character) = only_character(bytes) {
+        if let Some(character) = only_character(skipped(before, start)) {
             return Character {
                 start: expression.start.saturating_add(start),
                 length,
-                grouped: if may_be_grouped {
-                    Some(character)
-                } else {
-                    None
-                },
+                grouped: may_be_grouped.then_some(character),
             };
         }
     }
@@ -124,47 +122,52 @@ fn may_be_grouped(expression: Expression, command: &[u8], before: usize) -> bool
 
 /// How many groups these bytes may open.
 fn groups_in(bytes: &[u8]) -> usize {
-    bytes
-        .windows(2)
-        .filter(|pair| pair.starts_with(b"\\("))
-        .count()
+    let mut groups = 0usize;
+    let mut is_behind_backslash = false;
+    for byte in bytes {
+        if is_behind_backslash && *byte == b'(' {
+            groups = groups.saturating_add(1);
+        }
+        is_behind_backslash = *byte == b'\\';
+    }
+    groups
 }
 
 /// The highest number that may be a reference in these bytes.
 fn highest_reference(bytes: &[u8]) -> usize {
-    let mut highest = 0;
-    for pair in bytes.windows(2) {
-        match pair.last() {
-            Some(digit) if pair.starts_with(b"\\") && digit.is_ascii_digit() => {
-                highest = usize::from(digit.saturating_sub(b'0')).max(highest);
-            }
-            _ => {}
+    let mut highest = 0usize;
+    let mut is_behind_backslash = false;
+    for byte in bytes {
+        if is_behind_backslash && byte.is_ascii_digit() {
+            highest = highest.max(usize::from(byte.saturating_sub(b'0')));
         }
+        is_behind_backslash = *byte == b'\\';
     }
     highest
 }
 
 /// The first byte above 127 in the lists of `y`, where that is the command.
 fn listed_in(text: &[u8], location: Location) -> Option<Character> {
-    let command = text.get(location.verb..location.end)?;
-    let delimiter = command.strip_prefix(b"y")?.first()?;
-    let begin = location.verb.checked_add(2)?;
-    let lists = text.get(begin..location.end)?;
-    let index = lists
-        .iter()
-        .position(|byte| *byte > 127 && *byte != *delimiter)?;
-    let rest = lists.get(index..)?;
-    Some(Character {
-        start: begin.checked_add(index)?,
-        length: length_of_first(rest),
-        grouped: None,
-    })
+    let command = text.get(location.verb..location.end).unwrap_or(&[]);
+    if !command.starts_with(b"y") {
+        return None;
+    }
+    for (index, byte) in command.iter().enumerate() {
+        if *byte > 127 && *byte != byte_at(command, 1) {
+            return Some(Character {
+                start: location.verb.saturating_add(index),
+                length: length_of_first(skipped(command, index)),
+                grouped: None,
+            });
+        }
+    }
+    None
 }
 
 /// How many bytes the first character has, or 1 where the first byte begins none.
 fn length_of_first(bytes: &[u8]) -> usize {
     for length in 2..=4usize {
-        if only_character(bytes.get(..length).unwrap_or(&[])).is_some() {
+        if only_character(first_bytes(bytes, length)).is_some() {
             return length;
         }
     }
@@ -176,12 +179,12 @@ pub(crate) fn names_other_groups(script: &Script) -> bool {
     for command in script.commands() {
         if let Verb::Substitute(substitution) = &command.verb
             && matches!(substitution.pattern, Pattern::Previous)
-            && substitution
-                .parts
-                .iter()
-                .any(|part| matches!(*part, Part::Group(_)))
         {
-            return true;
+            for part in &substitution.parts {
+                if matches!(*part, Part::Group(_)) {
+                    return true;
+                }
+            }
         }
     }
     false

@@ -29,16 +29,17 @@ pub fn locale_warnings(
     let places = places_of(alloc, text, located)?;
     for (index, command) in located.script.commands().iter().enumerate() {
         if depends_on_characters(command) {
-            push_locale(alloc, findings, places.get(index).copied())?;
+            let place = places.get(index).copied().unwrap_or_default();
+            push_locale(alloc, findings, place)?;
         }
     }
     Ok(())
 }
 
 /// Where a command is warned of, and what mends it.
-#[derive(Clone, Copy)]
+#[derive(Clone, Copy, Default)]
 struct Place {
-    position: Position,
+    position: Option<Position>,
     end: Option<Position>,
     fix: Option<Fix>,
 }
@@ -70,20 +71,24 @@ fn place_at(
     character: Option<Character>,
     may_be_grouped: bool,
 ) -> Place {
-    let end = character.map(|character| end_behind(text, position, character.length));
-    let grouped = character.and_then(|character| character.grouped);
-    Place {
-        position,
-        end,
-        fix: match (end, grouped) {
-            (Some(end), Some(inside)) if may_be_grouped => Some(Fix {
+    let mut place = Place {
+        position: Some(position),
+        ..Place::default()
+    };
+    if let Some(character) = character {
+        let end = end_behind(text, position, character.length);
+        place.end = Some(end);
+        if let Some(inside) = character.grouped
+            && may_be_grouped
+        {
+            place.fix = Some(Fix {
                 start: position,
                 end,
                 text: NewText::Group(inside),
-            }),
-            _ => None,
-        },
+            });
+        }
     }
+    place
 }
 
 /// Whether the command says something else by characters than by bytes.
@@ -111,11 +116,7 @@ fn has_high(bytes: &[u8]) -> bool
 }
 
 /// Adds the warning at this place.
-fn push_locale(
-    alloc: Global,
-    findings: &mut Vec<Finding>,
-    place: Option<Place>,
-) -> Result<(), AllocError>
+fn push_locale(alloc: Global, findings: &mut Vec<Finding>, place: Place) -> Result<(), AllocError>
     ensures added { OnOk result (AddsNoError findings.old.items findings.new.items) }
     ensures exactly { OnOk result (has_locale findings.new.items ≡ true) }
 {
@@ -128,9 +129,9 @@ fn push_locale(
         "run the script with `LC_ALL=C`; or write whole characters, in a group to repeat them, as in `\\(..\\)*`, and replace them by an `s` in \
             place of a `y`",
     );
-    finding.position = place.map(|place| place.position);
-    finding.end = place.and_then(|place| place.end);
-    finding.fix = place.and_then(|place| place.fix);
+    finding.position = place.position;
+    finding.end = place.end;
+    finding.fix = place.fix;
     findings.push(finding)?;
     Ok(())
 }
