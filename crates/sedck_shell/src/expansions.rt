@@ -1,7 +1,7 @@
 //! Expansions (XCU 2.6): holes of a word, and the texts of commands in them.
 
 use crate::frame::{Enclosure, Quote};
-use crate::reader::{Job, MISSES, Reader, begins_name};
+use crate::reader::{Job, MISSES, Reader, begins_name, is_in};
 use sedck_origin::{Cursor, Result, Unit, Way};
 use std::alloc::Global;
 
@@ -26,14 +26,10 @@ impl Reader<'_> {
                 Ok(())
             }
             Some(byte) if begins_name(byte) => self.add_hole_over(length, self.way()),
-            Some(byte @ (b'0'..=b'9' | b'@' | b'*' | b'#' | b'?' | b'-' | b'$' | b'!')) => {
-                // `@` is as many words as there are, and so is `*` outside of quotes (XCU 2.5.2).
-                let way = match (byte, self.way()) {
-                    (b'@', _) | (b'*', Way::Bare) => Way::Several,
-                    (_, way) => way,
-                };
-                self.add_hole_over(1, way)
-            }
+            Some(b'@') => self.add_hole_over(1, Way::Several),
+            // It is as many words as there are, as `@` is; between quotes it is one (XCU 2.5.2).
+            Some(b'*') if self.way() == Way::Bare => self.add_hole_over(1, Way::Several),
+            byte if is_in(byte, "0123456789*#?-$!") => self.add_hole_over(1, self.way()),
             _ => self.add(unit),
         }
     }
@@ -75,19 +71,13 @@ impl Reader<'_> {
         self.open(1, Enclosure::Parameter, true)?;
         let first = self.rest.peek();
         // Some shells read commands there, and no others anything.
-        let has_commands = matches!(first, Some(b' ' | b'\t' | b'\n' | b'|'));
+        let has_commands = is_in(first, " \t\n|");
         self.output.note_if(has_commands, self.here.start())?;
-        let has_sign = matches!(first, Some(b'!' | b'#' | b'@' | b'*' | b'?' | b'-' | b'$'));
+        let has_sign = is_in(first, "!#@*?-$");
         let name = self.rest.skip(usize::from(has_sign));
-        let length = name.name_length();
-        let behind = name.byte(length);
-        if let Some(b'#' | b'%' | b'/' | b'^' | b',') = behind {
-            self.top.is_in_double = false;
-        }
-        // `@`, `*`, `!name@` and `name[@]` may be several words, also where they are quoted.
-        let is_array = behind == Some(b'[') && is_all(name.skip(length).byte(1));
-        let is_names = first == Some(b'!') && is_all(behind);
-        self.top.is_several = is_all(first) || is_array || is_names;
+        let behind = name.skip(name.name_length());
+        self.top.is_in_double &= !is_in(behind.peek(), "#%/^,");
+        self.top.is_several = is_several(first, behind);
         Ok(())
     }
 
@@ -179,12 +169,12 @@ fn sed_within(text: Cursor) -> Option<usize> {
     let mut rest = text;
     for _ in 0..text.len() {
         let length = rest.name_length();
-        let has_letter = length == 4 && matches!(rest.peek(), Some(b'g' | b's' | b'G' | b'S'));
+        let has_letter = length == 4 && is_in(rest.peek(), "gsGS");
         let name = rest.skip(usize::from(has_letter));
         if (length == 3 || has_letter)
-            && matches!(name.byte(0), Some(b's' | b'S'))
-            && matches!(name.byte(1), Some(b'e' | b'E'))
-            && matches!(name.byte(2), Some(b'd' | b'D'))
+            && is_in(name.byte(0), "sS")
+            && is_in(name.byte(1), "eE")
+            && is_in(name.byte(2), "dD")
         {
             return Some(name.start());
         }
@@ -193,9 +183,12 @@ fn sed_within(text: Cursor) -> Option<usize> {
     None
 }
 
-/// Whether it is the sign for all parameters, or all elements of an array.
-fn is_all(byte: Option<u8>) -> bool {
-    matches!(byte, Some(b'@' | b'*'))
+/// Whether a parameter that begins with this byte, and has this behind its name, may be several words, also where it is quoted: `@`, `*`,
+/// `!name@` and `name[@]`.
+fn is_several(first: Option<u8>, behind: Cursor) -> bool {
+    is_in(first, "@*")
+        || (first == Some(b'!') && is_in(behind.peek(), "@*"))
+        || (behind.peek() == Some(b'[') && is_in(behind.byte(1), "@*"))
 }
 
 /// Where a command between backquotes ends.
@@ -230,6 +223,11 @@ fn backquote_end(text: Cursor, brackets: usize) -> BackquoteEnd {
     BackquoteEnd::Nowhere
 }
 
+/// What a backslash quotes between backquotes, or between double quotes.
+pub(crate) fn quotable(is_double: bool) -> &'static str {
+    if is_double { "$`\\\"" } else { "$`\\" }
+}
+
 /// The command between backquotes: a backslash before a dollar sign, a backquote or a backslash is left out (XCU 2.6.3), between double
 /// quotes also one before a double quote.
 fn backquoted(alloc: Global, text: Cursor, is_double: bool) -> Result<Vec<Unit>> {
@@ -243,11 +241,7 @@ fn backquoted(alloc: Global, text: Cursor, is_double: bool) -> Result<Vec<Unit>>
         rest = next;
         is_quoted = !is_quoted
             && unit.byte() == Some(b'\\')
-            && match rest.peek() {
-                Some(b'$' | b'`' | b'\\') => true,
-                Some(b'"') => is_double,
-                _ => false,
-            };
+            && is_in(rest.peek(), quotable(is_double));
         if !is_quoted {
             inner.push(unit)?;
         }

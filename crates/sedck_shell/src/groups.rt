@@ -2,7 +2,7 @@
 
 use crate::command::{ShellWord, Target};
 use crate::frame::Draft;
-use crate::reader::{MOST, Output, Reader};
+use crate::reader::{MOST, Reader};
 use sedck_origin::Result;
 use std::alloc::Global;
 
@@ -39,28 +39,20 @@ impl Reader<'_> {
     pub fn end_group(&mut self) {
         let number = self.top.flow.group;
         self.top.draft.around.closed = number;
-        if let Some(group) = number.and_then(|number| self.output.groups.get(number)) {
+        if let Some(number) = number
+            && let Some(group) = self.output.groups.get(number)
+        {
             self.top.flow.group = group.around.group;
         }
     }
 
-    /// Gives the redirections that were read to the group that ended right before them, if there is one.
+    /// Gives the redirections that were read, where no word was, to the group that ended right before them, if there is one.
     pub fn redirect_group(&mut self) {
-        if self.top.draft.around.closed.is_some() {
-            let draft = std::mem::replace(&mut self.top.draft, Draft::new(self.alloc));
-            self.output.redirect(draft);
-        }
-    }
-}
-
-impl Output {
-    /// Gives redirections without a command to the group that ended right before them, if there is one.
-    pub fn redirect(&mut self, draft: Draft) {
-        let mut draft = draft;
-        let Some(number) = draft.around.closed else {
-            return;
-        };
-        if let Some(group) = self.groups.get_mut(number) {
+        if self.top.draft.command.words.is_empty()
+            && let Some(number) = self.top.draft.around.closed
+            && let Some(group) = self.output.groups.get_mut(number)
+        {
+            let mut draft = std::mem::replace(&mut self.top.draft, Draft::new(self.alloc));
             draft.around.group = group.around.group;
             draft.around.has_input |= group.around.has_input;
             draft.around.has_output |= group.around.has_output;
@@ -79,7 +71,8 @@ pub(crate) fn inherit(
     let mut left = left;
     let mut around = draft.around.group;
     for _ in 0..DEPTH {
-        let Some(group) = around.and_then(|number| groups.get(number)) else {
+        let Some(number) = around else { break };
+        let Some(group) = groups.get(number) else {
             break;
         };
         around = group.around.group;

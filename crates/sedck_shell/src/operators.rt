@@ -1,9 +1,10 @@
 //! Operators: ends of commands, parentheses and redirections (XCU 2.7, 2.9).
 
+use crate::command::ShellWord;
 use crate::frame::{Awaited, Delimiter, Enclosure};
-use crate::reader::Reader;
+use crate::reader::{Reader, is_in, length_of};
 use crate::words::begins_with;
-use sedck_origin::{Result, Unit, name_length};
+use sedck_origin::{Cursor, Result, Unit, name_length};
 
 impl Reader<'_> {
     /// Reads an operator that begins with this byte.
@@ -12,28 +13,29 @@ impl Reader<'_> {
             return self.read_in_test(unit, byte);
         }
         self.note_joined(unit, 0)?;
-        match (byte, self.rest.peek()) {
-            (b'(', _) => self.open_parenthesis(),
-            (b')', _) => self.close_parenthesis(unit),
-            (b';', second) => self.read_semicolon(second),
-            (b'&', Some(b'&')) | (b'|', Some(b'|')) => {
+        let second = self.rest.peek();
+        match byte {
+            b'(' => self.open_parenthesis(),
+            b')' => self.close_parenthesis(unit),
+            b';' => self.read_semicolon(second),
+            b'&' | b'|' if second == Some(byte) => {
                 self.pass(1);
                 self.join_commands(false)
             }
             // Some shells have `|&`.
-            (b'|', second) => {
+            b'|' => {
                 self.pass(usize::from(second == Some(b'&')));
                 self.join_commands(true)
             }
-            (b'&', Some(b'>')) => self.read_both(),
-            (b'&', _) => self.end_command(),
+            b'&' if second == Some(b'>') => self.read_both(),
+            b'&' => self.end_command(),
             _ => self.read_redirection(byte),
         }
     }
 
     /// Reads an operator between `[[` and `]]`: `&&` and `||` are between two tests, and all others are parts of one.
     fn read_in_test(&mut self, unit: Unit, byte: u8) -> Result<()> {
-        if !matches!(byte, b'&' | b'|') || self.rest.peek() != Some(byte) {
+        if !is_in(Some(byte), "&|") || self.rest.peek() != Some(byte) {
             return self.add(unit);
         }
         self.end_word()?;
@@ -44,7 +46,7 @@ impl Reader<'_> {
     /// Reads `;`, or `;;` and `;&`, behind which a pattern follows.
     fn read_semicolon(&mut self, second: Option<u8>) -> Result<()> {
         self.end_command()?;
-        if let Some(b';' | b'&') = second {
+        if is_in(second, ";&") {
             self.pass(1);
             self.top.is_pattern = self.top.cases > 0;
         }
@@ -72,7 +74,7 @@ impl Reader<'_> {
         if self.opens_words() {
             return self.open(0, Enclosure::Array, true);
         }
-        let blanks = self.blanks();
+        let blanks = length_of(self.rest, " \t");
         if self.rest.byte(blanks) == Some(b')') {
             self.pass(blanks.saturating_add(1));
             return self.begin_named();
@@ -93,10 +95,7 @@ impl Reader<'_> {
         if begins_with(words, "function") {
             return self.end_command();
         }
-        let is_known = words
-            .iter()
-            .any(|word| word.units.iter().any(|unit| unit.byte().is_some()));
-        let is_pattern = is_known && !begins_with(words, "[[") && !self.has_macros();
+        let is_pattern = has_byte(words) && !begins_with(words, "[[") && !self.has_macros();
         self.output.note_if(is_pattern, self.here.start())
     }
 
@@ -109,24 +108,13 @@ impl Reader<'_> {
     /// Whether the word before `(` makes it the beginning of words of an array, or of a part of a pattern of some shells.
     fn opens_words(&self) -> bool {
         let units = &self.top.word.units;
-        if !self.top.has_word {
-            return false;
-        }
         match units.last() {
-            Some(Unit::Byte(b'=' | b'@' | b'?' | b'*' | b'+', _)) => true,
+            _ if !self.top.has_word => false,
             Some(Unit::Byte(b'!', _)) => units.len() > 1
                 || !self.top.draft.command.words.is_empty(),
+            Some(Unit::Byte(byte, _)) => is_in(Some(*byte), "=@?*+"),
             _ => false,
         }
-    }
-
-    /// How many blanks come next.
-    fn blanks(&self) -> usize {
-        let is_blank = |count: &usize| matches!(self.rest.byte(*count), Some(b' ' | b'\t'));
-        let mut counts = 0..self.rest.len();
-        counts
-            .find(|count| !is_blank(count))
-            .unwrap_or(self.rest.len())
     }
 
     /// Reads `)`: the end of a pattern of `case`, or of what encloses.
@@ -197,6 +185,18 @@ impl Reader<'_> {
     }
 }
 
+/// Whether one of the words has a byte that is known.
+fn has_byte(words: &[ShellWord]) -> bool {
+    for word in words {
+        for unit in &word.units {
+            if unit.byte().is_some() {
+                return true;
+            }
+        }
+    }
+    false
+}
+
 /// A stream of a command.
 #[derive(Clone, Copy, PartialEq, Eq)]
 enum Stream {
@@ -209,14 +209,12 @@ enum Stream {
 
 /// The stream with this descriptor. Zeros before a number don't count.
 fn stream_of(units: &[Unit]) -> Stream {
-    let zeros = units
-        .iter()
-        .position(|unit| unit.byte() != Some(b'0'))
-        .unwrap_or(units.len());
-    match units.get(zeros..) {
-        None | Some([]) => Stream::Input,
-        Some([unit]) if unit.byte() == Some(b'1') => Stream::Output,
-        Some(_) => Stream::Other,
+    let text = Cursor::Units(units);
+    let number = text.skip(length_of(text, "0"));
+    match number.len() {
+        0 => Stream::Input,
+        1 if number.peek() == Some(b'1') => Stream::Output,
+        _ => Stream::Other,
     }
 }
 
@@ -262,6 +260,6 @@ fn is_descriptor(units: &[Unit]) -> bool {
         [Unit::Byte(b'{', _), name @ .., Unit::Byte(b'}', _)] => {
             !name.is_empty() && name_length(name) == name.len()
         }
-        _ => units.iter().all(|unit| unit.byte().is_some_and(|byte| byte.is_ascii_digit())),
+        _ => length_of(Cursor::Units(units), "0123456789") == units.len(),
     }
 }

@@ -4,7 +4,7 @@ use crate::command::{ShellCommand, ShellText, ShellWord};
 use crate::frame::{Delimiter, Draft, Frame, Quote};
 use crate::groups::{COPIED, inherit};
 use crate::reader::{Form, Job, MISSES, Output, Reader};
-use sedck_origin::{Cursor, Result, Text, Unit};
+use sedck_origin::{Cursor, Result, Text, Unit, byte_at};
 use std::alloc::Global;
 
 /// How often reading goes on at a next line.
@@ -50,14 +50,8 @@ fn read_text(
     let (mut output, mut rest) = (output, text);
     for _ in 0..RESTARTS {
         let mut reader = new_reader(alloc, rest, form, (Quote::None, group), output);
-        reader.read_all()?;
-        let is_closed = reader.is_closed();
-        if is_closed {
-            reader.end_command()?;
-        }
+        let is_closed = reader.read_text()?;
         let (opened, mark) = (reader.opened, reader.mark);
-        let is_open = !is_closed || !reader.frames.is_empty();
-        reader.output.note_if(is_open, opened.start())?;
         output = reader.output;
         if is_closed {
             break;
@@ -81,8 +75,7 @@ fn read_body(
 ) -> Result<Output> {
     let text = Cursor::Units(&job.units);
     let mut reader = new_reader(alloc, text, form, (job.quote, job.group), output);
-    reader.read_all()?;
-    reader.leave_frames()?;
+    reader.read_body()?;
     let body = std::mem::replace(&mut reader.top.word.units, Vec::new(alloc));
     if let Some(place) = reader.output.bodies.get_mut(number) {
         *place = Some(body);
@@ -118,66 +111,75 @@ fn new_reader<'a>(
 
 /// The commands with their here-documents.
 fn finished(alloc: Global, output: Output) -> Result<ShellText> {
-    let (mut bodies, mut unread, groups) = (output.bodies, output.unread, output.groups);
+    let mut output = output;
+    output.end(alloc)?;
     let mut commands = Vec::new(alloc);
-    let mut left = COPIED;
     for draft in output.commands {
-        let mut draft = draft;
-        let is_more = left > 0;
-        left = inherit(alloc, &groups, &mut draft, left)?;
-        if is_more && left == 0 {
-            unread.push(draft.command.words.first().map_or(0, |word| word.start))?;
-        }
-        commands.push(command_of(draft, &mut bodies))?;
-    }
-    for job in &output.jobs {
-        if let Some(unit) = job.units.first() {
-            unread.push(unit.start())?;
-        }
+        commands.push(command_of(draft, &mut output.bodies))?;
     }
     Ok(ShellText {
         commands,
         functions: output.functions,
-        unread,
+        unread: output.unread,
     })
+}
+
+impl Output {
+    /// Gives the commands the redirections of the groups around them, and notes where that ends, and the texts that weren't read.
+    fn end(&mut self, alloc: Global) -> Result<()> {
+        let mut left = COPIED;
+        for draft in &mut self.commands {
+            let is_more = left > 0;
+            left = inherit(alloc, &self.groups, draft, left)?;
+            if is_more
+                && left == 0
+                && let Some(first) = draft.command.words.first()
+            {
+                self.unread.push(first.start)?;
+            }
+        }
+        for job in &self.jobs {
+            if let Some(unit) = job.units.first() {
+                self.unread.push(unit.start())?;
+            }
+        }
+        Ok(())
+    }
 }
 
 /// The command with its here-document, which is one of these.
 fn command_of(draft: Draft, bodies: &mut Vec<Option<Vec<Unit>>>) -> ShellCommand {
     let mut command = draft.command;
-    let output = draft
-        .output
-        .and_then(|number| command.targets.get_mut(number));
-    if let Some(target) = output {
+    if let Some(number) = draft.output
+        && let Some(target) = command.targets.get_mut(number)
+    {
         target.is_output = true;
     }
-    command.here = draft.here.and_then(|number| bodies.get_mut(number)?.take());
+    if let Some(number) = draft.here
+        && let Some(body) = bodies.get_mut(number)
+    {
+        command.here = body.take();
+    }
     command
 }
 
 /// A here-document that is awaited.
 #[derive(Drop)]
 pub(crate) struct Pending {
-    delimiter: Vec<u8>,
-    /// Whether a part of the delimiter is quoted, so that nothing in the text is expanded.
-    is_quoted: bool,
+    delimiter: ShellWord,
     /// Whether tabs at the beginnings of lines are left out.
     is_stripped: bool,
     number: usize,
     /// The number of the group around it.
     group: Option<usize>,
-    /// The offset in the file of the delimiter.
-    start: usize,
 }
 
 impl Reader<'_> {
     /// Awaits a here-document that ends with this word, as the input of the command if it is for descriptor 0.
-    pub fn await_body(&mut self, word: ShellWord, how: Delimiter) -> Result<()> {
-        let mut delimiter = Vec::new(self.alloc);
-        for unit in &word.units {
-            match unit.byte() {
-                Some(byte) => delimiter.push(byte)?,
-                None => return Ok(self.output.unread.push(word.start)?),
+    pub fn await_body(&mut self, delimiter: ShellWord, how: Delimiter) -> Result<()> {
+        for unit in &delimiter.units {
+            if unit.byte().is_none() {
+                return Ok(self.output.unread.push(delimiter.start)?);
             }
         }
         let number = self.output.bodies.len();
@@ -187,13 +189,12 @@ impl Reader<'_> {
         } else {
             self.top.draft.command.has_other_here = true;
         }
+        let (is_stripped, group) = (how.is_stripped, self.top.flow.group);
         let pending = Pending {
             delimiter,
-            is_quoted: word.is_quoted,
-            is_stripped: how.is_stripped,
+            is_stripped,
             number,
-            group: self.top.flow.group,
-            start: word.start,
+            group,
         };
         Ok(self.pending.push(pending)?)
     }
@@ -203,31 +204,40 @@ impl Reader<'_> {
         let pending = std::mem::replace(&mut self.pending, Vec::new(self.alloc));
         self.pass(0);
         for one in &pending {
-            if self.output.misses >= MISSES {
+            if self.output.misses >= MISSES || !self.take_body(one)? {
                 break;
-            }
-            let Some((end, rest, is_joined)) = body_end(self.rest, one) else {
-                return self.output.miss(one.start);
-            };
-            self.output.note_if(is_joined, one.start)?;
-            let body = self.rest.before(end);
-            let quote = if one.is_quoted {
-                Quote::Verbatim
-            } else {
-                Quote::Body
-            };
-            self.output.jobs.push(Job {
-                units: lines_of(self.alloc, body, one.is_stripped)?,
-                quote,
-                body: Some(one.number),
-                group: one.group,
-            })?;
-            if let Some(last) = self.rest.before(rest).len().checked_sub(1) {
-                self.here = self.rest.skip(last);
-                self.pass(0);
             }
         }
         Ok(())
+    }
+
+    /// Takes this one, which begins what isn't read yet, and answers whether its end is there.
+    fn take_body(&mut self, pending: &Pending) -> Result<bool> {
+        let delimiter = &pending.delimiter;
+        let Some((end, rest, is_joined)) = body_end(self.rest, pending) else {
+            self.output.miss(delimiter.start)?;
+            return Ok(false);
+        };
+        self.output.note_if(is_joined, delimiter.start)?;
+        let quote = quote_of(delimiter);
+        let units = lines_of(self.alloc, self.rest.before(end), pending.is_stripped)?;
+        let (body, group) = (Some(pending.number), pending.group);
+        self.pass(self.here.before(rest).len().saturating_sub(1));
+        self.output.jobs.push(Job {
+            units,
+            quote,
+            body,
+            group,
+        })?;
+        Ok(true)
+    }
+}
+
+/// The quoting of a here-document with this delimiter: where a part of that is quoted, nothing in the text is expanded.
+fn quote_of(delimiter: &ShellWord) -> Quote {
+    match delimiter.is_quoted {
+        true => Quote::Verbatim,
+        false => Quote::Body,
     }
 }
 
@@ -256,13 +266,13 @@ const JOINED: usize = 16;
 
 /// How often lines are joined in the delimiter at the beginning of the text, as they are where it isn't quoted; none where it isn't there.
 fn joints_of(text: Cursor, pending: &Pending) -> Option<usize> {
+    let delimiter = &pending.delimiter;
     let mut rest = text;
     let mut count = 0usize;
     let mut place = 0usize;
     for _ in 0..text.len().saturating_add(1) {
         let byte = rest.peek();
-        let is_joint = byte == Some(b'\\') && rest.byte(1) == Some(b'\n');
-        if is_joint && !pending.is_quoted {
+        if byte == Some(b'\\') && rest.byte(1) == Some(b'\n') && !delimiter.is_quoted {
             if count == JOINED {
                 break;
             }
@@ -270,11 +280,11 @@ fn joints_of(text: Cursor, pending: &Pending) -> Option<usize> {
             rest = rest.skip(1);
         } else if pending.is_stripped && place == 0 && byte == Some(b'\t') {
             // It is left out.
-        } else if byte.is_some() && byte == pending.delimiter.get(place).copied() {
+        } else if byte.is_some() && byte == byte_at(&delimiter.units, place) {
             place = place.saturating_add(1);
         } else {
             let is_ended = byte == Some(b'\n') || rest.len() == 0;
-            return (is_ended && place == pending.delimiter.len()).then_some(count);
+            return (is_ended && place == delimiter.units.len()).then_some(count);
         }
         rest = rest.skip(1);
     }

@@ -1,8 +1,12 @@
 //! Quoting (XCU 2.2), and the quotes of M4, which are around the arguments of macros in the sources of Autoconf.
 
+use crate::expansions::quotable;
 use crate::frame::{Enclosure, Quote};
-use crate::reader::Reader;
+use crate::reader::{Reader, is_in, length_of};
 use sedck_origin::{Cursor, Result, Unit, Way, escape_byte};
+
+/// The digits of escape sequences with `x`, `u` and `U`.
+const HEXADECIMAL: &str = "0123456789abcdefABCDEF";
 
 impl Reader<'_> {
     /// Begins a quoted part.
@@ -92,16 +96,16 @@ impl Reader<'_> {
     /// Reads a backslash between double quotes or in a here-document: it quotes a dollar sign, a backquote, a backslash and a newline, and
     /// between double quotes a double quote.
     fn read_backslash_in_double(&mut self, unit: Unit) -> Result<()> {
-        let is_double = self.top.quote == Quote::Double;
-        let next = self.rest.get(0);
-        match self.rest.peek() {
-            Some(b'\n') => Ok(self.pass(1)),
-            Some(byte @ (b'$' | b'`' | b'\\' | b'"')) if is_double || byte != b'"' => {
-                self.pass(1);
-                self.add(next.unwrap_or(unit))
-            }
-            _ => self.add(unit),
+        let byte = self.rest.peek();
+        let next = self.rest.get(0).unwrap_or(unit);
+        if byte == Some(b'\n') {
+            return Ok(self.pass(1));
         }
+        if !is_in(byte, quotable(self.top.quote == Quote::Double)) {
+            return self.add(unit);
+        }
+        self.pass(1);
+        self.add(next)
     }
 
     /// Reads a unit between `$'` and `'` (XCU 2.2.4).
@@ -182,20 +186,14 @@ impl Reader<'_> {
     }
 }
 
-/// How many digits that begin the text belong to the escape sequence with this letter before them.
+/// How many units that begin the text belong to the escape sequence with this letter before them.
 fn digits_after(text: Cursor, letter: u8) -> usize {
-    let most = match letter {
-        b'0'..=b'7' | b'x' => 2usize,
-        b'u' => 4,
-        b'U' => 8,
-        b'c' => 1,
+    match letter {
+        b'0'..=b'7' => length_of(text.take(2), "01234567"),
+        b'x' => length_of(text.take(2), HEXADECIMAL),
+        b'u' => length_of(text.take(4), HEXADECIMAL),
+        b'U' => length_of(text.take(8), HEXADECIMAL),
+        b'c' => usize::from(text.peek().is_some() && !is_in(text.peek(), "'\\")),
         _ => 0,
-    };
-    let is_part = |count: &usize| match text.byte(*count) {
-        Some(byte) if letter.is_ascii_digit() => matches!(byte, b'0'..=b'7'),
-        Some(b'\'' | b'\\') | None => false,
-        Some(byte) => letter == b'c' || byte.is_ascii_hexdigit(),
-    };
-    let mut counts = 0..most;
-    counts.find(|count| !is_part(count)).unwrap_or(most)
+    }
 }

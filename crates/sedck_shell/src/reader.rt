@@ -128,7 +128,7 @@ pub(crate) struct Reader<'a> {
 
 impl<'a> Reader<'a> {
     /// Reads the units that are left.
-    pub fn read_all(&mut self) -> Result<()> {
+    fn read_all(&mut self) -> Result<()> {
         for _ in 0..self.rest.len() {
             let Some((unit, rest)) = self.rest.split_first() else {
                 break;
@@ -142,7 +142,7 @@ impl<'a> Reader<'a> {
 
     /// Whether macros of M4 are in the text.
     pub fn has_macros(&self) -> bool {
-        self.form.dialect == Dialect::Macros
+        matches!(self.form.dialect, Dialect::Macros)
     }
 
     /// The offset in the file behind the unit after so many more; 0 where the text ends before.
@@ -211,29 +211,37 @@ impl<'a> Reader<'a> {
             b'#' | b'd' if !self.top.has_word && self.begins_comment(byte) => {
                 Ok(self.set_quote(Quote::Comment))
             }
-            b';' | b'&' | b'|' | b'<' | b'>' | b'(' | b')' => self.read_operator(unit, byte),
             b'~' if self.begins_tilde() => {
                 self.add_hole_over(self.rest.name_length(), Way::Quoted)
             }
-            b'*' | b'?' | b'[' | b'{' | b'}' | b',' | b'.' => self.read_sign(unit, byte),
+            _ if is_in(Some(byte), ";&|<>()") => self.read_operator(unit, byte),
+            _ if is_in(Some(byte), "*?[") => self.read_pattern(unit),
+            _ if is_in(Some(byte), "{},.") => self.read_brace(unit, byte),
             _ => self.add_byte(unit),
         }
     }
 
-    /// Reads a byte that may make several words of one, outside of quotes.
-    fn read_sign(&mut self, unit: Unit, byte: u8) -> Result<()> {
+    /// Reads a byte that makes the word a pattern, outside of quotes.
+    fn read_pattern(&mut self, unit: Unit) -> Result<()> {
+        let word = &mut self.top.word;
+        if word.units.is_empty() {
+            word.pattern = Pattern::First;
+        } else if word.pattern == Pattern::None {
+            word.pattern = Pattern::Inside;
+        }
+        self.add(unit)
+    }
+
+    /// Reads a byte of braces that may make several words of one, outside of quotes.
+    fn read_brace(&mut self, unit: Unit, byte: u8) -> Result<()> {
         let number = self.top.word.units.len();
-        let braces = &mut self.top.braces;
         let next = self.rest.peek();
+        let braces = &mut self.top.braces;
         match byte {
-            b'{' if braces.from.is_none() => braces.from = Some(number),
+            b'{' => braces.from = braces.from.or(Some(number)),
+            b'}' if braces.has_list => braces.to = Some(number),
             b',' => braces.has_list = braces.from.is_some(),
             b'.' if next == Some(b'.') => braces.has_list = braces.from.is_some(),
-            b'}' if braces.has_list => braces.to = Some(number),
-            b'*' | b'?' | b'[' if number == 0 => self.top.word.pattern = Pattern::First,
-            b'*' | b'?' | b'[' if self.top.word.pattern == Pattern::None => {
-                self.top.word.pattern = Pattern::Inside;
-            }
             _ => {}
         }
         self.add(unit)
@@ -332,34 +340,50 @@ impl<'a> Reader<'a> {
             return Ok(());
         };
         let inner = std::mem::replace(&mut self.top, outer);
-        if !inner.is_hole {
-            if inner.has_commands() {
-                self.top.draft.around.closed = inner.flow.group;
-            }
-            return Ok(());
+        if inner.is_hole {
+            return self.add_hole(inner.opened, end, self.way_of(&inner));
         }
-        let way = match inner.enclosure {
-            Enclosure::Parameter if inner.is_several => Way::Several,
-            Enclosure::Substitution if inner.is_process => Way::Quoted,
-            _ => self.way(),
-        };
-        self.add_hole(inner.opened, end, way)
-    }
-
-    /// Leaves all that encloses, whose units are lost.
-    pub fn leave_frames(&mut self) -> Result<()> {
-        let is_open = !self.frames.is_empty();
-        self.output.note_if(is_open, self.top.opened)?;
-        for _ in 0..self.frames.len() {
-            if let Some(outer) = self.frames.pop() {
-                self.top = outer;
-            }
+        if inner.has_commands() {
+            self.top.draft.around.closed = inner.flow.group;
         }
         Ok(())
     }
 
-    /// Whether the commands that were read stand: no quote and no expansion is open.
-    pub fn is_closed(&self) -> bool {
+    /// How what enclosed units becomes a part of the word around it.
+    fn way_of(&self, inner: &Frame) -> Way {
+        match inner.enclosure {
+            Enclosure::Parameter if inner.is_several => Way::Several,
+            Enclosure::Substitution if inner.is_process => Way::Quoted,
+            _ => self.way(),
+        }
+    }
+
+    /// Reads a here-document to its end. All that encloses there is left, and its units are lost.
+    pub fn read_body(&mut self) -> Result<()> {
+        self.read_all()?;
+        self.frames.truncate(1);
+        if let Some(outermost) = self.frames.pop() {
+            self.output.unread.push(self.top.opened)?;
+            self.top = outermost;
+        }
+        Ok(())
+    }
+
+    /// Reads a text to its end, and answers whether its commands stand: no quote and no expansion is open.
+    pub fn read_text(&mut self) -> Result<bool> {
+        self.read_all()?;
+        let is_closed = self.is_closed();
+        if is_closed {
+            self.end_command()?;
+        }
+        if !is_closed || !self.frames.is_empty() {
+            self.output.unread.push(self.opened.start())?;
+        }
+        Ok(is_closed)
+    }
+
+    /// Whether no quote and no expansion is open.
+    fn is_closed(&self) -> bool {
         self.top.is_plain && matches!(self.top.quote, Quote::None | Quote::Comment)
     }
 
@@ -367,15 +391,38 @@ impl<'a> Reader<'a> {
     /// belongs to the operator or the expansion that begins with the unit.
     pub fn note_joined(&mut self, unit: Unit, length: usize) -> Result<()> {
         let rest = self.rest.skip(length);
-        let behind = rest.byte(2).unwrap_or(b' ');
-        let is_part = match unit.byte() {
-            Some(b'$') if length > 0 => is_name_byte(behind),
-            Some(b'$') => behind != b' ' && behind != b'\t',
-            _ => matches!(behind, b';' | b'&' | b'|' | b'<' | b'>' | b'('),
-        };
-        let is_joined = rest.byte(0) == Some(b'\\') && rest.byte(1) == Some(b'\n');
-        self.output.note_if(is_joined && is_part, unit.start())
+        if rest.byte(0) != Some(b'\\') || rest.byte(1) != Some(b'\n') {
+            return Ok(());
+        }
+        let is_part = is_part(unit.byte(), length, rest.byte(2).unwrap_or(b' '));
+        self.output.note_if(is_part, unit.start())
     }
+}
+
+/// Whether the byte behind belongs to the operator or the expansion that begins with the first one, with so many letters of a name between.
+fn is_part(first: Option<u8>, length: usize, behind: u8) -> bool {
+    match first {
+        Some(b'$') if length > 0 => is_name_byte(behind),
+        Some(b'$') => !is_in(Some(behind), " \t"),
+        _ => is_in(Some(behind), ";&|<>("),
+    }
+}
+
+/// How many of the next units are such bytes, before others.
+pub(crate) fn length_of(text: Cursor, bytes: &str) -> usize {
+    let mut rest = text;
+    for count in 0..text.len() {
+        if !is_in(rest.peek(), bytes) {
+            return count;
+        }
+        rest = rest.skip(1);
+    }
+    text.len()
+}
+
+/// Whether there is a byte, and it is one of these.
+pub(crate) fn is_in(byte: Option<u8>, bytes: &str) -> bool {
+    matches!(byte, Some(byte) if bytes.as_bytes().contains(&byte))
 }
 
 /// Whether a name of a variable may begin with the byte.

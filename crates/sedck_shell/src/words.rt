@@ -2,8 +2,8 @@
 
 use crate::command::{ShellWord, Target};
 use crate::frame::{Awaited, Braces, Draft, Enclosure, Quote};
-use crate::reader::{MOST, Reader};
-use sedck_origin::{Hole, Result, Unit, Way, byte_at, is_one_of, is_text};
+use crate::reader::{MOST, Reader, is_in};
+use sedck_origin::{Cursor, Hole, Result, Unit, Way, byte_at, is_one_of, is_text};
 
 /// Reserved words before a command, which are no words of it.
 static RESERVED: &'static [&'static str] = &[
@@ -79,12 +79,18 @@ impl Reader<'_> {
             return Ok(());
         }
         let word = self.take_word();
+        let awaited = self.top.awaited;
         self.top.flow.is_awaited = false;
-        let awaited = std::mem::replace(&mut self.top.awaited, Awaited::Word);
+        self.top.awaited = Awaited::Word;
         if let Awaited::Word = awaited {
             return self.add_word(word);
         }
         self.note_redirection(&word)?;
+        self.redirect(word, awaited)
+    }
+
+    /// Adds the word of a redirection to the command.
+    fn redirect(&mut self, word: ShellWord, awaited: Awaited) -> Result<()> {
         match awaited {
             Awaited::Delimiter(delimiter) => return self.await_body(word, delimiter),
             Awaited::Source => self.top.draft.command.source = Some(word),
@@ -113,9 +119,10 @@ impl Reader<'_> {
         let has_sign = !word.is_quoted && byte_at(&word.units, 0) == Some(b'!');
         self.output.note_if(has_sign, word.start)?;
         for unit in &word.units {
-            match *unit {
-                Unit::Hole(hole) if hole.way.is_made() => self.top.draft.command.made.push(hole)?,
-                _ => {}
+            if let Unit::Hole(hole) = *unit
+                && hole.way.is_made()
+            {
+                self.top.draft.command.made.push(hole)?;
             }
         }
         Ok(())
@@ -145,31 +152,29 @@ impl Reader<'_> {
     /// Tells of an operator that has no word, behind which some shells have others, and of a sed in a command that has words where the shell may
     /// begin another command: what bash reads as one may be two to it.
     fn note_parted(&mut self) -> Result<()> {
-        let awaited = std::mem::replace(&mut self.top.awaited, Awaited::Word);
-        let is_alone = !matches!(awaited, Awaited::Word) && !self.has_macros();
-        self.output.note_if(is_alone, self.passed)?;
-        match self.top.draft.parted {
-            Some(count) if !self.form.has_dollar_quotes => {
-                let sed = parted_sed(&self.top.draft.command.words, count);
-                self.output.note_if(sed.is_some(), sed.unwrap_or(0))
-            }
-            _ => Ok(()),
+        if !matches!(self.top.awaited, Awaited::Word) && !self.has_macros() {
+            self.output.unread.push(self.passed)?;
         }
+        self.top.awaited = Awaited::Word;
+        if let Some(count) = self.top.draft.parted
+            && !self.form.has_dollar_quotes
+            && let Some(sed) = parted_sed(&self.top.draft.command.words, count)
+        {
+            self.output.unread.push(sed)?;
+        }
+        Ok(())
     }
 
     /// Makes a hole of braces that some shells expand, and others don't.
     fn expand_braces(&mut self) {
-        let braces = std::mem::replace(&mut self.top.braces, Braces::default());
-        let (Some(from), Some(to)) = (braces.from, braces.to) else {
-            return;
-        };
+        let braces = self.top.braces;
+        self.top.braces = Braces::default();
         let units = &mut self.top.word.units;
-        let (Some(first), Some(last)) = (units.get(from).copied(), units.get(to).copied()) else {
-            return;
-        };
-        let (start, end, way) = (first.start(), last.end(), Way::Several);
-        for index in from..to.saturating_add(1) {
-            if let Some(unit) = units.get_mut(index) {
+        if let (Some(from), Some(to)) = (braces.from, braces.to)
+            && let (Some(first), Some(last)) = (units.get(from), units.get(to))
+        {
+            let (start, end, way) = (first.start(), last.end(), Way::Several);
+            for unit in units.iter_mut().take(to.saturating_add(1)).skip(from) {
                 *unit = Unit::Hole(Hole { start, end, way });
             }
         }
@@ -185,30 +190,40 @@ impl Reader<'_> {
 
     /// Whether the word is a reserved one where it stands. `case` and `esac` change what parentheses mean.
     fn read_reserved(&mut self, units: &[Unit]) -> Result<bool> {
+        self.redirect_group();
         let is_first = self.top.draft.command.words.is_empty();
-        if is_first {
-            self.redirect_group();
-        }
-        if (is_first || self.top.is_pattern) && is_text(units, "esac") {
+        if is_text(units, "esac") && (is_first || self.top.is_pattern) {
             self.end_compound();
             self.top.cases = self.top.cases.saturating_sub(1);
             self.top.is_pattern = false;
             self.top.draft.command.words.clear();
             return Ok(true);
         }
-        if self.top.is_test && is_text(units, "]]") {
-            self.top.is_test = false;
-            // What is behind an operator of a test is no command.
-            if !begins_with(&self.top.draft.command.words, "[[") {
-                self.top.draft.command.words.clear();
-                return Ok(true);
-            }
+        if self.top.is_test && is_text(units, "]]") && self.end_test() {
+            return Ok(true);
         }
-        if !is_first {
-            return self.read_second_reserved(units);
+        match is_first {
+            true => self.read_first_reserved(units),
+            false => self.read_second_reserved(units),
         }
-        let has_tests = self.form.has_dollar_quotes && !self.has_macros();
-        self.top.is_test |= has_tests && is_text(units, "[[");
+    }
+
+    /// Ends `[[`. What is behind an operator of it is no command and is left, and the answer is whether it was that.
+    fn end_test(&mut self) -> bool {
+        self.top.is_test = false;
+        let words = &mut self.top.draft.command.words;
+        let is_operand = !begins_with(words, "[[");
+        if is_operand {
+            words.clear();
+        }
+        is_operand
+    }
+
+    /// The same of the first word of a command.
+    fn read_first_reserved(&mut self, units: &[Unit]) -> Result<bool> {
+        if self.form.has_dollar_quotes && is_text(units, "[[") {
+            self.top.is_test = !self.has_macros();
+        }
         self.note_flow(units)?;
         Ok(is_one_of(units, RESERVED))
     }
@@ -217,23 +232,18 @@ impl Reader<'_> {
     fn read_second_reserved(&mut self, units: &[Unit]) -> Result<bool> {
         let words = &self.top.draft.command.words;
         let is_third = words.len() == 2;
-        let begins_case = is_third && is_text(units, "in") && begins_with(words, "case");
-        let begins_body = is_text(units, "{") && begins_with(words, "function");
-        let begins_loop = is_third && is_text(units, "do") && begins_with(words, "for");
-        if begins_case {
+        if is_third && is_text(units, "in") && begins_with(words, "case") {
             self.top.cases = self.top.cases.saturating_add(1);
             self.top.is_pattern = true;
             self.top.parentheses = 0;
-        }
-        if begins_body {
+        } else if is_text(units, "{") && begins_with(words, "function") {
             self.begin_named()?;
             self.note_flow(units)?;
+        } else if !(is_third && is_text(units, "do") && begins_with(words, "for")) {
+            return Ok(false);
         }
-        let is_reserved = begins_case || begins_body || begins_loop;
-        if is_reserved {
-            self.top.draft.command.words.clear();
-        }
-        Ok(is_reserved)
+        self.top.draft.command.words.clear();
+        Ok(true)
     }
 
     /// Ends the command, if one is begun.
@@ -241,28 +251,35 @@ impl Reader<'_> {
         self.end_word()?;
         self.note_parted()?;
         self.top.is_test = false;
-        let mut draft = std::mem::replace(&mut self.top.draft, Draft::new(self.alloc));
-        let Some(first) = draft.command.words.first() else {
-            self.output.redirect(draft);
-            return Ok(());
+        self.keep_command()?;
+        self.top.draft = Draft::new(self.alloc);
+        Ok(())
+    }
+
+    /// Keeps the command, if one is begun; or else the redirections of a group.
+    fn keep_command(&mut self) -> Result<()> {
+        let has_commands = self.top.has_commands();
+        let words = &self.top.draft.command.words;
+        let Some(first) = words.first() else {
+            return Ok(self.redirect_group());
         };
         let start = first.start;
         if self.top.enclosure == Enclosure::Array {
             // What the words of an array are used for isn't followed.
             return self.output.note_if(ends_with_sed(&first.units), start);
         }
-        if self.top.is_pattern || !self.top.has_commands() {
+        if self.top.is_pattern || !has_commands {
             return Ok(());
         }
-        if begins_with(&draft.command.words, "function") {
-            let names = std::mem::replace(&mut draft.command.words, Vec::new(self.alloc));
-            return self.add_functions(names);
+        if begins_with(words, "function") {
+            return self.add_functions();
         }
+        if self.output.commands.len() >= MOST {
+            return self.output.note_full(start);
+        }
+        let mut draft = std::mem::replace(&mut self.top.draft, Draft::new(self.alloc));
         draft.around.group = self.top.flow.group;
-        if self.output.commands.len() < MOST {
-            return Ok(self.output.commands.push(draft)?);
-        }
-        self.output.note_full(start)
+        Ok(self.output.commands.push(draft)?)
     }
 
     /// Leaves the command that is read.
@@ -297,10 +314,9 @@ impl Reader<'_> {
 
     /// Notes what begins or ends with the first word of a command.
     fn note_flow(&mut self, units: &[Unit]) -> Result<()> {
-        let offset = units.first().map_or(0, |unit| unit.start());
         if is_one_of(units, BEGINNINGS) {
             self.top.flow.depth = self.top.flow.depth.saturating_add(1);
-            self.begin_group(offset)?;
+            self.begin_group(Cursor::Units(units).start())?;
         } else if is_one_of(units, ENDS) {
             self.end_compound();
         }
@@ -321,16 +337,13 @@ impl Reader<'_> {
             let word = self.take_word();
             self.top.draft.command.words.push(word)?;
         }
-        let names = std::mem::replace(&mut self.top.draft.command.words, Vec::new(self.alloc));
-        self.add_functions(names)
+        self.add_functions()
     }
 
-    /// Keeps the names of functions whose body comes next. Some shells give one body several names.
-    fn add_functions(&mut self, names: Vec<ShellWord>) -> Result<()> {
-        for name in names {
-            self.output.functions.push(name)?;
-        }
-        Ok(())
+    /// Keeps the words of the command as the names of functions. Some shells give one body several names.
+    fn add_functions(&mut self) -> Result<()> {
+        let names = &mut self.top.draft.command.words;
+        Ok(self.output.functions.append(names)?)
     }
 
     /// Ends the command before `&&`, `||` or a pipe: newlines may precede what follows.
@@ -346,19 +359,24 @@ impl Reader<'_> {
 
 /// Whether the word behind `>&` is a descriptor, or the hyphen that closes one.
 fn is_descriptor_copy(word: &ShellWord) -> bool {
-    let mut units = word.units.iter();
-    units.all(|unit| unit
-        .byte()
-        .is_none_or(|byte| byte.is_ascii_digit() || byte == b'-'))
+    for unit in &word.units {
+        let byte = unit.byte();
+        if byte.is_some() && !is_in(byte, "0123456789-") {
+            return false;
+        }
+    }
+    true
 }
 
 /// The offset of the first of these words, from this number on, where one of all is a sed; or else of one there that may be.
 fn parted_sed(words: &[ShellWord], count: usize) -> Option<usize> {
     let has_sed = words.iter().any(|word| ends_with_sed(&word.units));
-    let others = words.get(count..)?;
-    let word = others.iter().find(|word| has_sed
-        || matches!(*word.units, [Unit::Hole(hole)] if hole.way.is_split()))?;
-    Some(word.start)
+    for word in words.get(count..)? {
+        if has_sed || matches!(*word.units, [Unit::Hole(hole)] if hole.way.is_split()) {
+            return Some(word.start);
+        }
+    }
+    None
 }
 
 /// The names of seds.
@@ -366,14 +384,11 @@ static SEDS: &'static [&'static str] = &["sed", "gsed", "ssed"];
 
 /// Whether the units are the name of a sed, or a path that ends with one.
 fn ends_with_sed(units: &[Unit]) -> bool {
-    let slash = units.iter().rposition(|unit| unit.byte() == Some(b'/'));
-    let from = slash.map_or(0, |slash| slash.saturating_add(1));
-    is_one_of(units.get(from..).unwrap_or(&[]), SEDS)
+    let mut parts = units.rsplit(|unit| unit.byte() == Some(b'/'));
+    parts.next().is_some_and(|name| is_one_of(name, SEDS))
 }
 
 /// Whether the first of the words is this one.
 pub(crate) fn begins_with(words: &[ShellWord], text: &str) -> bool {
-    words
-        .first()
-        .is_some_and(|word| !word.is_quoted && word.is(text))
+    matches!(words.first(), Some(word) if !word.is_quoted && word.is(text))
 }
