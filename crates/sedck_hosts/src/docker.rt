@@ -2,7 +2,7 @@
 
 use crate::host::Host;
 use crate::kind::{Kind, interpreter_kind, program_kind, without_path};
-use crate::parts::{Part, is_blank};
+use crate::parts::{Part, is_in};
 use sedck_origin::{Result, Unit, begins_with};
 use std::alloc::Global;
 
@@ -10,8 +10,8 @@ use std::alloc::Global;
 #[derive(Clone, Copy)]
 struct Here<'a> {
     delimiter: &'a [u8],
-    /// Whether tabs before a line are taken off.
-    is_stripped: bool,
+    /// What is taken off before a line: tabs, or nothing.
+    blanks: &'static str,
     /// Whether it is the text that the shell reads, since nothing else stands in the instruction.
     is_script: bool,
 }
@@ -30,8 +30,8 @@ struct Docker<'a> {
 /// The shell text of a Dockerfile; none where a directive among the comments at its top changes how lines are continued.
 pub(crate) fn host_of_docker(alloc: Global, file: &[u8]) -> Result<Host> {
     let whole = Part::whole(file);
-    let top = whole.after_lines(|line| line.begins_with(b'#') && !is_escape(line.bytes()));
-    let is_changed = matches!(top.split_line(false), Some((line, _)) if is_escape(line.bytes()));
+    let top = whole.after_lines(|line| line.begins_with(b'#') && !is_escape(line));
+    let is_changed = matches!(top.split_line(false), Some((line, _)) if is_escape(line));
     let unread = top.from(if is_changed { top.start } else { top.end });
     let mut docker = Docker {
         alloc,
@@ -40,9 +40,6 @@ pub(crate) fn host_of_docker(alloc: Global, file: &[u8]) -> Result<Host> {
         is_foreign: false,
     };
     for _ in 0..file.len() {
-        if docker.rest.len() == 0 {
-            break;
-        }
         docker.read_instruction()?;
     }
     docker.host.note(unread.mention_of_sed())?;
@@ -94,6 +91,7 @@ impl<'a> Docker<'a> {
             }
             if is("SHELL") {
                 self.is_foreign = is_foreign(words);
+                break;
             }
             if (is("COPY") || is("ADD"))
                 && let Some(here) = here_of(rest, line)
@@ -132,17 +130,16 @@ impl<'a> Docker<'a> {
                 break;
             };
             self.rest = rest;
-            let stripped = line.after_any(if here.is_stripped { "\t" } else { "" });
+            let stripped = line.after_any(here.blanks);
+            if stripped.bytes() == here.delimiter {
+                if !here.is_script {
+                    line.push(units)?;
+                }
+                return Ok(true);
+            }
             let text = if here.is_script { stripped } else { line };
-            if stripped.bytes() != here.delimiter {
-                text.push(units)?;
-                line.push_newline(units)?;
-                continue;
-            }
-            if !here.is_script {
-                text.push(units)?;
-            }
-            return Ok(true);
+            text.push(units)?;
+            line.push_newline(units)?;
         }
         Ok(false)
     }
@@ -166,7 +163,7 @@ impl<'a> Docker<'a> {
             let Some(next) = next_place(place, byte) else {
                 return Ok(false);
             };
-            is_read &= byte.is_ascii() && byte != b'\'' && byte != b'\\';
+            is_read &= byte.is_ascii() && !is_in(byte, "'\\");
             units.push(match (place, next) {
                 (Place::Inside, Place::Inside) => *unit,
                 (Place::Inside, _) | (_, Place::Inside) => Unit::Byte(b'\'', unit.start()),
@@ -252,7 +249,7 @@ fn here_at(whole: Part, is_first: bool) -> Option<Here<'_>> {
     }
     Some(Here {
         delimiter: name.before(behind),
-        is_stripped,
+        blanks: if is_stripped { "\t" } else { "" },
         is_script: is_first && after_quote(behind).is_ended(),
     })
 }
@@ -263,8 +260,8 @@ fn after_quote(part: Part) -> Part<'_> {
 }
 
 /// Whether the line is a directive that has a backquote continue lines.
-fn is_escape(line: &[u8]) -> bool {
-    let letters = line.iter().filter(|byte| !is_blank(**byte));
+fn is_escape(line: Part) -> bool {
+    let letters = line.bytes().iter().filter(|byte| !is_in(**byte, " \t"));
     let letters = letters.map(|byte| byte.to_ascii_lowercase());
     letters.eq(b"#escape=`".iter().copied())
 }

@@ -3,7 +3,7 @@
 use crate::docker::host_of_docker;
 use crate::kind::Kind;
 use crate::make::host_of_make;
-use crate::parts::{Part, is_word_of};
+use crate::parts::{Part, is_in};
 use crate::spec::host_of_spec;
 use crate::yaml::host_of_yaml;
 use sedck_origin::{Result, Unit, is_name_byte};
@@ -38,8 +38,8 @@ impl Host {
 
     /// Adds a text, unless it has only blanks and newlines.
     pub(crate) fn add(&mut self, units: Vec<Unit>) -> Result<()> {
-        let is_text = |unit: &Unit| !matches!(*unit, Unit::Byte(b' ' | b'\t' | b'\n' | b'\r', _));
-        if units.iter().any(is_text) {
+        let is_blank = |unit: &Unit| matches!(*unit, Unit::Byte(byte, _) if is_in(byte, " \t\n\r"));
+        if !units.iter().all(is_blank) {
             self.texts.push(units)?;
         }
         Ok(())
@@ -87,9 +87,8 @@ fn autoconf_unit(part: Part) -> Option<Unit> {
         && part.starts_with("dnl")
         && part.skip(3).first().is_some_and(|next| !is_name_byte(next));
     let rest = if is_dnl { part.from_any("\n") } else { part };
-    let behind = rest.skip(4);
-    if rest.begins_with(b'@') && is_word_of(rest.before(behind), QUADRIGRAPHS) {
-        return Some(Unit::made(rest.start, behind.start));
+    if rest.begins_with(b'@') && rest.length_of_any(QUADRIGRAPHS) > 0 {
+        return Some(Unit::made(rest.start, rest.skip(4).start));
     }
     Some(Unit::Byte(rest.first()?, rest.start))
 }

@@ -83,13 +83,12 @@ const DOLLAR_QUOTING: &str = "bash @BASH@ ksh ksh93 mksh zsh";
 /// says more than the name of a script or a makefile.
 pub fn kind_of(path: &str, bytes: &[u8]) -> Option<Kind> {
     let (folders, name) = split_last(path.as_bytes(), b'/');
-    let (_, folder) = split_last(folders, b'/');
-    let named_kind = whole_kind(folder, name).or_else(|| part_kind(name));
-    match (named_kind, interpreter_kind(bytes)) {
-        (Some(Kind::Shell), found) if bytes.starts_with(b"#!") => found,
-        (Some(Kind::Make), Some(found)) => Some(found),
-        (Some(kind), _) => Some(kind),
-        (None, found) => found,
+    let by_name = whole_kind(without_path(folders), name).or(part_kind(name));
+    let by_line = interpreter_kind(bytes);
+    match by_name {
+        Some(Kind::Shell) if bytes.starts_with(b"#!") => by_line,
+        Some(Kind::Make) | None => by_line.or(by_name),
+        _ => by_name,
     }
 }
 
@@ -130,14 +129,18 @@ pub(crate) fn without_path(path: &[u8]) -> &[u8] {
 
 /// The kind that the whole name of a file means, perhaps in this folder alone.
 fn whole_kind(folder: &[u8], name: &[u8]) -> Option<Kind> {
-    match (folder, name) {
-        (_, b"configure.in") => Some(Kind::Autoconf),
-        (_, b"config.status" | b"config.status.in") => Some(Kind::Shell),
-        (b"debian", b"rules" | b"rules.in") => Some(Kind::Make),
-        (b"debian" | b"DEBIAN", b"config" | b"config.in") => Some(Kind::Shell),
-        (b"po", _) if name.starts_with(b"Rules-") => Some(Kind::Make),
-        _ => None,
+    if is(name, "configure.in") {
+        return Some(Kind::Autoconf);
     }
+    let is_package = is_word_of(folder, "debian DEBIAN");
+    if is_word_of(name, "config.status config.status.in")
+        || (is_package && is_word_of(name, "config config.in"))
+    {
+        return Some(Kind::Shell);
+    }
+    let is_rules = is(folder, "debian") && is_word_of(name, "rules rules.in");
+    let is_makefile = is_rules || (is(folder, "po") && name.starts_with(b"Rules-"));
+    is_makefile.then_some(Kind::Make)
 }
 
 /// The kind by a part of the file's name, from which `.in` is taken off.
@@ -149,18 +152,21 @@ fn part_kind(name: &[u8]) -> Option<Kind> {
     }
 }
 
-/// The kind by what is before the last dot of the name, and what is behind it. A text with macros of M4 may be of another language, as
-/// `a.html.m4`, but `a-2.0.m4` has a version in its name.
+/// The kind by what is before the last dot of the name, and what is behind it.
 fn dotted_kind(stem: &[u8], last: &[u8]) -> Option<Kind> {
     let (before, first) = split_last(stem, b'.');
-    let is_lettered = matches!(first.first(), Some(byte) if byte.is_ascii_alphabetic());
-    let may_be_other = !before.is_empty() && is_lettered && !is_word_of(first, BEFORE_M4);
     match named(STEMS, first) {
         Some(Kind::Make) if is_word_of(last, OTHERS) => None,
         Some(kind) if before.is_empty() => Some(kind),
-        _ if may_be_other && is(last, "m4") => None,
+        _ if is(last, "m4") && is_other_language(before, first) => None,
         _ => named(SUFFIXES, last),
     }
+}
+
+/// Whether a text with macros of M4 may be of another language, as `a.html.m4`, but `a-2.0.m4` has a version in its name.
+fn is_other_language(before: &[u8], first: &[u8]) -> bool {
+    let is_lettered = matches!(first.first(), Some(byte) if byte.is_ascii_alphabetic());
+    is_lettered && !before.is_empty() && !is_word_of(first, BEFORE_M4)
 }
 
 /// The kind by the first line, which names an interpreter behind `#!`.

@@ -1,8 +1,8 @@
 //! Makefiles: lines of recipes, `$(shell ..)`, and assignments (POSIX.1-2024 XCU make, and GNU make).
 
 use crate::host::{Assignment, Host};
-use crate::make_text::{Reading, after_conditionals, read_make_text, reference_end};
-use crate::parts::{Part, is, is_in, is_word_of, lines_of, named};
+use crate::make_text::{Arguments, Reading, after_conditionals, read_make_text, reference_end};
+use crate::parts::{Part, is, is_in, is_word_of};
 use sedck_origin::{Result, Unit};
 use std::alloc::Global;
 
@@ -16,29 +16,15 @@ const MODIFIERS: &str = "export override private";
 const DIRECTIVES: &str = "else vpath undefine unexport endef ifeq ifneq ifdef ifndef if endif \
     include -include sinclude load -load";
 
-/// How an assignment sets its name.
-#[derive(Clone, Copy)]
-enum Operator {
-    /// To the value, as `=`, `:=`, `::=` and `:::=` do, and `?=` if nothing else sets it.
-    Set,
-    /// `+=`.
-    Append,
-    /// `!=`: to what the shell writes.
-    Shell,
-}
-
-/// The operators of assignments.
-static OPERATORS: &'static [(Operator, &'static str)] = &[
-    (Operator::Set, "= := ::= :::= ?="),
-    (Operator::Append, "+="),
-    (Operator::Shell, "!="),
-];
+/// The operators of assignments: `?=` sets the name if nothing else does, `+=` adds the value, and `!=` has the shell write it.
+const OPERATORS: &str = "= := ::= :::= ?= += !=";
 
 /// An assignment of a line.
 #[derive(Clone, Copy)]
 struct Definition<'a> {
     name: Part<'a>,
-    operator: Operator,
+    /// Its operator.
+    sign: &'a [u8],
     /// The value, which goes to the line's end.
     value: Part<'a>,
 }
@@ -65,9 +51,13 @@ pub(crate) fn host_of_make(alloc: Global, file: &[u8]) -> Result<Host> {
         defines: 0,
         is_prefixed: false,
     };
-    let lines = lines_of(alloc, Part::whole(file), true)?;
-    for line in &lines {
-        make.read_line(*line)?;
+    let mut rest = Part::whole(file);
+    for _ in 0..file.len() {
+        let Some((line, next)) = rest.split_line(true) else {
+            break;
+        };
+        rest = next;
+        make.read_line(line)?;
     }
     Ok(make.host)
 }
@@ -82,14 +72,14 @@ impl Make {
         }
         let has_tab = line.starts_with("\t");
         if has_tab && self.is_in_rule {
-            return self.add(line, Reading::Recipe);
+            return self.add(command_of(line), Reading::Recipe);
         }
         if let Some(definition) = definition_at(statement) {
             self.is_in_rule = false;
             return self.define(statement, definition);
         }
         if has_tab {
-            return self.add(line, Reading::Recipe);
+            return self.add(command_of(line), Reading::Recipe);
         }
         if statement.is_ended() {
             return Ok(());
@@ -103,7 +93,7 @@ impl Make {
         match word {
             b"endef" => self.defines = self.defines.saturating_sub(1),
             b"define" => self.defines = self.defines.saturating_add(1),
-            _ => return self.add(line, Reading::Recipe),
+            _ => return self.add(command_of(line), Reading::Recipe),
         }
         Ok(())
     }
@@ -141,48 +131,50 @@ impl Make {
         let behind = until(rest, ";#");
         self.add(line.to(behind.start), Reading::Value)?;
         if behind.begins_with(b';') {
-            return self.add(behind.skip(1), Reading::Recipe);
+            return self.add(command_of(behind.skip(1)), Reading::Recipe);
         }
         Ok(())
     }
 
-    /// Adds a line of a recipe, and the arguments of `$(shell ..)` in a line.
-    fn add(&mut self, line: Part, reading: Reading) -> Result<()> {
-        let is_recipe = matches!(reading, Reading::Recipe);
-        let part = if is_recipe { command_of(line) } else { line };
-        let (units, notes) = read_make_text(self.alloc, part, reading)?;
-        self.host.unread.extend_from_slice(&notes.unread)?;
-        if is_recipe {
-            self.host.add(units)?;
-        }
-        for (part, reading) in &notes.arguments {
-            let (units, notes) = read_make_text(self.alloc, *part, *reading)?;
-            self.host.unread.extend_from_slice(&notes.unread)?;
-            self.host.add(units)?;
+    /// Adds a part of a line, and the arguments of `$(shell ..)` in it.
+    fn add(&mut self, part: Part, reading: Reading) -> Result<()> {
+        let arguments = self.add_text(part, reading)?;
+        for (part, reading) in &arguments {
+            self.add_text(*part, *reading)?;
         }
         Ok(())
+    }
+
+    /// Adds a part, if it is a text that the shell reads, and answers the arguments of `$(shell ..)` in it.
+    fn add_text<'a>(&mut self, part: Part<'a>, reading: Reading) -> Result<Arguments<'a>> {
+        let text = read_make_text(self.alloc, part, reading)?;
+        let (units, arguments, mut unread) = (text.units, text.arguments, text.unread);
+        self.host.unread.append(&mut unread)?;
+        if matches!(reading, Reading::Recipe | Reading::Argument(_)) {
+            self.host.add(units)?;
+        }
+        Ok(arguments)
     }
 
     /// Reads an assignment. With `!=` its value is shell text; after `+=` and `!=` the value of the name isn't known. Behind one that changes
     /// how recipes begin they aren't read.
     fn define(&mut self, line: Part, definition: Definition) -> Result<()> {
-        let (name, operator) = (definition.name.bytes(), definition.operator);
-        let value = definition.value;
+        let (name, value) = (definition.name.bytes(), definition.value);
         if is(name, PREFIX) && !value.is_ended() && !self.is_prefixed {
             self.is_prefixed = true;
             let behind = line.between(line.end, line.file.len());
             self.host.note(behind.mention_of_sed())?;
         }
-        if matches!(operator, Operator::Append) || !is_known(name) {
+        if is(definition.sign, "+=") || !is_known(name) {
             return self.add_unknown(line, definition);
         }
         self.add(line, Reading::Value)?;
-        let (units, _) = read_make_text(self.alloc, value, Reading::Value)?;
-        if matches!(operator, Operator::Shell) {
-            self.host.add(units)?;
+        let text = read_make_text(self.alloc, value, Reading::Value)?;
+        if is(definition.sign, "!=") {
+            self.host.add(text.units)?;
             return self.assign_unknown(name, line);
         }
-        self.assign(name, units)
+        self.assign(name, text.units)
     }
 
     /// Adds an assignment to a name that isn't known, or of a value that is only a part or for some targets. It isn't read as a text.
@@ -233,13 +225,8 @@ fn definition_at(whole: Part) -> Option<Definition<'_>> {
     }
     let rest = whole.from(name.end).after_blanks();
     let value = rest.from_any("=").skip(1);
-    let operator = named(OPERATORS, rest.before(value))?;
-    let value = value.after_blanks();
-    Some(Definition {
-        name,
-        operator,
-        value,
-    })
+    let (sign, value) = (rest.before(value), value.after_blanks());
+    is_word_of(sign, OPERATORS).then_some(Definition { name, sign, value })
 }
 
 /// The part from the first of these bytes on that stands outside of references and behind no backslash.
@@ -258,10 +245,13 @@ fn until<'a>(part: Part<'a>, wanted: &str) -> Part<'a> {
 
 /// The command of a recipe's line: what is behind blanks, `@`, `-` and `+`, but not behind the `@` of a name with two of them around it.
 fn command_of(line: Part) -> Part<'_> {
-    let begins = |part: Part| match part.first() {
-        Some(b'@') => part.placeholder().is_some_and(|name| !name.is_empty()),
-        first => !matches!(first, Some(b' ' | b'\t' | b'-' | b'+')),
-    };
-    let start = (line.start..line.end).find(|offset| begins(line.from(*offset)));
-    line.from(start.unwrap_or(line.end))
+    let mut rest = line;
+    for _ in 0..line.len() {
+        rest = rest.after_any(" \t-+");
+        if !rest.starts_with("@") || rest.is_placeholder() {
+            break;
+        }
+        rest = rest.skip(1);
+    }
+    rest
 }

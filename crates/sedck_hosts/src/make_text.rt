@@ -1,6 +1,6 @@
 //! What make does to a part of a makefile before the shell sees it: references are replaced, `$$` is a dollar sign, and lines are joined.
 
-use crate::parts::{Brackets, Part, QUOTES, is, named};
+use crate::parts::{Brackets, Part, QUOTES, is, is_in, named};
 use sedck_origin::{Result, Unit, has_byte};
 use std::alloc::Global;
 
@@ -15,15 +15,6 @@ pub(crate) enum Reading {
     Unread,
     /// The argument of `$(shell ..)`: continued lines are joined by a space. So many of these are around it, with its own.
     Argument(usize),
-}
-
-/// What is noted of a part of a makefile beside its units.
-#[derive(Drop)]
-pub(crate) struct Notes<'a> {
-    /// The arguments of `$(shell ..)` in it, with how each is read.
-    pub arguments: Vec<(Part<'a>, Reading)>,
-    /// The offsets of calls of sed in it that are neither in its units nor in those arguments.
-    pub unread: Vec<usize>,
 }
 
 /// A reference that isn't closed.
@@ -65,9 +56,18 @@ const SHELLS: usize = 4;
 /// What may close a word and the reference that it ends.
 const CLOSERS: &str = "\"')}";
 
-/// The state of reading a part of a makefile.
+/// Arguments of `$(shell ..)`, with how each is read.
+pub(crate) type Arguments<'a> = Vec<(Part<'a>, Reading)>;
+
+/// A part of a makefile, which is read.
 #[derive(Drop)]
-struct MakeText<'a> {
+pub(crate) struct MakeText<'a> {
+    /// The part as the shell sees it.
+    pub units: Vec<Unit>,
+    /// The arguments of `$(shell ..)` in it.
+    pub arguments: Arguments<'a>,
+    /// The offsets of calls of sed in it that are neither in its units nor in those arguments.
+    pub unread: Vec<usize>,
     whole: Part<'a>,
     reading: Reading,
     opens: Vec<Open>,
@@ -75,21 +75,21 @@ struct MakeText<'a> {
     shells: usize,
     /// Whether a call of sed was noted in the outermost of them.
     is_noted: bool,
-    /// The part as the shell sees it.
-    units: Vec<Unit>,
-    notes: Notes<'a>,
     quoting: Quoting,
     /// What hasn't been read yet.
     rest: Part<'a>,
 }
 
-/// Reads a part of a makefile: its units as the shell sees it, and what is noted.
+/// Reads a part of a makefile.
 pub(crate) fn read_make_text<'a>(
     alloc: Global,
     whole: Part<'a>,
     reading: Reading,
-) -> Result<(Vec<Unit>, Notes<'a>)> {
+) -> Result<MakeText<'a>> {
     let mut text = MakeText {
+        units: Vec::new(alloc),
+        arguments: Vec::new(alloc),
+        unread: Vec::new(alloc),
         whole,
         reading,
         opens: Vec::new(alloc),
@@ -98,25 +98,25 @@ pub(crate) fn read_make_text<'a>(
             _ => 0,
         },
         is_noted: false,
-        units: Vec::new(alloc),
-        notes: Notes {
-            arguments: Vec::new(alloc),
-            unread: Vec::new(alloc),
-        },
         quoting: Quoting::default(),
         rest: whole,
     };
-    for _ in 0..whole.len() {
-        let here = text.rest;
-        let Some(byte) = here.first() else { break };
-        text.rest = here.skip(1);
-        text.read(here, byte)?;
-    }
-    text.end_part()?;
-    Ok((text.units, text.notes))
+    text.read_all()?;
+    Ok(text)
 }
 
 impl<'a> MakeText<'a> {
+    /// Reads the whole part.
+    fn read_all(&mut self) -> Result<()> {
+        for _ in 0..self.whole.len() {
+            let here = self.rest;
+            let Some(byte) = here.first() else { break };
+            self.rest = here.skip(1);
+            self.read(here, byte)?;
+        }
+        self.end_part()
+    }
+
     /// Ends the part, where a reference may be open.
     fn end_part(&mut self) -> Result<()> {
         if let Some(Open { start, .. }) = self.opens.first().copied() {
@@ -132,7 +132,7 @@ impl<'a> MakeText<'a> {
     fn note(&mut self, found: Option<usize>) -> Result<()> {
         if let Some(offset) = found {
             self.is_noted = true;
-            self.notes.unread.push(offset)?;
+            self.unread.push(offset)?;
         }
         Ok(())
     }
@@ -143,27 +143,34 @@ impl<'a> MakeText<'a> {
         if self.is_noted || !is_unread {
             return Ok(());
         }
-        let closers = match self.opens.last() {
-            Some(open) if open.is_choice => CLOSERS,
-            _ => QUOTES,
-        };
+        let is_choice = matches!(self.opens.last(), Some(open) if open.is_choice);
+        let is_call = here.is_call(if is_choice { CLOSERS } else { QUOTES });
         // An argument may be open that is no text which a shell may read, or is read by itself.
-        let is_call = here.is_call(closers) && !self.opens.iter().any(|open| open.quiet > 0);
-        self.note(is_call.then_some(here.start))
+        if is_call && !self.opens.iter().any(|open| open.quiet > 0) {
+            return self.note(Some(here.start));
+        }
+        Ok(())
     }
 
     /// Reads the byte that begins this part.
     fn read(&mut self, here: Part<'a>, byte: u8) -> Result<()> {
         self.look(here)?;
-        let is_outside = self.opens.is_empty();
         match byte {
             b'$' => self.read_dollar(here),
-            b'\\' if is_outside => self.read_backslash(here),
-            b'#' if is_outside && matches!(self.reading, Reading::Value | Reading::Unread) => {
+            _ if self.opens.is_empty() => self.read_outside(here, byte),
+            b',' => Ok(self.end_argument()),
+            _ if is_in(byte, "(){}") => self.count(here, byte),
+            _ => Ok(()),
+        }
+    }
+
+    /// Reads a byte outside of references.
+    fn read_outside(&mut self, here: Part<'a>, byte: u8) -> Result<()> {
+        match byte {
+            b'\\' => self.read_backslash(here),
+            b'#' if matches!(self.reading, Reading::Value | Reading::Unread) => {
                 Ok(self.end_text())
             }
-            b'(' | b'{' | b')' | b'}' if !is_outside => self.count(here, byte),
-            b',' if !is_outside => Ok(self.end_argument()),
             _ => self.add(Unit::Byte(byte, here.start)),
         }
     }
@@ -190,12 +197,11 @@ impl<'a> MakeText<'a> {
     /// Reads a reference, or `$$`.
     fn read_dollar(&mut self, here: Part<'a>) -> Result<()> {
         let (next, after) = (here.skip(1), here.skip(2));
-        let is_recipe = matches!(self.reading, Reading::Recipe);
         match next.first() {
             None => self.add(Unit::made(here.start, next.start)),
             Some(b'$') => self.add_before(after, Unit::Byte(b'$', next.start)),
             Some(byte @ (b'(' | b'{')) => self.open(here, Brackets::new(byte)),
-            Some(b'\\') if !is_recipe && after.first() == Some(b'\n') => {
+            Some(b'\\') if !matches!(self.reading, Reading::Recipe) && after.starts_with("\n") => {
                 let line = after.skip(1);
                 let rest = after_conditionals(line).after_blanks();
                 self.add_before(rest, Unit::made(here.start, line.start))
@@ -212,25 +218,23 @@ impl<'a> MakeText<'a> {
             self.end_text();
             return self.note(rest.mention_of_sed());
         }
-        self.is_noted = self.is_noted && !self.opens.is_empty();
+        self.is_noted &= !self.opens.is_empty();
         let name = called_name(rest);
-        // Beyond so many of them the argument of `$(shell ..)` isn't read by itself.
-        let is_shell = self.shells < SHELLS && is(name, "shell");
-        let argument = is_shell.then_some(rest.skip(5).after_blanks().start);
-        let (quiet, is_choice) = if is_shell {
-            (ALL, false)
-        } else {
-            named(FUNCTIONS, name).unwrap_or((0, false))
-        };
-        self.shells = self.shells.saturating_add(usize::from(is_shell));
-        self.opens.push(Open {
+        let (quiet, is_choice) = named(FUNCTIONS, name).unwrap_or((0, false));
+        let mut open = Open {
             start: here.start,
             brackets,
-            argument,
+            argument: None,
             quiet,
             is_choice,
-        })?;
-        Ok(())
+        };
+        // Beyond so many of them the argument of `$(shell ..)` isn't read by itself.
+        if self.shells < SHELLS && is(name, "shell") {
+            self.shells = self.shells.saturating_add(1);
+            open.argument = Some(rest.skip(5).after_blanks().start);
+            open.quiet = ALL;
+        }
+        Ok(self.opens.push(open)?)
     }
 
     /// Ends an argument of a reference, unless the comma is between brackets.
@@ -260,7 +264,7 @@ impl<'a> MakeText<'a> {
             if !matches!(self.reading, Reading::Argument(_)) {
                 let part = self.whole.between(start, here.start);
                 let reading = Reading::Argument(level);
-                self.notes.arguments.push((part, reading))?;
+                self.arguments.push((part, reading))?;
             }
         }
         self.add(Unit::made(open.start, here.skip(1).start))
@@ -329,7 +333,7 @@ impl<'a> MakeText<'a> {
             _ => {
                 // A call of sed isn't read behind a hole: its name and that are one word.
                 if self.rest.is_call(QUOTES) {
-                    self.notes.unread.push(self.rest.start)?;
+                    self.unread.push(self.rest.start)?;
                 }
                 self.add(hole)
             }
@@ -338,32 +342,33 @@ impl<'a> MakeText<'a> {
 
     /// Takes the blanks at the end away, and answers one of them: the first space, or else the last tab.
     fn take_blanks(&mut self) -> Option<Unit> {
-        let units = &self.units;
-        let is_other = |unit: &Unit| !matches!(*unit, Unit::Byte(b' ' | b'\t', _));
-        let last = units.iter().rposition(is_other);
-        let count = last.map_or(0, |last| last.saturating_add(1));
-        let blanks = units.get(count..).unwrap_or(&[]);
-        let mut spaces = blanks.iter().filter(|unit| unit.byte() == Some(b' '));
-        let taken = spaces.next().or(blanks.last()).copied();
-        self.units.truncate(count);
+        let mut taken: Option<Unit> = None;
+        for _ in 0..self.units.len() {
+            let Some(Unit::Byte(byte @ (b' ' | b'\t'), offset)) = self.units.last().copied() else {
+                break;
+            };
+            self.units.pop();
+            if taken.is_none() || byte == b' ' {
+                taken = Some(Unit::Byte(byte, offset));
+            }
+        }
         taken
     }
 }
 
 /// A blank of these: the first space, or else the last tab.
 fn first_blank(blanks: Part) -> Option<Unit> {
-    let space = blanks.bytes().iter().position(|byte| *byte == b' ');
-    let found = blanks.skip(space.or(blanks.len().checked_sub(1))?);
+    let space = blanks.from_any(" ");
+    let last = blanks.skip(blanks.len().saturating_sub(1));
+    let found = if space.len() > 0 { space } else { last };
     Some(Unit::Byte(found.first()?, found.start))
 }
 
 /// The name of the function whose call begins the part: it is followed by a blank or the end of a line that is continued.
 fn called_name(part: Part) -> &[u8] {
     let name = part.after_any("abcdefghijklmnopqrstuvwxyz-");
-    match name.bytes() {
-        [b' ' | b'\t' | b'\n', ..] | [b'\\', b'\n', ..] => part.before(name),
-        _ => &[],
-    }
+    let is_called = name.begins_with_any(" \t\n") || name.starts_with("\\\n");
+    if is_called { part.before(name) } else { &[] }
 }
 
 /// The part without what Automake writes before the lines of a conditional, as `@NAME_TRUE@`.
@@ -387,7 +392,7 @@ pub(crate) fn after_conditionals(whole: Part) -> Part<'_> {
 pub(crate) fn reference_end(part: Part) -> usize {
     let mut rest = part.skip(2);
     let opener = part.skip(1).first().unwrap_or(b' ');
-    if opener != b'(' && opener != b'{' {
+    if !is_in(opener, "({") {
         return rest.start;
     }
     let mut brackets = Brackets::new(opener);

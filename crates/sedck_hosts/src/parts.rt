@@ -1,7 +1,6 @@
 //! Parts of a file, its lines, and where calls of sed seem to begin.
 
 use sedck_origin::{Result, Unit, has_byte, is_name_byte};
-use std::alloc::Global;
 
 /// A part of a file: from the first offset on to before the second one.
 #[derive(Clone, Copy)]
@@ -64,6 +63,21 @@ impl<'a> Part<'a> {
         self.bytes().starts_with(text.as_bytes())
     }
 
+    /// Whether one of these bytes begins the part.
+    pub fn begins_with_any(self, bytes: &str) -> bool {
+        matches!(self.first(), Some(byte) if is_in(byte, bytes))
+    }
+
+    /// How long the first of these texts is that begins the part, where spaces are between them; 0 if none does.
+    pub fn length_of_any(self, texts: &str) -> usize {
+        for text in texts.split(' ') {
+            if self.starts_with(text) {
+                return text.len();
+            }
+        }
+        0
+    }
+
     /// The same without this byte at its end, if it has that there.
     pub fn before_last(self, byte: u8) -> Part<'a> {
         let has_it = self.bytes().last() == Some(&byte);
@@ -75,15 +89,19 @@ impl<'a> Part<'a> {
         has_byte(self.file, self.start, byte)
     }
 
-    /// The same without the first so many bytes; nothing where that isn't known.
-    fn behind(self, count: Option<usize>) -> Part<'a> {
-        self.from(count.map_or(self.end, |count| self.start.saturating_add(count)))
+    /// The same from the first byte on that is one of these, or is none of them.
+    fn from_first(self, bytes: &str, is_one: bool) -> Part<'a> {
+        for (index, byte) in self.bytes().iter().enumerate() {
+            if is_in(*byte, bytes) == is_one {
+                return self.skip(index);
+            }
+        }
+        self.from(self.end)
     }
 
     /// The same from the first byte on that is none of these.
     pub fn after_any(self, skipped: &str) -> Part<'a> {
-        let count = self.bytes().iter().position(|byte| !is_in(*byte, skipped));
-        self.behind(count)
+        self.from_first(skipped, false)
     }
 
     /// The same from the first byte on that is no blank.
@@ -93,19 +111,17 @@ impl<'a> Part<'a> {
 
     /// The same from the first byte on that is no letter, digit or underscore.
     pub fn after_name(self) -> Part<'a> {
-        let count = self.bytes().iter().position(|byte| !is_name_byte(*byte));
-        self.behind(count)
+        self.after_any(NAME_BYTES)
     }
 
     /// The same from the first of these bytes on.
     pub fn from_any(self, wanted: &str) -> Part<'a> {
-        let count = self.bytes().iter().position(|byte| is_in(*byte, wanted));
-        self.behind(count)
+        self.from_first(wanted, true)
     }
 
     /// The same without blanks at its end.
     pub fn before_blanks(self) -> Part<'a> {
-        let last = self.bytes().iter().rposition(|byte| !is_blank(*byte));
+        let last = self.bytes().iter().rposition(|byte| !is_in(*byte, " \t"));
         self.to(last.map_or(self.start, |last| self.skip(last).skip(1).start))
     }
 
@@ -131,7 +147,7 @@ impl<'a> Part<'a> {
     }
 
     /// Its first line without its newline and carriage return, and what is behind that; nothing where it is empty. Where lines are joined, those
-    /// that continue the line belong to it.
+    /// that continue the line by a backslash before a newline belong to it.
     pub fn split_line(self, is_joined: bool) -> Option<(Part<'a>, Part<'a>)> {
         let mut is_quoted = false;
         for (index, byte) in self.bytes().iter().enumerate() {
@@ -158,11 +174,11 @@ impl<'a> Part<'a> {
         rest
     }
 
-    /// The name between the `@` that begins the part and the next one.
-    pub fn placeholder(self) -> Option<&'a [u8]> {
+    /// Whether a name with `@` around it begins the part.
+    pub fn is_placeholder(self) -> bool {
         let name = self.skip(1);
         let behind = name.after_name();
-        (self.begins_with(b'@') && behind.begins_with(b'@')).then_some(name.before(behind))
+        self.begins_with(b'@') && behind.begins_with(b'@') && behind.start > name.start
     }
 
     /// Whether only blanks and a comment are in the part.
@@ -206,7 +222,7 @@ impl<'a> Part<'a> {
 
     /// Where the first call of sed in the part seems to begin.
     pub fn mention_of_sed(self) -> Option<usize> {
-        (self.start..self.end).find(|index| self.from(*index).is_call(QUOTES))
+        (self.start..self.end).find(|offset| self.from(*offset).is_call(QUOTES))
     }
 
     /// Whether a call of sed seems to begin the part: its name, perhaps some of the closers, and blanks with more behind them.
@@ -224,13 +240,12 @@ impl<'a> Part<'a> {
 
     /// Where the first name of a sed is in the part.
     pub fn name_of_sed(self) -> Option<usize> {
-        (self.start..self.end).find(|index| self.from(*index).sed_length() > 0)
+        (self.start..self.end).find(|offset| self.from(*offset).sed_length() > 0)
     }
 
     /// How long the name of sed is that begins the part; 0 if none does.
     fn sed_length(self) -> usize {
-        let bytes = self.bytes();
-        let names = match bytes.first() {
+        let names = match self.first() {
             _ if self.follows_name() => "",
             Some(b's') => "sed ssed",
             Some(b'g') => "gsed",
@@ -239,16 +254,12 @@ impl<'a> Part<'a> {
             Some(b'%') => "%{__sed} %__sed",
             _ => "",
         };
-        let mut names = names.split(' ');
-        names
-            .find(|name| bytes.starts_with(name.as_bytes()))
-            .map_or(0, |name| name.len())
+        self.length_of_any(names)
     }
 
     /// Whether the byte before the part belongs to the same name, as in `used` and `a.sed`.
     fn follows_name(self) -> bool {
-        let before = self.byte_before();
-        before.is_some_and(|byte| is_name_byte(byte) || byte == b'.')
+        matches!(self.byte_before(), Some(byte) if is_name_byte(byte) || byte == b'.')
     }
 
     /// The byte before the part.
@@ -264,24 +275,22 @@ pub(crate) fn is(bytes: &[u8], text: &str) -> bool {
 
 /// Whether the bytes are one of these words, between which spaces are.
 pub(crate) fn is_word_of(bytes: &[u8], words: &str) -> bool {
-    let mut words = words.as_bytes().split(|byte| *byte == b' ');
-    words.any(|word| word == bytes)
+    words.split(' ').any(|word| is(bytes, word))
 }
 
 /// What the list has the word for.
 pub(crate) fn named<T: Copy>(list: &[(T, &str)], word: &[u8]) -> Option<T> {
-    let mut found = list.iter().filter(|(_, words)| is_word_of(word, words));
-    found.next().map(|(meant, _)| *meant)
+    for (meant, words) in list {
+        if is_word_of(word, words) {
+            return Some(*meant);
+        }
+    }
+    None
 }
 
 /// Whether the text has the byte.
 pub(crate) fn is_in(byte: u8, text: &str) -> bool {
     text.as_bytes().contains(&byte)
-}
-
-/// Whether it is a space or a tab.
-pub(crate) fn is_blank(byte: u8) -> bool {
-    byte == b' ' || byte == b'\t'
 }
 
 /// Brackets of one sort, of which the first is open.
@@ -305,30 +314,17 @@ impl Brackets {
             b'{' => b'}',
             _ => b']',
         };
-        let mut count = self.count;
-        if byte == self.opener {
-            count = count.saturating_add(1);
-        } else if byte == closer {
-            count = count.checked_sub(1)?;
-        }
+        let count = match byte {
+            _ if byte == self.opener => self.count.saturating_add(1),
+            _ if byte == closer => self.count.checked_sub(1)?,
+            _ => self.count,
+        };
         Some(Brackets { count, ..self })
     }
 }
 
-/// The lines of a part without their newlines and carriage returns; or the lines with those that continue them, where a backslash before a
-/// newline joins two.
-pub(crate) fn lines_of(alloc: Global, part: Part, is_joined: bool) -> Result<Vec<Part<'_>>> {
-    let mut lines = Vec::new(alloc);
-    let mut rest = part;
-    for _ in 0..part.len() {
-        let Some((line, next)) = rest.split_line(is_joined) else {
-            break;
-        };
-        lines.push(line)?;
-        rest = next;
-    }
-    Ok(lines)
-}
+/// What names of variables are made of.
+const NAME_BYTES: &str = "abcdefghijklmnopqrstuvwxyzABCDEFGHIJKLMNOPQRSTUVWXYZ0123456789_";
 
 /// What may close a word behind the name of sed.
 pub(crate) const QUOTES: &str = "\"'";

@@ -1,6 +1,6 @@
 //! Scalars of YAML: those on one line, and block scalars.
 
-use crate::parts::{Part, is_blank, is_in};
+use crate::parts::{Part, is_in};
 use sedck_origin::{Result, Unit};
 use std::alloc::Global;
 
@@ -55,10 +55,10 @@ pub(crate) fn plain_scalar(whole: Part) -> Option<Part<'_>> {
     let mut before = b' ';
     let mut end = whole.end;
     for (index, byte) in whole.bytes().iter().enumerate() {
-        if before == b':' && is_blank(*byte) {
+        if before == b':' && is_in(*byte, " \t") {
             return None;
         }
-        if *byte == b'#' && is_blank(before) {
+        if *byte == b'#' && is_in(before, " \t") {
             end = whole.skip(index).start;
             break;
         }

@@ -2,7 +2,7 @@
 
 use crate::host::Host;
 use crate::make_text::reference_end;
-use crate::parts::{Brackets, Part, QUOTES, is, lines_of, named};
+use crate::parts::{Brackets, Part, QUOTES, is, named};
 use sedck_origin::{Result, Unit};
 use std::alloc::Global;
 
@@ -31,13 +31,10 @@ enum Sort {
 static WORDS: &'static [(Sort, &'static str)] = &[
     (Sort::Script, "%prep %conf %build %install %check %clean"),
     (Sort::Script, "%verifyscript %generate_buildrequires"),
-    (
-        Sort::Script,
-        "%pre %post %preun %postun %pretrans %posttrans",
-    ),
-    (Sort::Script, "%preuntrans %postuntrans %trigger %triggerin"),
-    (Sort::Script, "%triggerprein %triggerun %triggerpostun"),
-    (Sort::Script, "%filetriggerin %filetriggerun"),
+    (Sort::Script, "%pre %post %preun %postun %pretrans"),
+    (Sort::Script, "%posttrans %preuntrans %postuntrans %trigger"),
+    (Sort::Script, "%triggerin %triggerprein %triggerun"),
+    (Sort::Script, "%triggerpostun %filetriggerin %filetriggerun"),
     (Sort::Script, "%filetriggerpostun %transfiletriggerin"),
     (Sort::Script, "%transfiletriggerun %transfiletriggerpostun"),
     (Sort::Section, "%files %description %changelog %package"),
@@ -78,11 +75,15 @@ pub(crate) fn host_of_spec(alloc: Global, file: &[u8]) -> Result<Host> {
         is_continued: false,
         open: None,
     };
-    let lines = lines_of(alloc, Part::whole(file), false)?;
-    for line in &lines {
-        spec.read_line(*line)?;
+    let mut rest = Part::whole(file);
+    for _ in 0..file.len() {
+        let Some((line, next)) = rest.split_line(false) else {
+            break;
+        };
+        rest = next;
+        spec.read_line(line)?;
     }
-    spec.end_section(Part::whole(file).from(file.len()), false)?;
+    spec.end_section(rest, false)?;
     Ok(spec.host)
 }
 
@@ -105,7 +106,6 @@ impl Spec {
     /// Reads a line of a section.
     fn read_text(&mut self, line: Part, is_left_out: bool) -> Result<()> {
         self.is_left_out = is_left_out;
-        self.is_continued = is_left_out && line.bytes().last() == Some(&b'\\');
         let mut rest = line;
         for _ in 0..line.len() {
             let Some(byte) = rest.first() else { break };
@@ -114,6 +114,7 @@ impl Spec {
         if self.is_text() {
             line.push_newline(&mut self.units)?;
         }
+        self.is_continued = is_left_out && line.bytes().last() == Some(&b'\\');
         Ok(())
     }
 

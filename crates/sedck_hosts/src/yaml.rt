@@ -1,15 +1,18 @@
 //! Files of continuous integration: the shell text of the keys that have it.
 
 use crate::host::Host;
-use crate::parts::{Part, is, is_blank, is_in, is_word_of, lines_of};
+use crate::parts::{Part, is, is_in, is_word_of};
 use crate::scalars::{header, line_unit, plain_scalar, quoted_units};
-use sedck_origin::{Result, is_name_byte};
+use sedck_origin::Result;
 use std::alloc::Global;
 use std::collections::BTreeMap;
 
 /// Keys whose values are shell text.
 const KEYS: &str = "run script before_script after_script install before_install before_cache \
                     after_success after_failure before_deploy after_deploy bash command";
+
+/// What keys are made of, with quotes around them.
+const KEY_BYTES: &str = "abcdefghijklmnopqrstuvwxyzABCDEFGHIJKLMNOPQRSTUVWXYZ0123456789_-.\"'";
 
 /// How the values of `shell:` begin that name no shell of POSIX's.
 const FOREIGN: &str = "py pw po pe cmd node ruby fish";
@@ -89,18 +92,19 @@ pub(crate) fn host_of_yaml(alloc: Global, file: &[u8]) -> Result<Host> {
 impl<'a> Yaml<'a> {
     /// Reads a line: a key with its value; an item of the sequence, the value itself, or a part of an item; or another one.
     fn read_line(&mut self, line: Line<'a>) -> Result<()> {
-        let outer = self.list.map(|list| list.items.unwrap_or(list.key));
+        let list = self.list;
         let is_item = self.is_item(line);
         if let Some(end) = key_end(line.text) {
             return self.read_key(line, end);
         }
-        match outer {
-            Some(outer) if is_item || line.indentation > outer => {
-                let (text, parent) = (line.text, line.dash.unwrap_or(outer));
-                self.read_value(Value { text, parent })
+        if let Some(list) = list {
+            let outer = list.items.unwrap_or(list.key);
+            let (text, parent) = (line.text, line.dash.unwrap_or(outer));
+            if is_item || line.indentation > outer {
+                return self.read_value(Value { text, parent });
             }
-            _ => self.pass_line(line),
         }
+        self.pass_line(line)
     }
 
     /// Whether the line begins an item of the sequence. Another line may end the sequence.
@@ -124,7 +128,7 @@ impl<'a> Yaml<'a> {
         let (column, has_dash) = (line.column, line.dash.is_some());
         let is_within = |step: &usize| *step < column || (*step == column && !has_dash);
         self.foreign = self.foreign.filter(is_within);
-        if is(key, "shell") && FOREIGN.split(' ').any(|name| value.text.starts_with(name)) {
+        if is(key, "shell") && text.length_of_any(FOREIGN) > 0 {
             self.foreign = Some(column);
         }
         if is_word_of(key, KEYS) && self.foreign != Some(column) {
@@ -132,6 +136,11 @@ impl<'a> Yaml<'a> {
             self.list = Some(List { key, items });
             return self.read_value(value);
         }
+        self.pass_key(value)
+    }
+
+    /// Passes the value of a key without shell text, and keeps its anchor.
+    fn pass_key(&mut self, value: Value<'a>) -> Result<()> {
         if value.text.begins_with(b'&') {
             let name = anchor_of(value.text).to_vec(self.alloc)?;
             self.anchors.insert(name, value)?;
@@ -154,8 +163,7 @@ impl<'a> Yaml<'a> {
         if has_sign(text, "?:") {
             return self.pass_value(Value { text, parent });
         }
-        let is_other = text.first().is_some_and(|byte| is_in(byte, "[]}!&*"));
-        if is_other || text.from_any("{").len() > 0 {
+        if text.begins_with_any("[]}!&*") || text.from_any("{").len() > 0 {
             return self.host.note(text.mention_of_sed());
         }
         Ok(())
@@ -168,16 +176,17 @@ impl<'a> Yaml<'a> {
         if value.text.is_ended() {
             return Ok(());
         }
-        if value.text.begins_with(b'*') {
-            self.note_alias(value.text)?;
-        }
         match value.text.first() {
+            Some(b'*') => {
+                self.note_alias(value.text)?;
+                self.pass_value(value)
+            }
             Some(sign @ (b'|' | b'>')) => self.read_block(value, sign),
             Some(quote @ (b'\'' | b'"')) => match quoted_units(self.alloc, value.text, quote)? {
                 Some(units) => self.host.add(units),
                 None => self.pass_value(value),
             },
-            Some(sign) if is_in(sign, "[{*!%@`") => self.pass_value(value),
+            Some(sign) if is_in(sign, "[{!%@`") => self.pass_value(value),
             _ => self.read_plain(value),
         }
     }
@@ -229,19 +238,24 @@ impl<'a> Yaml<'a> {
         let Some((block, indentation)) = self.take_block(value) else {
             return self.pass_value(value);
         };
-        let lines = lines_of(self.alloc, block, false)?;
-        let count = lines.iter().filter(|line| !is_empty(**line)).count();
+        let is_given = header(value.text.skip(1)) != Some(0);
+        let mut units = Vec::new(self.alloc);
+        let mut count = 0usize;
+        let mut rest = block;
+        for _ in 0..block.len() {
+            let Some((line, next)) = rest.split_line(false) else {
+                break;
+            };
+            rest = next;
+            count = count.saturating_add(usize::from(!is_empty(line)));
+            // No space is read of blank lines before the one that gives the indentation.
+            if is_given || count > 0 {
+                line.skip(indentation).push_units(&mut units, line_unit)?;
+            }
+            line.push_newline(&mut units)?;
+        }
         if sign == b'>' && count > 1 {
             return self.note_lines(value);
-        }
-        let mut units = Vec::new(self.alloc);
-        // No space is read of blank lines before the one that gives the indentation.
-        let mut is_begun = header(value.text.skip(1)) != Some(0);
-        for line in &lines {
-            is_begun |= !is_empty(*line);
-            let count = if is_begun { indentation } else { line.len() };
-            line.skip(count).push_units(&mut units, line_unit)?;
-            line.push_newline(&mut units)?;
         }
         self.host.add(units)
     }
@@ -266,15 +280,14 @@ impl<'a> Yaml<'a> {
     /// Reads a plain scalar, unless it goes on on the next line.
     fn read_plain(&mut self, value: Value<'a>) -> Result<()> {
         let others = self.rest.to(self.rest_behind(value).start);
-        let is_alone = others.after_lines(|line| line.is_ended()).len() == 0;
-        match plain_scalar(value.text) {
-            Some(scalar) if is_alone => {
-                let mut units = Vec::new(self.alloc);
-                scalar.push_units(&mut units, line_unit)?;
-                self.host.add(units)
-            }
-            _ => self.pass_value(value),
+        if others.after_lines(Part::is_ended).len() == 0
+            && let Some(scalar) = plain_scalar(value.text)
+        {
+            let mut units = Vec::new(self.alloc);
+            scalar.push_units(&mut units, line_unit)?;
+            return self.host.add(units);
         }
+        self.pass_value(value)
     }
 }
 
@@ -332,15 +345,15 @@ fn key_behind(part: Part<'_>) -> Part<'_> {
 
 /// What is behind the key that begins the part: its colon, perhaps behind blanks; none if no key does.
 fn key_end(part: Part) -> Option<Part<'_>> {
-    let is_other = |byte: &u8| !is_name_byte(*byte) && !is_in(*byte, "-.\"'");
-    let behind = part.skip(part.bytes().iter().position(is_other)?);
+    let behind = part.after_any(KEY_BYTES);
     let is_key = behind.start > part.start && has_sign(behind.after_blanks(), ":");
     is_key.then_some(behind)
 }
 
 /// Whether one of these signs begins the part, and a blank or nothing follows it.
 fn has_sign(part: Part, signs: &str) -> bool {
-    part.first().is_some_and(|byte| is_in(byte, signs)) && part.skip(1).first().is_none_or(is_blank)
+    let rest = part.skip(1);
+    part.begins_with_any(signs) && (rest.len() == 0 || rest.begins_with_any(" \t"))
 }
 
 /// The key without quotes around it.
