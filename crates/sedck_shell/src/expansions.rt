@@ -8,7 +8,7 @@ use std::alloc::Global;
 /// How many units are looked at in all for the ends of expressions, so that the time stays linear.
 const LOOKAHEAD: usize = 1_000_000;
 
-impl Reader<'_> {
+impl Reader<'_, '_> {
     /// Reads a dollar sign, and the expansion that begins with it.
     pub fn read_expansion(&mut self, unit: Unit) -> Result<()> {
         let length = self.rest.name_length();
@@ -71,10 +71,9 @@ impl Reader<'_> {
         self.open(1, Enclosure::Parameter, true)?;
         let first = self.rest.peek();
         // Some shells read commands there, and no others anything.
-        let has_commands = is_in(first, " \t\n|");
-        self.output.note_if(has_commands, self.here.start())?;
-        let has_sign = is_in(first, "!#@*?-$");
-        let name = self.rest.skip(usize::from(has_sign));
+        self.output
+            .note_if(is_in(first, " \t\n|"), self.here.start())?;
+        let name = self.rest.skip(usize::from(is_in(first, "!#@*?-$")));
         let behind = name.skip(name.name_length());
         self.top.is_in_double &= !is_in(behind.peek(), "#%/^,");
         self.top.is_several = is_several(first, behind);
@@ -169,12 +168,12 @@ fn sed_within(text: Cursor) -> Option<usize> {
     let mut rest = text;
     for _ in 0..text.len() {
         let length = rest.name_length();
-        let has_letter = length == 4 && is_in(rest.peek(), "gsGS");
+        let has_letter = length == 4 && matches!(rest.peek(), Some(b'g' | b's' | b'G' | b'S'));
         let name = rest.skip(usize::from(has_letter));
         if (length == 3 || has_letter)
-            && is_in(name.byte(0), "sS")
-            && is_in(name.byte(1), "eE")
-            && is_in(name.byte(2), "dD")
+            && matches!(name.byte(0), Some(b's' | b'S'))
+            && matches!(name.byte(1), Some(b'e' | b'E'))
+            && matches!(name.byte(2), Some(b'd' | b'D'))
         {
             return Some(name.start());
         }

@@ -12,7 +12,7 @@ const DEPTH: usize = 100;
 /// How many units of redirections are copied at most for the commands in groups, so that memory is bounded.
 pub(crate) const COPIED: usize = 1_000_000;
 
-impl Reader<'_> {
+impl Reader<'_, '_> {
     /// The number of a new group that begins at this offset in the file, whose output isn't that of the group around it where it is caught.
     pub fn new_group(&mut self, offset: usize, is_caught: bool) -> Result<Option<usize>> {
         let number = self.output.groups.len();
@@ -71,8 +71,7 @@ pub(crate) fn inherit(
     let mut left = left;
     let mut around = draft.around.group;
     for _ in 0..DEPTH {
-        let Some(number) = around else { break };
-        let Some(group) = groups.get(number) else {
+        let Some(group) = around.and_then(|number| groups.get(number)) else {
             break;
         };
         around = group.around.group;

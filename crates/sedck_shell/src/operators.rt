@@ -1,12 +1,11 @@
 //! Operators: ends of commands, parentheses and redirections (XCU 2.7, 2.9).
 
-use crate::command::ShellWord;
 use crate::frame::{Awaited, Delimiter, Enclosure};
 use crate::reader::{Reader, is_in, length_of};
 use crate::words::begins_with;
 use sedck_origin::{Cursor, Result, Unit, name_length};
 
-impl Reader<'_> {
+impl Reader<'_, '_> {
     /// Reads an operator that begins with this byte.
     pub fn read_operator(&mut self, unit: Unit, byte: u8) -> Result<()> {
         if self.top.is_test && byte != b';' {
@@ -95,7 +94,10 @@ impl Reader<'_> {
         if begins_with(words, "function") {
             return self.end_command();
         }
-        let is_pattern = has_byte(words) && !begins_with(words, "[[") && !self.has_macros();
+        let is_known = words
+            .iter()
+            .any(|word| word.units.iter().any(|unit| unit.byte().is_some()));
+        let is_pattern = is_known && !begins_with(words, "[[") && !self.has_macros();
         self.output.note_if(is_pattern, self.here.start())
     }
 
@@ -183,18 +185,6 @@ impl Reader<'_> {
         }
         Ok(Some(stream_of(&word.units)))
     }
-}
-
-/// Whether one of the words has a byte that is known.
-fn has_byte(words: &[ShellWord]) -> bool {
-    for word in words {
-        for unit in &word.units {
-            if unit.byte().is_some() {
-                return true;
-            }
-        }
-    }
-    false
 }
 
 /// A stream of a command.

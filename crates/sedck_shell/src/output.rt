@@ -26,17 +26,25 @@ pub fn read_shell(alloc: Global, text: Text, form: Form) -> Result<ShellText> {
         looked: 0,
         is_full: false,
     };
-    output = read_text(alloc, Cursor::new(text), form, None, output)?;
+    read_text(alloc, Cursor::new(text), form, None, &mut output)?;
     for _ in 0..LEVELS {
         let jobs = std::mem::replace(&mut output.jobs, Vec::new(alloc));
         for job in &jobs {
-            output = match job.body {
-                Some(number) => read_body(alloc, job, number, form, output)?,
-                None => read_text(alloc, Cursor::Units(&job.units), form, job.group, output)?,
-            };
+            read_job(alloc, job, form, &mut output)?;
         }
     }
     finished(alloc, output)
+}
+
+/// Reads a text or a here-document.
+fn read_job(alloc: Global, job: &Job, form: Form, output: &mut Output) -> Result<()> {
+    let text = Cursor::Units(&job.units);
+    match job.body {
+        Some(number) => {
+            new_reader(alloc, text, form, (job.quote, job.group), output).read_body(number)
+        }
+        None => read_text(alloc, text, form, job.group, output),
+    }
 }
 
 /// Reads a text in the group of this number. Where a quote or an expansion isn't closed, reading goes on at the line after it.
@@ -45,52 +53,27 @@ fn read_text(
     text: Cursor,
     form: Form,
     group: Option<usize>,
-    output: Output,
-) -> Result<Output> {
-    let (mut output, mut rest) = (output, text);
+    output: &mut Output,
+) -> Result<()> {
+    let mut rest = text;
     for _ in 0..RESTARTS {
         let mut reader = new_reader(alloc, rest, form, (Quote::None, group), output);
-        let is_closed = reader.read_text()?;
-        let (opened, mark) = (reader.opened, reader.mark);
-        output = reader.output;
-        if is_closed {
-            break;
-        }
-        output.forget(mark);
-        match opened.behind(b'\n') {
+        match reader.read_text()? {
             Some(next) => rest = next,
             None => break,
         }
     }
-    Ok(output)
-}
-
-/// Reads a here-document.
-fn read_body(
-    alloc: Global,
-    job: &Job,
-    number: usize,
-    form: Form,
-    output: Output,
-) -> Result<Output> {
-    let text = Cursor::Units(&job.units);
-    let mut reader = new_reader(alloc, text, form, (job.quote, job.group), output);
-    reader.read_body()?;
-    let body = std::mem::replace(&mut reader.top.word.units, Vec::new(alloc));
-    if let Some(place) = reader.output.bodies.get_mut(number) {
-        *place = Some(body);
-    }
-    Ok(reader.output)
+    Ok(())
 }
 
 /// A reader at the beginning of a text, with this quoting, and in the group of this number.
-fn new_reader<'a>(
+fn new_reader<'a, 'o>(
     alloc: Global,
     text: Cursor<'a>,
     form: Form,
     (quote, group): (Quote, Option<usize>),
-    output: Output,
-) -> Reader<'a> {
+    output: &'o mut Output,
+) -> Reader<'a, 'o> {
     let mut top = Frame::new(alloc, quote);
     top.flow.group = group;
     Reader {
@@ -167,6 +150,7 @@ fn command_of(draft: Draft, bodies: &mut Vec<Option<Vec<Unit>>>) -> ShellCommand
 #[derive(Drop)]
 pub(crate) struct Pending {
     delimiter: ShellWord,
+    quote: Quote,
     /// Whether tabs at the beginnings of lines are left out.
     is_stripped: bool,
     number: usize,
@@ -174,7 +158,7 @@ pub(crate) struct Pending {
     group: Option<usize>,
 }
 
-impl Reader<'_> {
+impl Reader<'_, '_> {
     /// Awaits a here-document that ends with this word, as the input of the command if it is for descriptor 0.
     pub fn await_body(&mut self, delimiter: ShellWord, how: Delimiter) -> Result<()> {
         for unit in &delimiter.units {
@@ -189,12 +173,17 @@ impl Reader<'_> {
         } else {
             self.top.draft.command.has_other_here = true;
         }
-        let (is_stripped, group) = (how.is_stripped, self.top.flow.group);
+        // Where a part of the delimiter is quoted, nothing in the text is expanded.
+        let quote = match delimiter.is_quoted {
+            true => Quote::Verbatim,
+            false => Quote::Body,
+        };
         let pending = Pending {
             delimiter,
-            is_stripped,
+            quote,
+            is_stripped: how.is_stripped,
             number,
-            group,
+            group: self.top.flow.group,
         };
         Ok(self.pending.push(pending)?)
     }
@@ -219,25 +208,15 @@ impl Reader<'_> {
             return Ok(false);
         };
         self.output.note_if(is_joined, delimiter.start)?;
-        let quote = quote_of(delimiter);
         let units = lines_of(self.alloc, self.rest.before(end), pending.is_stripped)?;
-        let (body, group) = (Some(pending.number), pending.group);
         self.pass(self.here.before(rest).len().saturating_sub(1));
         self.output.jobs.push(Job {
             units,
-            quote,
-            body,
-            group,
+            quote: pending.quote,
+            body: Some(pending.number),
+            group: pending.group,
         })?;
         Ok(true)
-    }
-}
-
-/// The quoting of a here-document with this delimiter: where a part of that is quoted, nothing in the text is expanded.
-fn quote_of(delimiter: &ShellWord) -> Quote {
-    match delimiter.is_quoted {
-        true => Quote::Verbatim,
-        false => Quote::Body,
     }
 }
 

@@ -8,7 +8,7 @@ use sedck_origin::{Cursor, Result, Unit, Way, escape_byte};
 /// The digits of escape sequences with `x`, `u` and `U`.
 const HEXADECIMAL: &str = "0123456789abcdefABCDEF";
 
-impl Reader<'_> {
+impl Reader<'_, '_> {
     /// Begins a quoted part.
     pub fn open_quote(&mut self, unit: Unit, quote: Quote) {
         self.note_opening();

@@ -105,7 +105,7 @@ const DEPTH: usize = 100;
 
 /// The state of reading.
 #[derive(Drop)]
-pub(crate) struct Reader<'a> {
+pub(crate) struct Reader<'a, 'o> {
     pub alloc: Global,
     pub form: Form,
     /// What begins with the unit that is read, and what is behind that and isn't read yet.
@@ -123,10 +123,10 @@ pub(crate) struct Reader<'a> {
     pub mark: Mark,
     /// How many brackets of M4 are open.
     pub brackets: usize,
-    pub output: Output,
+    pub output: &'o mut Output,
 }
 
-impl<'a> Reader<'a> {
+impl<'a> Reader<'a, '_> {
     /// Reads the units that are left.
     fn read_all(&mut self) -> Result<()> {
         for _ in 0..self.rest.len() {
@@ -358,28 +358,33 @@ impl<'a> Reader<'a> {
         }
     }
 
-    /// Reads a here-document to its end. All that encloses there is left, and its units are lost.
-    pub fn read_body(&mut self) -> Result<()> {
+    /// Reads the here-document of this number to its end. All that encloses there is left, and its units are lost.
+    pub fn read_body(&mut self, number: usize) -> Result<()> {
         self.read_all()?;
         self.frames.truncate(1);
         if let Some(outermost) = self.frames.pop() {
             self.output.unread.push(self.top.opened)?;
             self.top = outermost;
         }
+        if let Some(body) = self.output.bodies.get_mut(number) {
+            *body = Some(std::mem::replace(&mut self.top.word.units, Vec::new(self.alloc)));
+        }
         Ok(())
     }
 
-    /// Reads a text to its end, and answers whether its commands stand: no quote and no expansion is open.
-    pub fn read_text(&mut self) -> Result<bool> {
+    /// Reads a text to its end. Where a quote or an expansion isn't closed, what was read from there on is forgotten, and the answer is what
+    /// is behind the line.
+    pub fn read_text(&mut self) -> Result<Option<Cursor<'a>>> {
         self.read_all()?;
-        let is_closed = self.is_closed();
-        if is_closed {
+        if self.is_closed() {
             self.end_command()?;
+            self.output
+                .note_if(!self.frames.is_empty(), self.opened.start())?;
+            return Ok(None);
         }
-        if !is_closed || !self.frames.is_empty() {
-            self.output.unread.push(self.opened.start())?;
-        }
-        Ok(is_closed)
+        self.output.unread.push(self.opened.start())?;
+        self.output.forget(self.mark);
+        Ok(self.opened.behind(b'\n'))
     }
 
     /// Whether no quote and no expansion is open.

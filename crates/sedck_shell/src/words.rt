@@ -19,7 +19,7 @@ static BEGINNINGS: &'static [&'static str] = &[
 /// Words that end one.
 static ENDS: &'static [&'static str] = &["fi", "done", "}"];
 
-impl Reader<'_> {
+impl Reader<'_, '_> {
     /// Begins a word at this offset in the file, if none is begun.
     pub fn begin_word(&mut self, offset: usize) {
         if !self.top.has_word {
@@ -342,8 +342,9 @@ impl Reader<'_> {
 
     /// Keeps the words of the command as the names of functions. Some shells give one body several names.
     fn add_functions(&mut self) -> Result<()> {
-        let names = &mut self.top.draft.command.words;
-        Ok(self.output.functions.append(names)?)
+        let words = &mut self.top.draft.command.words;
+        let mut names = std::mem::replace(words, Vec::new(self.alloc));
+        Ok(self.output.functions.append(&mut names)?)
     }
 
     /// Ends the command before `&&`, `||` or a pipe: newlines may precede what follows.
@@ -359,13 +360,8 @@ impl Reader<'_> {
 
 /// Whether the word behind `>&` is a descriptor, or the hyphen that closes one.
 fn is_descriptor_copy(word: &ShellWord) -> bool {
-    for unit in &word.units {
-        let byte = unit.byte();
-        if byte.is_some() && !is_in(byte, "0123456789-") {
-            return false;
-        }
-    }
-    true
+    let mut units = word.units.iter();
+    units.all(|unit| unit.byte().is_none() || is_in(unit.byte(), "0123456789-"))
 }
 
 /// The offset of the first of these words, from this number on, where one of all is a sed; or else of one there that may be.
