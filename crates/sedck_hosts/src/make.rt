@@ -76,6 +76,9 @@ impl Make {
         }
         if let Some(definition) = definition_at(statement) {
             self.is_in_rule = false;
+            if is_private(line, statement) {
+                return self.add_unknown(line, definition);
+            }
             return self.define(statement, definition);
         }
         if has_tab {
@@ -211,6 +214,13 @@ fn is_known(name: &[u8]) -> bool {
 fn after_modifiers(line: Part) -> Part<'_> {
     let words = line.after_blanks();
     words.after_words(4, |word| is_word_of(word, MODIFIERS))
+}
+
+/// Whether recipes don't see the variable: `private` is among the words before the assignment.
+fn is_private(line: Part, assignment: Part) -> bool {
+    let words = line.after_blanks();
+    let seen = words.after_words(4, |word| is_word_of(word, "export override"));
+    seen.start < assignment.start
 }
 
 /// The assignment that the part is, if it is one: a name, blanks, and an operator.
