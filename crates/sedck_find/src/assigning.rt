@@ -99,9 +99,9 @@ impl Names<'_> {
         let name = words.iter().position(|word| !is_assignment(&word.units));
         let count = name.unwrap_or(words.len());
         for word in words.iter().take(count) {
-            // Before a command IFS is set for that alone.
+            // Before a command IFS is set for that alone, and another variable for all that it runs, but not for its own words.
             if !self.is_make() && (name.is_none() || !begins_with(&word.units, "IFS=")) {
-                self.note_word(word, true)?;
+                self.note_word(word, name.is_none())?;
             }
         }
         self.note_utility(without_prefixes(rest(words, count)))
