@@ -15,6 +15,14 @@ use crate::spending::{Budget, Undecided};
 use crate::spots::Spot;
 use sedck_bre::Bre;
 
+/// How often something is repeated.
+#[derive(Clone, Copy)]
+struct Times {
+    least: u8,
+    /// There is no bound where it is `None`.
+    most: Option<u8>,
+}
+
 /// Where the tree leads from the spots. Each call spends one of the budget, unless there is no spot: so the budget bounds the work.
 #[cycle(following)]
 pub(crate) fn follow(
@@ -47,7 +55,11 @@ pub(crate) fn follow(
         Bre::Group(group, body) => follow_group(*group, body, text, from, budget),
         Bre::Seq(items) => follow_all(items, text, from, budget),
         Bre::Repeat { body, least, most } => {
-            follow_repeat(body, *least, *most, text, from, budget)
+            let times = Times {
+                least: *least,
+                most: *most,
+            };
+            follow_repeat(body, times, text, from, budget)
         }
     }
 }
@@ -101,18 +113,18 @@ fn follow_group(
 #[cycle(following)]
 fn follow_repeat(
     body: &Bre,
-    least: u8,
-    most: Option<u8>,
+    times: Times,
     text: &[u8],
     from: &[Spot],
     budget: &mut Budget,
 ) -> Result<Vec<Spot>, Undecided>
     requires { AreWithin text.now from.now }
-    ensures led { IfOk result (λ spots. AreLed (Leads (Repeat (tree body.now) least most)) text.now from.now spots.items) }
+    ensures led { IfOk result (λ spots. AreLed (Leads (Repeat (tree body.now) times.least times.most)) text.now from.now spots.items) }
     ensures within { IfOk result (λ spots. AreWithin text.now spots.items) }
     ensures used { result ≡ Err Undecided.OutOfBudget → budget.new.left ≡ 0 }
     ensures spent { budget.new.left ≤ budget.old.left }
 {
+    let Times { least, most } = times;
     let spots = follow_times(body, least, text, from, budget)?;
     match most {
         None => follow_many(body, text, &spots, budget),

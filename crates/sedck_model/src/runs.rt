@@ -16,7 +16,8 @@ pub fn follows(
     steps: &[Move],
     budget: &mut Budget,
 ) -> Result<Option<usize>, Undecided>
-    ensures decided { IfOk result (λ wrong. MatchOption wrong (Run script.now (lines_of lines.now) (map move_of steps.now)) (IsFirstWrong script.now (lines_of lines.now) (map move_of steps.now))) }
+    ensures decided { IfOk result (λ wrong. MatchOption wrong (Run script.now (lines_of lines.now) (map move_of steps.now))
+        (IsFirstWrong script.now (lines_of lines.now) (map move_of steps.now))) }
     ensures used { result ≡ Err Undecided.OutOfBudget → budget.new.left ≡ 0 }
     ensures spent { budget.new.left ≤ budget.old.left }
 {

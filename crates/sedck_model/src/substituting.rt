@@ -15,6 +15,13 @@ use sedck_bre::Bre;
 use sedck_script::{Part, Script, Substitution};
 use std::alloc::{AllocError, Global};
 
+/// A substitution, and the expression that its matches are of.
+#[derive(Clone, Copy)]
+struct Replacing<'e, 's, 't> {
+    expression: &'e Bre,
+    substitution: &'s Substitution<'t>,
+}
+
 /// Whether the substitution may make the new text of the old one, by any choice of matches.
 pub fn substitutes(
     script: &Script,
@@ -29,7 +36,11 @@ pub fn substitutes(
 {
     let expressions = candidates(budget.alloc, script, &substitution.pattern)?;
     for expression in &expressions {
-        if replaces_in(expression, substitution, old_text, new_text, budget)? {
+        let replacing = Replacing {
+            expression,
+            substitution,
+        };
+        if replaces_in(replacing, old_text, new_text, budget)? {
             return Ok(true);
         }
     }
@@ -38,25 +49,19 @@ pub fn substitutes(
 
 /// Whether behind a text with which both begin the old one begins with a match, and is replaced from it on by the new one.
 fn replaces_in(
-    expression: &Bre,
-    substitution: &Substitution,
+    replacing: Replacing,
     old_text: &[u8],
     new_text: &[u8],
     budget: &mut Budget,
 ) -> Result<bool, Undecided>
-    ensures decided { IfOk result (λ yes. IsTrue yes ↔ ReplacesIn (tree expression.now) (substitution_of substitution.now) old_text.now new_text.now) }
+    ensures decided { IfOk result (λ yes. IsTrue yes ↔ ReplacesIn
+        (tree replacing.entry.expression.now) (substitution_of replacing.entry.substitution.now) old_text.now new_text.now) }
     ensures used { result ≡ Err Undecided.OutOfBudget → budget.new.left ≡ 0 }
     ensures spent { budget.new.left ≤ budget.old.left }
 {
     let shared = shared_length(old_text, new_text);
     for length in 0..shared + 1 {
-        if replaces(
-            expression,
-            substitution,
-            &old_text[length..],
-            &new_text[length..],
-            budget,
-        )? {
+        if replaces(replacing, &old_text[length..], &new_text[length..], budget)? {
             return Ok(true);
         }
     }
@@ -66,19 +71,19 @@ fn replaces_in(
 /// Whether the old text begins with a match, and is replaced from it on by the new one.
 #[cycle(replacing)]
 fn replaces(
-    expression: &Bre,
-    substitution: &Substitution,
+    replacing: Replacing,
     old_text: &[u8],
     new_text: &[u8],
     budget: &mut Budget,
 ) -> Result<bool, Undecided>
-    ensures decided { IfOk result (λ yes. IsTrue yes ↔ Replaces (tree expression.now) (substitution_of substitution.now) old_text.now new_text.now) }
+    ensures decided { IfOk result (λ yes. IsTrue yes ↔ Replaces
+        (tree replacing.entry.expression.now) (substitution_of replacing.entry.substitution.now) old_text.now new_text.now) }
     ensures used { result ≡ Err Undecided.OutOfBudget → budget.new.left ≡ 0 }
     ensures spent { budget.new.left ≤ budget.old.left }
 {
-    let spots = ends(expression, old_text, 0, budget)?;
+    let spots = ends(replacing.expression, old_text, 0, budget)?;
     for spot in &spots {
-        if replaces_at(expression, substitution, old_text, new_text, spot, budget)? {
+        if replaces_at(replacing, old_text, new_text, spot, budget)? {
             return Ok(true);
         }
     }
@@ -88,23 +93,22 @@ fn replaces(
 /// Whether the same holds with the match that ends at this spot.
 #[cycle(replacing)]
 fn replaces_at(
-    expression: &Bre,
-    substitution: &Substitution,
+    replacing: Replacing,
     old_text: &[u8],
     new_text: &[u8],
     spot: &Spot,
     budget: &mut Budget,
 ) -> Result<bool, Undecided>
     requires { spot.now.at ≤ length old_text.now }
-    ensures decided { IfOk result (λ yes. IsTrue yes ↔ ReplacesAt (tree expression.now) (substitution_of substitution.now) old_text.now new_text.now spot.now) }
+    ensures decided { IfOk result (λ yes. IsTrue yes ↔ ReplacesAt
+        (tree replacing.entry.expression.now) (substitution_of replacing.entry.substitution.now) old_text.now new_text.now spot.now) }
     ensures used { result ≡ Err Undecided.OutOfBudget → budget.new.left ≡ 0 }
     ensures spent { budget.new.left ≤ budget.old.left }
 {
-    let text = replacement_text(budget.alloc, &substitution.parts, old_text, spot)?;
+    let text = replacement_text(budget.alloc, &replacing.substitution.parts, old_text, spot)?;
     match new_text.strip_prefix(&text) {
         Some(rest) => continues(
-            expression,
-            substitution,
+            replacing,
             1usize.saturating_sub(spot.at),
             &old_text[spot.at..],
             rest,
@@ -117,33 +121,27 @@ fn replaces_at(
 /// Whether what is after a match stays, up to the end or to another match, with at least so many bytes before that one.
 #[cycle(replacing)]
 fn continues(
-    expression: &Bre,
-    substitution: &Substitution,
+    replacing: Replacing,
     least: usize,
     old_text: &[u8],
     new_text: &[u8],
     budget: &mut Budget,
 ) -> Result<bool, Undecided>
     requires { least ≤ 1 }
-    ensures decided { IfOk result (λ yes. IsTrue yes ↔ Continues (tree expression.now) (substitution_of substitution.now) least old_text.now new_text.now) }
+    ensures decided { IfOk result (λ yes. IsTrue yes ↔ Continues
+        (tree replacing.entry.expression.now) (substitution_of replacing.entry.substitution.now) least old_text.now new_text.now) }
     ensures used { result ≡ Err Undecided.OutOfBudget → budget.new.left ≡ 0 }
     ensures spent { budget.new.left ≤ budget.old.left }
 {
     if old_text == new_text {
         return Ok(true);
     }
-    if !substitution.global {
+    if !replacing.substitution.global {
         return Ok(false);
     }
     let shared = shared_length(old_text, new_text);
     for length in least..shared + 1 {
-        if replaces(
-            expression,
-            substitution,
-            &old_text[length..],
-            &new_text[length..],
-            budget,
-        )? {
+        if replaces(replacing, &old_text[length..], &new_text[length..], budget)? {
             return Ok(true);
         }
     }

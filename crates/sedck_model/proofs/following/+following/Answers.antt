@@ -253,10 +253,10 @@ follow_repeat-follow_many-requires t c = (search rules, same_within c.args.text.
 pub follow_repeat-returns-in-None-clause-led : goal.follow_repeat-returns-in-None-clause-led
 follow_repeat-returns-in-None-clause-led t c =
     let body = tree c.args.body.now in
-    let least = c.args.least in
+    let least = c.args.times.least in
     let text = c.args.text.now in
     let from = c.args.from.now in
-    if_led_as text from c.follow_many.result (spec.Repeat body least c.args.most) (spec.Repeat body least None)
+    if_led_as text from c.follow_many.result (spec.Repeat body least c.args.times.most) (spec.Repeat body least None)
     (ap (spec.Repeat body least) c.in-None.is)
     (if_led_after (Steps (Leads body) least) (Many (Leads body)) (Leads (spec.Repeat body least None)) text from c.in_ok-spots.spots.items
     c.deref.result.now c.follow_many.result c.in_ok-spots.ensures.led c.deref.ensures.value (repeat_many body least) c.follow_many.ensures.led)
@@ -267,11 +267,11 @@ follow_repeat-follow_up_to-requires t c = (search rules, same_within c.args.text
 pub follow_repeat-returns-clause-led : goal.follow_repeat-returns-clause-led
 follow_repeat-returns-clause-led t c =
     let body = tree c.args.body.now in
-    let least = c.args.least in
+    let least = c.args.times.least in
     let most = c.in-Some.most in
     let text = c.args.text.now in
     let from = c.args.from.now in
-    if_led_as text from c.follow_up_to.result (spec.Repeat body least c.args.most) (spec.Repeat body least (Some most))
+    if_led_as text from c.follow_up_to.result (spec.Repeat body least c.args.times.most) (spec.Repeat body least (Some most))
     (ap (spec.Repeat body least) c.in-Some.is)
     (if_led_after (Steps (Leads body) least) (UpTo (Leads body) (most - least)) (Leads (spec.Repeat body least (Some most))) text from
     c.in_ok-spots.spots.items c.deref-else-most-least.result.now c.follow_up_to.result c.in_ok-spots.ensures.led c.deref-else-most-least.ensures.value

@@ -11,15 +11,15 @@ use Rattle.sedck_model.proofs.substituting.+replacing.Goals as goal
 
 pub continues-returns-then-eq-clause-decided : goal.continues-returns-then-eq-clause-decided
 continues-returns-then-eq-clause-decided t c = (
-  λ _. continues_alike (tree c.args.expression.now) (substitution_of c.args.substitution.now) c.args.least c.args.old_text.now c.args.new_text.now
+  λ _. continues_alike (tree c.args.replacing.expression.now) (substitution_of c.args.replacing.substitution.now) c.args.least c.args.old_text.now c.args.new_text.now
       (same_text c.args.old_text.now c.args.new_text.now c.if-eq.ensures),
   λ _. refl,
 )
 
 pub continues-returns-then-branch-clause-decided : goal.continues-returns-then-branch-clause-decided
 continues-returns-then-branch-clause-decided t c =
-    let s = substitution_of c.args.substitution.now in
-    let x = tree c.args.expression.now in
+    let s = substitution_of c.args.replacing.substitution.now in
+    let x = tree c.args.replacing.expression.now in
     let old = c.args.old_text.now in
     let new = c.args.new_text.now in
     let k = c.loop-length.length in
@@ -29,15 +29,15 @@ continues-returns-then-branch-clause-decided t c =
     (subst (λ o. Replaces x s o (take (length new - k) (drop k new))) (rest_whole k old) found) in
     let within : k ≤ c.shared_length-shared.result = omega (arith, c.loop-length-test.true) in
     let all : c.shared_length-shared.result ≤ length old = c.shared_length-shared.ensures.one in (
-      λ _. continues_at x s c.args.least k old new c.if-not-substitution.false c.loop-length.auto.length (omega arith)
+      λ _. continues_at x s c.args.least k old new c.if-not-replacing.false c.loop-length.auto.length (omega arith)
           (shared_take k c.shared_length-shared.result old new within c.shared_length-shared.ensures.shared) follows,
       λ _. refl,
     )
 
 pub continues-returns-clause-decided : goal.continues-returns-clause-decided
 continues-returns-clause-decided t c =
-    let s = substitution_of c.args.substitution.now in
-    let x = tree c.args.expression.now in
+    let s = substitution_of c.args.replacing.substitution.now in
+    let x = tree c.args.replacing.expression.now in
     let old = c.args.old_text.now in
     let new = c.args.new_text.now in (
       λ is. absurd (cc is),
@@ -52,8 +52,8 @@ continues-returns-clause-decided t c =
 
 pub replaces-returns-then-branch-clause-decided : goal.replaces-returns-then-branch-clause-decided
 replaces-returns-then-branch-clause-decided t c =
-    let s = substitution_of c.args.substitution.now in
-    let x = tree c.args.expression.now in
+    let s = substitution_of c.args.replacing.substitution.now in
+    let x = tree c.args.replacing.expression.now in
     let old = c.args.old_text.now in
     let spots = c.in_ok-spots.spots.items in
     let i = c.loop-spot.spot-index in
@@ -68,8 +68,8 @@ replaces-returns-then-branch-clause-decided t c =
 
 pub replaces-loop-spot-preserved : goal.replaces-loop-spot-preserved
 replaces-loop-spot-preserved t c =
-    let s = substitution_of c.args.substitution.now in
-    let x = tree c.args.expression.now in
+    let s = substitution_of c.args.replacing.substitution.now in
+    let x = tree c.args.replacing.expression.now in
     let items = c.deref-spot-items.result.now in
     let i = c.loop-spot.spot-index in
     let none : Spot = record { at = 0; groups = [] } in
@@ -83,8 +83,8 @@ replaces-loop-spot-preserved t c =
 
 pub replaces-returns-clause-decided : goal.replaces-returns-clause-decided
 replaces-returns-clause-decided t c =
-    let s = substitution_of c.args.substitution.now in
-    let x = tree c.args.expression.now in
+    let s = substitution_of c.args.replacing.substitution.now in
+    let x = tree c.args.replacing.expression.now in
     let spots = c.in_ok-spots.spots.items in
     let items = c.deref-spot-items.result.now in
     let i = c.loop-spot.spot-index in

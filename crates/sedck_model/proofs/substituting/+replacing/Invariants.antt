@@ -18,13 +18,13 @@ decreases-continues l = 3 * length l.old_text.now + 3 - 3 * l.least
 -- no spot so far is the end of the first match
 abbrev pub invariant-replaces-loop-spot : goal.invariant-replaces-loop-spot
 invariant-replaces-loop-spot l = record {
-  none : (spot : Spot) → Contains (take l.spot-index l.spot-items) spot → ReplacesAt (tree l.expression) (substitution_of l.substitution) l.old_text l.new_text spot → ⊥;
+  none : (spot : Spot) → Contains (take l.spot-index l.spot-items) spot → ReplacesAt (tree l.replacing.expression.now) (substitution_of l.replacing.substitution.now) l.old_text l.new_text spot → ⊥;
   spent : l.budget.left ≤ l.fn.budget.left;
 }
 
 -- no match follows so few bytes later
 abbrev pub invariant-continues-loop-length : goal.invariant-continues-loop-length
 invariant-continues-loop-length l = record {
-  none : (k : ℕ) → l.least ≤ k → k < l.length → Replaces (tree l.expression) (substitution_of l.substitution) (drop k l.old_text) (drop k l.new_text) → ⊥;
+  none : (k : ℕ) → l.least ≤ k → k < l.length → Replaces (tree l.replacing.expression.now) (substitution_of l.replacing.substitution.now) (drop k l.old_text) (drop k l.new_text) → ⊥;
   spent : l.budget.left ≤ l.fn.budget.left;
 }

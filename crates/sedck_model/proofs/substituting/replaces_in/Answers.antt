@@ -7,8 +7,8 @@ use Rattle.sedck_model.proofs.substituting.replaces_in.Goals as goal
 
 pub returns-then-branch-clause-decided : goal.returns-then-branch-clause-decided
 returns-then-branch-clause-decided c =
-    let s = substitution_of c.args.substitution.now in
-    let x = tree c.args.expression.now in
+    let s = substitution_of c.args.replacing.substitution.now in
+    let x = tree c.args.replacing.expression.now in
     let old = c.args.old_text.now in
     let new = c.args.new_text.now in
     let k = c.loop-length.length in
@@ -24,7 +24,7 @@ returns-then-branch-clause-decided c =
 pub returns-clause-decided : goal.returns-clause-decided
 returns-clause-decided c = (
   λ is. absurd (cc is),
-  λ h. let at = replaces_in_from (tree c.args.expression.now) (substitution_of c.args.substitution.now) c.args.old_text.now c.args.new_text.now h in
+  λ h. let at = replaces_in_from (tree c.args.replacing.expression.now) (substitution_of c.args.replacing.substitution.now) c.args.old_text.now c.args.new_text.now h in
       let longest : at.0 ≤ c.shared_length-shared.result = c.shared_length-shared.ensures.longest at.0 at.1 at.2 at.3 in
       absurd (c.loop-length.invariant.none at.0 (omega (arith, c.loop-length-test.false)) at.4),
 )
