@@ -16,7 +16,7 @@ ghost use Rattle.sedck_explanation.specs.Private.Errors.{IsOfScript, IsRefused, 
 ghost use Rattle.sedck_explanation.specs.Private.Explaining.{Explains, Reports, WarnedWith, KeepsLocated, HasLists, AreDeniedFindings, kinds_of};
 
 use crate::answer::{Answered, Expressions, answer_of, status_under};
-use crate::reporting::{ignored_codes, reported};
+use crate::reporting::{Silence, ignored_codes, reported};
 use sedck_advice::{
     NamedFiles, ReadScript, Slow, add_warnings, ignoring_words, locale_warnings, named_files,
     references_in, slow_of,
@@ -43,18 +43,23 @@ pub fn explain<'a>(
     ensures few { IfOk result (λ e. IsOfAnswer e.status) }
 {
     let asked = Asked {
+        text,
         own,
         inputs: &[],
+        warnings: Vec::new(alloc),
         denied,
     };
-    explained_with(alloc, text, certificate, Vec::new(alloc), asked)
+    explained_with(alloc, certificate, asked)
 }
 
-/// What is known beside a script's text: the path of its file, if it has one, the operands of its call, and what is denied.
-#[derive(Clone, Copy)]
-struct Asked<'a> {
-    own: Option<&'a [u8]>,
-    inputs: &'a [&'a [u8]],
+/// A script's text with what is known beside it: the path of its file, if it has one, the operands of its call, what is warned of that
+/// call, and what is denied.
+#[derive(Drop)]
+struct Asked<'i, 'a> {
+    text: &'a [u8],
+    own: Option<&'i [u8]>,
+    inputs: &'i [&'i [u8]],
+    warnings: Vec<Finding>,
     denied: Denied,
 }
 
@@ -74,53 +79,52 @@ pub(crate) fn explain_call<'a>(
     ensures warned { IfOk result (WarnedWith denied warnings.items) }
 {
     let asked = Asked {
+        text,
         own: None,
         inputs,
+        warnings,
         denied,
     };
-    explained_with(alloc, text, None, warnings, asked)
+    explained_with(alloc, None, asked)
 }
 
-/// Explains a script, with these warnings beside its own.
+/// Explains a script, alone or with a certificate.
 fn explained_with<'a>(
     alloc: Global,
-    text: &'a [u8],
     certificate: Option<&[u8]>,
-    warnings: Vec<Finding>,
-    asked: Asked,
+    asked: Asked<'_, 'a>,
 ) -> Result<Explanation<'a>, AllocError>
-    requires errors { has_error warnings.items ≡ false }
-    requires locale { has_locale warnings.items ≡ false }
-    ensures explanation { IfOk result (IsExplanation text.now (option_map (λ bytes. bytes.now) certificate.entry) asked.entry.denied) }
+    requires errors { has_error asked.warnings.items ≡ false }
+    requires locale { has_locale asked.warnings.items ≡ false }
+    ensures explanation { IfOk result (IsExplanation asked.entry.text.now (option_map (λ bytes. bytes.now) certificate.entry) asked.entry.denied) }
     ensures few { IfOk result (λ e. IsOfAnswer e.status) }
-    ensures warned { IfOk result (WarnedWith asked.entry.denied warnings.items) }
+    ensures warned { IfOk result (WarnedWith asked.entry.denied asked.entry.warnings.items) }
 {
-    let Answered { answer, located } = answer_of(alloc, text, certificate)?;
+    let Answered { answer, located } = answer_of(alloc, asked.text, certificate)?;
     match located {
-        Some(located) => explained(alloc, text, answer, located, warnings, asked),
-        None => refused(alloc, text, answer, warnings, asked.denied),
+        Some(located) => explained(alloc, answer, located, asked),
+        None => refused(alloc, answer, asked),
     }
 }
 
 /// What is reported of a script that was read.
 fn explained<'a>(
     alloc: Global,
-    text: &'a [u8],
     answer: Answer,
     located: Located<'a>,
-    warnings: Vec<Finding>,
-    asked: Asked,
+    asked: Asked<'_, 'a>,
 ) -> Result<Explanation<'a>, AllocError>
-    requires script { IsOfScript text.now located.script answer }
-    requires errors { has_error warnings.items ≡ false }
-    requires locale { has_locale warnings.items ≡ false }
-    ensures explains { IfOk result (Explains text.now asked.entry.denied answer) }
-    ensures keeps { IfOk result (KeepsLocated text.now located.entry.script located.entry.locations.items) }
+    requires script { IsOfScript asked.text.now located.script answer }
+    requires errors { has_error asked.warnings.items ≡ false }
+    requires locale { has_locale asked.warnings.items ≡ false }
+    ensures explains { IfOk result (Explains asked.entry.text.now asked.entry.denied answer) }
+    ensures keeps { IfOk result (KeepsLocated asked.entry.text.now located.entry.script located.entry.locations.items) }
     ensures few { IfOk result (λ e. IsOfAnswer e.status) }
-    ensures warned { IfOk result (WarnedWith asked.entry.denied warnings.items) }
+    ensures warned { IfOk result (WarnedWith asked.entry.denied asked.entry.warnings.items) }
 {
+    let text = asked.text;
     let lists = lists_of(alloc, text, &located)?;
-    let (status, findings) = reports(alloc, text, &answer, &located, &lists, warnings, asked)?;
+    let (status, findings) = reports(alloc, &answer, &located, &lists, asked)?;
     let Lists {
         positions,
         reads,
@@ -163,29 +167,30 @@ fn lists_of<'a>(alloc: Global, text: &[u8], located: &Located<'a>) -> Result<Lis
     })
 }
 
-/// The status, and the findings: those of the answer, these warnings and the script's own, and what is denied, but for those that the
+/// The status, and the findings: those of the answer, the warnings of the call and the script's own, and what is denied, but for those that the
 /// script ignores.
 fn reports(
     alloc: Global,
-    text: &[u8],
     answer: &Answer,
     located: &Located,
     lists: &Lists,
-    mut warnings: Vec<Finding>,
     asked: Asked,
 ) -> Result<(Status, Vec<Finding>), AllocError>
-    requires script { IsOfScript text.now located.now.script answer.now }
-    requires errors { has_error warnings.items ≡ false }
-    requires locale { has_locale warnings.items ≡ false }
+    requires script { IsOfScript asked.text.now located.now.script answer.now }
+    requires errors { has_error asked.warnings.items ≡ false }
+    requires locale { has_locale asked.warnings.items ≡ false }
     requires reads { names_of lists.now.reads.items ≡ reads located.now.script }
     requires writes { names_of lists.now.writes.items ≡ writes located.now.script }
-    ensures reports { IfOk result (λ r. Reports text.now asked.entry.denied answer.now located.now.script lists.now.positions.items r.0 r.1.items) }
+    ensures reports { IfOk result (λ r. Reports asked.entry.text.now asked.entry.denied answer.now located.now.script lists.now.positions.items r.0 r.1.items) }
     ensures few { IfOk result (λ r. IsOfAnswer r.0) }
-    ensures warned { IfOk result (λ r. warns_of_denied asked.entry.denied warnings.items ≡ true → warns_of_denied asked.entry.denied r.1.items ≡ true) }
+    ensures warned { IfOk result (λ r. warns_of_denied asked.entry.denied asked.entry.warnings.items ≡ true
+        → warns_of_denied asked.entry.denied r.1.items ≡ true) }
 {
     let Asked {
+        text,
         own,
         inputs,
+        mut warnings,
         denied,
     } = asked;
     let locations = &located.locations;
@@ -206,10 +211,19 @@ fn reports(
     };
     add_warnings(alloc, &mut found, script)?;
     let expressions = expressions_in_script(alloc, text, located, &lists.positions)?;
-    let all = denied_findings(alloc, found, denied, answer, lists, &expressions)?;
+    let judged = Judged {
+        answer,
+        lists,
+        expressions: &expressions,
+    };
+    let all = denied_findings(alloc, found, denied, judged)?;
     let status = status_under(answer, denied, &all, expressions.kinds());
     let ignored = ignored_codes(alloc, &words)?;
-    let findings = reported(alloc, text, locations, all, &ignored, denied.warnings)?;
+    let silence = Silence {
+        ignored: &ignored,
+        denied: denied.warnings,
+    };
+    let findings = reported(alloc, text, locations, all, silence)?;
     Ok((status, findings))
 }
 
@@ -268,23 +282,31 @@ fn due_warnings(
 /// What is reported of a script that is refused.
 fn refused<'a>(
     alloc: Global,
-    text: &'a [u8],
     answer: Answer,
-    mut warnings: Vec<Finding>,
-    denied: Denied,
+    asked: Asked<'_, 'a>,
 ) -> Result<Explanation<'a>, AllocError>
-    requires refusal { IsRefused text.now answer }
-    requires errors { has_error warnings.items ≡ false }
-    requires locale { has_locale warnings.items ≡ false }
-    ensures explains { IfOk result (Explains text.now denied answer) }
+    requires refusal { IsRefused asked.text.now answer }
+    requires errors { has_error asked.warnings.items ≡ false }
+    requires locale { has_locale asked.warnings.items ≡ false }
+    ensures explains { IfOk result (Explains asked.entry.text.now asked.entry.denied answer) }
     ensures keeps { IfOk result KeepsNothing }
     ensures few { IfOk result (λ e. IsOfAnswer e.status) }
-    ensures warned { IfOk result (WarnedWith denied warnings.items) }
+    ensures warned { IfOk result (WarnedWith asked.entry.denied asked.entry.warnings.items) }
 {
+    let Asked {
+        text,
+        mut warnings,
+        denied,
+        ..
+    } = asked;
     let mut found = refusal_findings(alloc, text, &answer)?;
     found.append(&mut warnings)?;
     let status = status_under(&answer, denied, &found, Expressions::NONE);
-    let findings = reported(alloc, text, &[], found, &[], denied.warnings)?;
+    let silence = Silence {
+        ignored: &[],
+        denied: denied.warnings,
+    };
+    let findings = reported(alloc, text, &[], found, silence)?;
     Ok(Explanation {
         text,
         source: text,
@@ -312,29 +334,35 @@ fn refusal_findings(alloc: Global, text: &[u8], answer: &Answer) -> Result<Vec<F
     Ok(findings)
 }
 
+/// What is answered of a script that was read, the files that it names, and what may be denied of its expressions.
+#[derive(Clone, Copy)]
+struct Judged<'r, 'a> {
+    answer: &'r Answer,
+    lists: &'r Lists<'a>,
+    expressions: &'r FoundExpressions,
+}
+
 /// The findings, after an error for each thing that is denied where the script is accepted.
 fn denied_findings(
     alloc: Global,
     findings: Vec<Finding>,
     denied: Denied,
-    answer: &Answer,
-    lists: &Lists,
-    expressions: &FoundExpressions,
+    judged: Judged,
 ) -> Result<Vec<Finding>, AllocError>
-    requires { HasLists lists.now.reads.items lists.now.writes.items answer.now }
-    ensures errors { IfOk result (λ all. AreDeniedFindings denied (kinds_of expressions.now) findings.items all.items answer.now) }
+    requires { HasLists judged.lists.now.reads.items judged.lists.now.writes.items judged.answer.now }
+    ensures errors { IfOk result (λ all. AreDeniedFindings denied (kinds_of judged.entry.expressions.now) findings.items all.items judged.entry.answer.now) }
     ensures warnings { IfOk result (λ all. has_warning all.items ≡ has_warning findings.items) }
     ensures denied { IfOk result (λ all. warns_of_denied denied all.items ≡ warns_of_denied denied findings.items) }
     ensures locale { IfOk result (λ all. has_locale all.items ≡ has_locale findings.items) }
 {
-    match answer {
+    match judged.answer {
         Answer::Accepted { limits, .. } => {
             let has = Deniable {
-                reads: &lists.reads,
-                writes: &lists.writes,
+                reads: &judged.lists.reads,
+                writes: &judged.lists.writes,
                 limits: *limits,
-                slow: expressions.slow,
-                references: &expressions.references,
+                slow: judged.expressions.slow,
+                references: &judged.expressions.references,
             };
             with_denials(alloc, findings, denied, has)
         }

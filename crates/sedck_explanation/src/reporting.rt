@@ -11,23 +11,29 @@ use sedck_report::{Code, Finding, Level};
 use sedck_script::Location;
 use std::alloc::{AllocError, Global};
 
-/// The errors, then the warnings, then the notes, in the order in which they were found, without the warnings and notes that have one
-/// of the ignored codes. A script silences nothing that the caller denies.
+/// The codes that a script ignores, and what the caller denies, which no script silences.
+#[derive(Clone, Copy)]
+pub(crate) struct Silence<'a> {
+    pub ignored: &'a [Code],
+    pub denied: DeniedWarnings,
+}
+
+/// The errors, then the warnings, then the notes, in the order in which they were found, without the warnings and notes that are
+/// silenced.
 pub(crate) fn reported(
     alloc: Global,
     text: &[u8],
     locations: &[Location],
     findings: Vec<Finding>,
-    ignored: &[Code],
-    denied: DeniedWarnings,
+    silence: Silence,
 ) -> Result<Vec<Finding>, AllocError>
-    ensures { IfOk result (λ all. AreReported text.now denied findings.items all.items) }
+    ensures { IfOk result (λ all. AreReported text.now silence.entry.denied findings.items all.items) }
 {
     let mut errors = Vec::new(alloc);
     let mut warnings = Vec::new(alloc);
     let mut notes = Vec::new(alloc);
     for finding in findings {
-        if is_ignored(&finding, ignored, denied) {
+        if is_ignored(&finding, silence) {
             continue;
         }
         let finding = with_end(text, locations, finding);
@@ -43,15 +49,18 @@ pub(crate) fn reported(
 }
 
 /// Whether the finding is left out: no error ever is, nothing on which a yes rests, and nothing that is denied.
-fn is_ignored(finding: &Finding, ignored: &[Code], denied: DeniedWarnings) -> bool
+fn is_ignored(finding: &Finding, silence: Silence) -> bool
     ensures error { is_error finding.now.level ≡ true → result ≡ false }
     ensures locale { is_locale finding.now.code ≡ true → result ≡ false }
-    ensures denied { denies denied finding.now.code ≡ true → result ≡ false }
+    ensures denied { denies silence.entry.denied finding.now.code ≡ true → result ≡ false }
 {
     !finding.is_error()
         && !is_kept(finding.code)
-        && !denied.denies(finding.code)
-        && ignored.iter().any(|code| code.is_named_as(finding.code))
+        && !silence.denied.denies(finding.code)
+        && silence
+            .ignored
+            .iter()
+            .any(|code| code.is_named_as(finding.code))
 }
 
 /// The codes to be ignored, each once.

@@ -13,13 +13,13 @@ use Rattle.sedck_explanation.proofs.explaining.explained_with.Goals as goal
 
 pub explained-requires-clause-script : goal.explained-requires-clause-script
 explained-requires-clause-script c =
-    of_script c.args.text.now _ c.in-Some.located.script c.in_ok-answer.field-0.answer
-    (if_some_at (λ (located : Located). Only Spells c.args.text.now located.script) c.in-Some.is c.in_ok-answer.ensures.script)
+    of_script c.args.asked.text.now _ c.in-Some.located.script c.in_ok-answer.field-0.answer
+    (if_some_at (λ (located : Located). Only Spells c.args.asked.text.now located.script) c.in-Some.is c.in_ok-answer.ensures.script)
     c.in_ok-answer.ensures.answer
 
 pub returns-in-Some-clause-explanation : goal.returns-in-Some-clause-explanation
 returns-in-Some-clause-explanation c =
-    let text = c.args.text.now in
+    let text = c.args.asked.text.now in
     let answer = c.in_ok-answer.field-0.answer in
     let script = c.in-Some.located.script in
     let locations = c.in-Some.located.locations.items in
@@ -34,7 +34,7 @@ returns-in-Some-clause-explanation c =
 
 pub returns-in-None-clause-explanation : goal.returns-in-None-clause-explanation
 returns-in-None-clause-explanation c =
-    let text = c.args.text.now in
+    let text = c.args.asked.text.now in
     let answer = c.in_ok-answer.field-0.answer in
     on_both (Explains text c.args.asked.denied answer) KeepsNothing (IsExplanation text _ c.args.asked.denied) c.refused.result
     (λ e explains kept. explained_refusal text _ c.args.asked.denied answer e (c.in_ok-answer.ensures.refused c.in-None.is) c.in_ok-answer.ensures.answer explains kept)

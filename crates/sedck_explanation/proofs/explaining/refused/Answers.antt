@@ -18,26 +18,26 @@ and_false false = refl
 
 pub returns-clause-explains : goal.returns-clause-explains
 returns-clause-explains c =
-    let text = c.args.text.now in
+    let text = c.args.asked.text.now in
     let answer = c.args.answer in
     let none : Expressions = expressions_of None in
     let begun = c.in_ok-found.found.items in
     let found = c.append.new.self.items in
     let all = c.in_ok-findings.findings.items in
-    let status : c.status_under-status.result ≡ status_under c.args.denied found none answer =
+    let status : c.status_under-status.result ≡ status_under c.args.asked.denied found none answer =
     c.status_under-status.ensures.value
-    ∙ ap (λ (findings : List Finding). status_under c.args.denied findings none answer) c.deref.ensures.value in
+    ∙ ap (λ (findings : List Finding). status_under c.args.asked.denied findings none answer) c.deref.ensures.value in
     let of_answer : AreFindingsOf text [] answer found =
-    findings_stay text [] answer begun found (no_error_append begun found c.args.warnings.items c.in_ok-append.ensures.items c.requires.errors) c.in_ok-found.ensures.answer in
-    let reported : AreReported text c.args.denied.warnings found all = c.in_ok-findings.ensures in
-    let errors = errors_reported text [] answer c.args.denied.warnings found all c.status_under-status.result reported
-    (errors_of_refusal text c.args.denied none answer found c.status_under-status.result c.requires.refusal of_answer status) in
+    findings_stay text [] answer begun found (no_error_append begun found c.args.asked.warnings.items c.in_ok-append.ensures.items c.requires.errors) c.in_ok-found.ensures.answer in
+    let reported : AreReported text c.args.asked.denied.warnings found all = c.in_ok-findings.ensures in
+    let errors = errors_reported text [] answer c.args.asked.denied.warnings found all c.status_under-status.result reported
+    (errors_of_refusal text c.args.asked.denied none answer found c.status_under-status.result c.requires.refusal of_answer status) in
     record {
       is_text = refl;
       is_answer = refl;
-      is_status = status_reported text c.args.denied none answer found all c.status_under-status.result reported status;
-      locale = reported.locale ∙ no_locale_append begun found c.args.warnings.items c.in_ok-append.ensures.items c.in_ok-found.ensures.locale c.requires.locale
-          ∙ sym (and_false (not c.args.denied.c_locale));
+      is_status = status_reported text c.args.asked.denied none answer found all c.status_under-status.result reported status;
+      locale = reported.locale ∙ no_locale_append begun found c.args.asked.warnings.items c.in_ok-append.ensures.items c.in_ok-found.ensures.locale c.requires.locale
+          ∙ sym (and_false (not c.args.asked.denied.c_locale));
       errors = record {
         exactly = errors.0;
         first = subst (λ positions. BeginsWithAnswer text positions all answer) (sym c.new.ensures.items) errors.1;
@@ -50,5 +50,5 @@ pub returns-clause-warned : goal.returns-clause-warned
 returns-clause-warned c = λ warned.
     let begun = c.in_ok-found.found.items in
     let given = c.append.new.self.items in
-    let reported : AreReported c.args.text.now c.args.denied.warnings given c.in_ok-findings.findings.items = c.in_ok-findings.ensures in
-    reported.warnings ∙ warned_behind begun given c.args.warnings.items c.in_ok-append.ensures.items (denies c.args.denied.warnings) warned
+    let reported : AreReported c.args.asked.text.now c.args.asked.denied.warnings given c.in_ok-findings.findings.items = c.in_ok-findings.ensures in
+    reported.warnings ∙ warned_behind begun given c.args.asked.warnings.items c.in_ok-append.ensures.items (denies c.args.asked.denied.warnings) warned

@@ -19,7 +19,7 @@ use Rattle.sedck_explanation.proofs.explaining.reports.Goals as goal
 
 pub returns-clause-reports : goal.returns-clause-reports
 returns-clause-reports c =
-    let text = c.args.text.now in
+    let text = c.args.asked.text.now in
     let script = c.args.located.now.script in
     let answer = c.args.answer.now in
     let positions = c.args.lists.now.positions.items in
@@ -38,12 +38,12 @@ returns-clause-reports c =
     subst (λ (ps : List Position). AreFindingsOf text ps answer begun) c.deref.ensures.value c.in_ok-found.ensures.answer in
     let due = c.due_warnings.new.findings.items in
     let adds : AddsNoError begun found =
-    no_error_trans begun given found (no_error_append begun given c.args.warnings.items c.in_ok-append.ensures.items c.requires.errors)
+    no_error_trans begun given found (no_error_append begun given c.args.asked.warnings.items c.in_ok-append.ensures.items c.requires.errors)
     (no_error_trans given due found c.in_ok-due_warnings.ensures.added c.in_ok-add_warnings.ensures.adds) in
     let locale : has_locale found ≡ (not c.args.asked.denied.c_locale && depends_on_locale script) =
     c.in_ok-add_warnings.ensures.locale ∙ c.in_ok-due_warnings.ensures.exactly
     ∙ ap (λ was. was || (not c.args.asked.denied.c_locale && depends_on_locale script))
-    (no_locale_append begun given c.args.warnings.items c.in_ok-append.ensures.items c.in_ok-found.ensures.locale c.requires.locale) in
+    (no_locale_append begun given c.args.asked.warnings.items c.in_ok-append.ensures.items c.in_ok-found.ensures.locale c.requires.locale) in
     let reported : AreReported text c.args.asked.denied.warnings all findings = c.in_ok-findings.ensures in
     let errors = errors_reported text positions answer c.args.asked.denied.warnings all findings c.status_under-status.result reported
     (errors_of text positions c.args.asked.denied has answer found all c.status_under-status.result
@@ -64,8 +64,8 @@ returns-clause-warned c = λ warned.
     let kind = denies c.args.asked.denied.warnings in
     let begun = c.in_ok-found.found.items in
     let given = c.append.new.self.items in
-    let placed : warns_of kind given ≡ true = warned_behind begun given c.args.warnings.items c.in_ok-append.ensures.items kind warned in
+    let placed : warns_of kind given ≡ true = warned_behind begun given c.args.asked.warnings.items c.in_ok-append.ensures.items kind warned in
     let found : warns_of kind c.add_warnings.new.findings.items ≡ true =
     c.in_ok-add_warnings.ensures.adds.warned kind (c.in_ok-due_warnings.ensures.added.warned kind placed) in
-    let reported : AreReported c.args.text.now c.args.asked.denied.warnings c.in_ok-all.all.items c.in_ok-findings.findings.items = c.in_ok-findings.ensures in
+    let reported : AreReported c.args.asked.text.now c.args.asked.denied.warnings c.in_ok-all.all.items c.in_ok-findings.findings.items = c.in_ok-findings.ensures in
     reported.warnings ∙ c.in_ok-all.ensures.denied ∙ found

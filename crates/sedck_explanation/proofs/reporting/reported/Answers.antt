@@ -36,5 +36,5 @@ returns c =
     let found : c.loop-finding.yielded ≡ c.args.findings.items = sym (map_fixed (λ (y : Finding). y) c.loop-finding.yielded (λ k d less. refl)) ∙ all.0 in
     let items : c.append-2.new.self.items ≡ c.loop-finding.errors.items ++ (c.loop-finding.warnings.items ++ c.loop-finding.notes.items) =
     c.in_ok-append-2.ensures.items ∙ ap (λ (t : List Finding). c.loop-finding.errors.items ++ t) c.in_ok-append.ensures.items in
-    subst (λ (t : List Finding). AreReported c.args.text.now c.args.denied t c.append-2.new.self.items) found
+    subst (λ (t : List Finding). AreReported c.args.text.now c.args.silence.denied t c.append-2.new.self.items) found
     (sorted_reports _ _ _ _ _ _ _ items c.loop-finding.invariant)
