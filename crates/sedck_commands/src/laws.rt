@@ -3,6 +3,7 @@
 ghost use Rattle.sedck_commands.specs.Laws.{PlacesAreWithin};
 
 /// The place of a fault is one in the text, or its end.
+#[tactic(auto, using(crate::proofs::PlacesWithin::placed_within))]
 pub fn places_are_within()
     ensures { PlacesAreWithin }
 {}
