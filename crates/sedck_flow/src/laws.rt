@@ -9,27 +9,32 @@ pub fn nodes_are_numbered()
 {}
 
 /// Each step from one command to another follows an edge of the flow graph, and the edge's kind is true of it.
+#[tactic(auto, using(crate::proofs::StepsFollowEdges::follows))]
 pub fn steps_follow_edges()
     ensures { StepsFollowEdges }
 {}
 
 /// The kind of a substitution is the kind that it has by its literal parts alone, or that one is Grow: references to groups
 /// only make more edges shorten or keep.
+#[tactic(auto, using(crate::proofs::KindsAgree::kinds_agree))]
 pub fn kinds_agree()
     ensures { KindsAgree }
 {}
 
 /// A substitution whose replacement is literal has the kind that it has by its literal parts alone.
+#[tactic(auto, using(crate::proofs::KindsAgree::literal_kinds_stay))]
 pub fn literal_kinds_stay()
     ensures { LiteralKindsStay }
 {}
 
 /// Each edge is, without what its nodes say of the last line, one of the flow graph whose nodes don't know it.
+#[tactic(auto, using(crate::proofs::PlainEdges::plain))]
 pub fn edges_were_there()
     ensures { EdgesWereThere }
 {}
 
 /// An edge leads from a command, or from the script's end, to another.
+#[tactic(auto, using(crate::proofs::EdgesInside::inside))]
 pub fn edges_stay_inside()
     ensures { EdgesStayInside }
 {}
@@ -45,12 +50,14 @@ pub fn files_are_named()
 {}
 
 /// A run is a wide run, on one file whose lines end with newlines: what holds of all wide runs holds of all runs.
+#[tactic(auto, using(crate::proofs::Widening::run_is_wide))]
 pub fn runs_are_wide()
     ensures { RunsAreWide }
 {}
 
 /// Each step of a wide run from one command to another follows an edge of the flow graph, whose kind is true of it, in the
 /// current file; or no line is left there, and the next cycle begins with the first line of the next file.
+#[tactic(auto, using(crate::proofs::StepsFollowEdges::wide_follows))]
 pub fn wide_steps_follow_edges()
     ensures { WideStepsFollowEdges }
 {}
@@ -66,11 +73,13 @@ pub fn wide_runs_go_on()
 {}
 
 /// An expression that splits no character matches, by characters, only what it may match in a wide way.
+#[tactic(auto, using(crate::proofs::CharacterMatches::widens))]
 pub fn character_matches_are_wide()
     ensures { CharacterMatchesAreWide }
 {}
 
 /// Each run by characters of a script that is byte safe is a wide run: what holds of all wide runs holds of it.
+#[tactic(auto, using(crate::proofs::CharacterRuns::character_run_wide))]
 pub fn character_runs_are_wide()
     ensures { CharacterRunsAreWide }
 {}
@@ -81,6 +90,7 @@ pub fn accents_are_split()
 {}
 
 /// The worked examples of edges, steps, runs and substitutions hold.
+#[tactic(auto, using(crate::proofs::ExampleProofs::examples_hold))]
 pub fn worked_examples()
     ensures { ExamplesHold }
 {}
