@@ -1,22 +1,11 @@
 -- Going through a list of items: what is left of it, and that nothing before is sought.
-use Rattle.std.proofs.Common.{◌≡◌, ℕ, ◌+◌, ◌≤◌, Bool, true, false, List, [], ◌∷◌, ◌++◌, drop, Option, Some, inl, inr, refl, sym, ap, ◌∙◌, arith, append_assoc}
-use Rattle.std.specs.Prelude.{IsTrue, codes, unwrap_or, ◌||◌, ◌&&◌}
-use Rattle.std.proofs.Math.Bool.{or-true}
-use Rattle.std.proofs.lemmas.Bool.Decides.{nat_tests}
-use Rattle.std.proofs.lemmas.List.{drop-drop}
-use Rattle.sedck_text.specs.Text.{begins}
-use Rattle.sedck_text.specs.Cursors.{unread}
-use Rattle.sedck_text.specs.declared.cursor.Cursor.{Cursor}
-use Rattle.sedck_expressions.specs.Faults.{HasOneAt}
-use Rattle.sedck_expressions.specs.Private.Reading.{begins_pair}
+use Rattle.sedck_expressions.proofs.Common.{◌≡◌, ℕ, ◌+◌, ◌≤◌, Bool, true, false, List, [], ◌∷◌, ◌++◌, drop, Option, Some, inl, inr, refl, sym, ap, ◌∙◌, arith, append_assoc, IsTrue, codes, ◌||◌, ◌&&◌, or-true, nat_tests, drop-drop, begins, unread, Cursor, HasOneAt, begins_pair, Tree, Trees, Then, Nil, Seq, Group, Repeat, Level, Position, SpellsItems, SpellsCount, behind, has_part, one_has_part, is_reference, is_anchor, repeats_anchor, has_misjudged_reference, is_misjudged, StopsAt, Sought}
+use Rattle.std.specs.Prelude.{unwrap_or}
 use Rattle.sedck_expressions.proofs.OffsetLemmas.{stands_at, stands_behind}
-use Rattle.sedck_expressions.specs.Tree.{Tree, Trees, Then, Nil, Seq, Group, Repeat}
-use Rattle.sedck_expressions.specs.Shape.{Level, Position, SpellsItems, SpellsCount, behind}
-use Rattle.sedck_expressions.specs.Misjudged.{has_part, one_has_part, is_reference, is_anchor, repeats_anchor, has_misjudged_reference, is_misjudged, IsMisjudgedAt}
-use Rattle.sedck_expressions.specs.Private.Along.{HasNone, StopsAt}
+use Rattle.sedck_expressions.specs.Misjudged.{IsMisjudgedAt}
+use Rattle.sedck_expressions.specs.Private.Along.{HasNone}
 use Rattle.sedck_expressions.specs.declared.fault.ReFault.{ReFault}
 use Rattle.sedck_expressions.specs.declared.fault.ReFault.TheVariants.{BadReference, NothingToRepeat}
-use Rattle.sedck_expressions.specs.declared.judging.Sought.{Sought}
 
 -- These items are left of the list, and the text from here on spells them; those before them have nothing that is sought.
 pub record IsLeft (sought : Sought) (level : Level) (after text : List ℕ) (all ts : Trees) : Type 0 where

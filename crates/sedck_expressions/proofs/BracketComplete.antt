@@ -1,13 +1,8 @@
 -- What is written as a bracket list is read, whatever follows it.
-use Rattle.std.proofs.Common.{◌≡◌, ℕ, ◌≤◌, Bool, true, false, List, [], ◌∷◌, ◌++◌, drop, Some, inl, inr, refl, ap, ◌∙◌, arith, rules, append_assoc}
-use Rattle.std.specs.Prelude.{◌&&◌, ◌⊎◌, not, nat_le, codes, IsTrue, Contains}
+use Rattle.sedck_expressions.proofs.Common.{◌≡◌, ℕ, ◌≤◌, Bool, true, false, List, [], ◌∷◌, ◌++◌, drop, Some, inl, inr, refl, ap, ◌∙◌, arith, rules, append_assoc, ◌&&◌, ◌⊎◌, not, nat_le, codes, IsTrue, Contains, nat_tests, begins, classes, Element, One, Members, WritesByte, begins_range, WritesElement, ◌>>=◌, symbol_at, byte_at, ranges, no_range, class_from, one, range_or_one, element_at}
 use Rattle.std.specs.List.{AllByRecursion}
-use Rattle.std.proofs.lemmas.Bool.Decides.{nat_tests}
 use Rattle.std.proofs.lemmas.List.Elements.{All-contains, All-from_recursion}
-use Rattle.sedck_text.specs.Text.{begins}
-use Rattle.sedck_expressions.specs.Brackets.{classes, Element, One, Range, Members, WritesByte, begins_range, WritesElement}
-use Rattle.sedck_expressions.specs.Private.Reading.{◌>>=◌}
-use Rattle.sedck_expressions.specs.Private.BracketReading.{symbol_at, byte_at, ranges, no_range, class_from, one, range_or_one, element_at}
+use Rattle.sedck_expressions.specs.Brackets.{Range}
 use Rattle.sedck_expressions.proofs.BracketLemmas.{plain_before, writes_alike, range_behind}
 
 -- ---- One byte

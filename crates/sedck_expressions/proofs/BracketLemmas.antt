@@ -1,11 +1,6 @@
 -- Small facts on what begins a text, and on what is before the closing bracket of a list.
-use Rattle.std.proofs.Common.{◌≡◌, ℕ, Bool, true, false, List, [], ◌∷◌, ◌++◌, drop, inl, inr, refl, ◌∙◌, arith}
-use Rattle.std.specs.Prelude.{◌==◌, ◌&&◌, ◌||◌, codes}
-use Rattle.std.proofs.lemmas.Bool.Decides.{nat_tests}
-use Prim.Native.String.{String}
-use Rattle.sedck_text.specs.Text.{one_of, begins}
-use Rattle.sedck_expressions.specs.Brackets.{is_bare, WritesByte, begins_range}
-use Rattle.sedck_expressions.specs.Private.BracketReading.{ranges}
+use Rattle.sedck_expressions.proofs.Common.{◌≡◌, ℕ, Bool, true, false, List, [], ◌∷◌, ◌++◌, drop, inl, inr, refl, ◌∙◌, arith, ◌==◌, ◌&&◌, ◌||◌, codes, nat_tests, String, begins, is_bare, WritesByte, begins_range, ranges}
+use Rattle.sedck_text.specs.Text.{one_of}
 
 -- a text that begins with the one byte of the literal
 pub one_front : (s : String) (b : ℕ) (text : List ℕ) → codes s ≡ b ∷ [] → begins s text ≡ true → text ≡ b ∷ drop 1 text

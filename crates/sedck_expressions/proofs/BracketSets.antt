@@ -1,14 +1,10 @@
 -- The bytes that pass a test, and those of a set of four words.
-use Rattle.std.proofs.Common.{◌≡◌, ◌≢◌, ℕ, suc, zero, ◌+◌, ◌*◌, ◌/◌, ◌%◌, ◌^◌, ◌<◌, ◌≤◌, Bool, true, false, List, [], refl, sym, ap, ◌∙◌, inl, inr, arith}
-use Rattle.std.specs.Prelude.{◌⊎◌, ◌==◌, filter, slice_index}
-use Rattle.std.specs.List.{range_with_len}
-use Rattle.std.specs.Int.{bit_at, w64, trailing_zeros}
-use Rattle.std.proofs.lemmas.Bool.{cases_eq, false≢true}
-use Rattle.std.proofs.lemmas.Bool.Decides.{nat_tests}
-use Rattle.std.proofs.lemmas.Nat.Bits.{bit_at-zero, bit_at-trailing_zeros}
-use Rattle.sedck_expressions.specs.Tree.{is_in, bytes_where}
+use Rattle.sedck_expressions.proofs.Common.{◌≡◌, ◌≢◌, ℕ, suc, zero, ◌+◌, ◌*◌, ◌/◌, ◌%◌, ◌^◌, ◌<◌, ◌≤◌, Bool, true, false, List, [], refl, sym, ap, ◌∙◌, inl, inr, arith, ◌⊎◌, ◌==◌, slice_index, range_with_len, bit_at, w64, false≢true, nat_tests, bit_at-zero, is_in, bytes_where, AreWords, HasJust, bit_of, has_no_word}
+use Rattle.std.specs.Prelude.{filter}
+use Rattle.std.specs.Int.{trailing_zeros}
+use Rattle.std.proofs.lemmas.Bool.{cases_eq}
+use Rattle.std.proofs.lemmas.Nat.Bits.{bit_at-trailing_zeros}
 use Rattle.sedck_expressions.specs.View.{has_bit, bytes_in}
-use Rattle.sedck_expressions.specs.Private.Sets.{AreWords, HasJust, bit_of, has_no_word}
 
 -- ---- The bytes that pass a test
 

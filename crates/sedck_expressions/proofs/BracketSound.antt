@@ -1,16 +1,10 @@
 -- What is read as a bracket list is written so.
-use Rattle.std.proofs.Common.{◌≡◌, ◌≢◌, ℕ, suc, zero, Bool, true, false, List, [], ◌∷◌, ◌++◌, length, drop, Option, Some, None, IfSome, inl, inr, refl, sym, ap, ◌∙◌, subst, arith, append_assoc, length-append}
-use Rattle.std.specs.Prelude.{◌&&◌, ◌⊎◌, not, nat_eq, nat_le, codes, Contains}
-use Rattle.std.specs.List.{starts_with}
-use Rattle.std.proofs.lemmas.Bool.{false≢true}
-use Rattle.std.proofs.lemmas.Bool.Decides.{nat_tests, Decides-eqb}
+use Rattle.sedck_expressions.proofs.Common.{◌≡◌, ◌≢◌, ℕ, suc, zero, Bool, true, false, List, [], ◌∷◌, ◌++◌, length, drop, Option, Some, None, IfSome, inl, inr, refl, sym, ap, ◌∙◌, subst, arith, append_assoc, length-append, ◌&&◌, ◌⊎◌, not, nat_eq, nat_le, codes, Contains, starts_with, false≢true, nat_tests, IfSome_then, begins, classes, Element, One, Members, is_bare, WritesByte, begins_range, WritesElement, WritesElements, ◌>>=◌, symbol_at, byte_at, ranges, no_range, class_from, one, range_or_one, element_at}
+use Rattle.std.proofs.lemmas.Bool.Decides.{Decides-eqb}
 use Rattle.std.proofs.lemmas.List.Elements.{Contains-get_or, Contains-append_right}
-use Rattle.std.proofs.lemmas.Option.{IfSome_then}
 use Rattle.std.proofs.lemmas.Slice.Eq.{starts_is}
-use Rattle.sedck_text.specs.Text.{begins}
-use Rattle.sedck_expressions.specs.Brackets.{classes, Element, One, Members, is_bare, WritesByte, begins_range, IsInPlace, WritesElement, WritesElements}
-use Rattle.sedck_expressions.specs.Private.Reading.{◌>>=◌}
-use Rattle.sedck_expressions.specs.Private.BracketReading.{symbol_at, byte_at, ranges, no_range, class_from, one, range_or_one, element_at, last_dash_at, elements_at}
+use Rattle.sedck_expressions.specs.Brackets.{IsInPlace}
+use Rattle.sedck_expressions.specs.Private.BracketReading.{last_dash_at, elements_at}
 use Rattle.sedck_expressions.proofs.ReadLemmas.{bind_holds, cond_holds, and_left, nat_le_of}
 use Rattle.sedck_expressions.proofs.BracketLemmas.{one_front, plain_before, writes_alike, is_closing_front, range_before}
 

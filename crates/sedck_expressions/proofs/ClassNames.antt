@@ -1,11 +1,8 @@
 -- The search for a class by its name, class by class.
-use Rattle.std.proofs.Common.{◌≡◌, ℕ, suc, ◌+◌, ◌<◌, Bool, cond, List, ◌∷◌, length, drop, get_or, map, Option, Some, None, refl, ◌∙◌, arith, add-one, length-append}
+use Rattle.sedck_expressions.proofs.Common.{◌≡◌, ℕ, suc, ◌+◌, ◌<◌, Bool, cond, List, ◌∷◌, length, drop, get_or, map, Option, Some, None, refl, ◌∙◌, arith, length-append, nat_eq, codes, starts_with, Element, Members, class_from, class_of}
+use Rattle.std.proofs.Common.{add-one}
 use Rattle.std.proofs.Math.Seq.{drop-cons}
-use Rattle.std.specs.Prelude.{nat_eq, codes}
-use Rattle.std.specs.List.{starts_with}
-use Rattle.sedck_expressions.specs.Brackets.{Element, Members}
-use Rattle.sedck_expressions.specs.Private.BracketReading.{class_from}
-use Rattle.sedck_expressions.specs.Private.BracketCode.{class_of, closed_name, behind_name}
+use Rattle.sedck_expressions.specs.Private.BracketCode.{closed_name, behind_name}
 use Rattle.sedck_expressions.specs.declared.brackets.elements.Class.{Class}
 
 abbrev class_or : List ℕ × (ℕ → Bool) → Option (Element × List ℕ) → Option (List ℕ) → Option (Element × List ℕ)

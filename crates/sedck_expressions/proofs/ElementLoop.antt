@@ -1,12 +1,7 @@
 -- The loop over the elements of a list: those that have been read, before those that are left to read. The bound on their number
 -- does not matter, as long as it is above the length of what is left.
-use Rattle.std.proofs.Common.{◌≡◌, ℕ, suc, zero, ◌+◌, ◌<◌, ◌≤◌, Bool, true, false, List, [], ◌∷◌, ◌++◌, length, drop, Option, Some, None, refl, sym, ap, ◌∙◌, arith, append_assoc}
-use Rattle.std.specs.Prelude.{◌&&◌, not, if◌then◌else◌}
-use Rattle.std.proofs.lemmas.List.{append-nil}
-use Rattle.sedck_text.specs.Text.{begins}
-use Rattle.sedck_expressions.specs.Brackets.{Element}
-use Rattle.sedck_expressions.specs.Private.Reading.{◌>>=◌}
-use Rattle.sedck_expressions.specs.Private.BracketReading.{element_at, before_elements, others, elements_at, elements_of}
+use Rattle.sedck_expressions.proofs.Common.{◌≡◌, ℕ, suc, zero, ◌+◌, ◌<◌, ◌≤◌, Bool, true, false, List, [], ◌∷◌, ◌++◌, length, drop, Option, Some, None, refl, sym, ap, ◌∙◌, arith, append_assoc, ◌&&◌, not, if◌then◌else◌, append-nil, begins, Element, ◌>>=◌, element_at, elements_of}
+use Rattle.sedck_expressions.specs.Private.BracketReading.{before_elements, others, elements_at}
 
 abbrev pub elements_before : List Element → List Element × List ℕ → Option (List Element × List ℕ)
 elements_before front (es, rest) = Some (front ++ es, rest)

@@ -1,18 +1,10 @@
 -- What is read as an interval is spelled so, and what is spelled so is read.
-use Rattle.std.proofs.Common.{◌≡◌, ℕ, ◌≤◌, true, false, List, [], ◌∷◌, ◌++◌, drop, Option, Some, None, inl, inr, refl, sym, ap, ◌∙◌, arith, IfSome, append_assoc}
-use Rattle.std.specs.Prelude.{◌&&◌, not, nat_le, codes, IsTrue}
-use Rattle.std.specs.List.{list_all}
-use Rattle.std.proofs.lemmas.Bool.Decides.{nat_tests}
-use Rattle.std.specs.Str.Parse.{digits_value}
-use Rattle.sedck_text.specs.Text.{begins}
-use Rattle.sedck_text.specs.Classes.{is_digit}
-use Rattle.sedck_text.specs.Runs.{IsEmptyOr, Longest}
+use Rattle.sedck_expressions.proofs.Common.{◌≡◌, ℕ, ◌≤◌, true, false, List, [], ◌∷◌, ◌++◌, drop, Option, Some, None, inl, inr, refl, sym, ap, ◌∙◌, arith, IfSome, append_assoc, ◌&&◌, not, nat_le, codes, IsTrue, list_all, nat_tests, digits_value, begins, is_digit, Longest, is_empty, SpellsCount, begins_pair, number_of, number_at, IfSome_then}
+use Rattle.sedck_text.specs.Runs.{IsEmptyOr}
 use Rattle.sedck_text.proofs.Runs.{longest_cut, longest_one}
-use Rattle.sedck_expressions.specs.Shape.{is_empty, IsNumber, SpellsCount}
-use Rattle.sedck_expressions.specs.Private.Reading.{begins_pair}
-use Rattle.sedck_expressions.specs.Private.IntervalReading.{digits_at, number_of, number_at, bounds_of, interval_at}
+use Rattle.sedck_expressions.specs.Shape.{IsNumber}
+use Rattle.sedck_expressions.specs.Private.IntervalReading.{digits_at, bounds_of, interval_at}
 use Rattle.sedck_expressions.proofs.ReadLemmas.{bind_holds, cond_holds, and_left, pair_text, IsIntervalBefore}
-use Rattle.std.proofs.lemmas.Option.{IfSome_then}
 
 -- the digits are cut off the text in no other way
 pub digits_are : {text front rest : List ℕ} → Longest is_digit text front rest → digits_at text ≡ (front, rest)

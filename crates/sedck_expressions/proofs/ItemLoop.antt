@@ -1,18 +1,8 @@
 -- The loop over the items of a list: what has been read, before what is left to read.
-use Rattle.std.proofs.Common.{◌≡◌, ℕ, zero, suc, ◌+◌, ◌<◌, ◌≤◌, Bool, true, false, List, [], ◌∷◌, ◌++◌, length, Option, Some, None, refl, sym, ap, ◌∙◌, append_assoc, arith}
-use Rattle.std.proofs.Math.ListN.{set}
+use Rattle.sedck_expressions.proofs.Common.{◌≡◌, ℕ, zero, suc, ◌+◌, ◌<◌, ◌≤◌, Bool, true, false, List, [], ◌∷◌, ◌++◌, length, Option, Some, None, refl, sym, ap, ◌∙◌, append_assoc, arith, set, nat_tests, ClosedIs, append-nil, Tree, Trees, Nil, Then, trees, groups_in, tree, sequence, Level, Inside, Position, First, behind, ◌>>=◌, at_end, atom, with_sign, full, free, Bre}
 use Rattle.std.proofs.Common.{get_or-set_same, get_or-set_other}
-use Rattle.std.proofs.lemmas.Bool.Decides.{nat_tests}
-use Rattle.sedck_expressions.specs.Private.Gives.{ClosedIs}
 use Rattle.sedck_expressions.proofs.NumberedGroups.{is_in-append}
-use Rattle.std.proofs.lemmas.List.{append-nil}
-use Rattle.sedck_expressions.specs.Tree.{Tree, Trees, Nil, Then, trees, groups_in}
-use Rattle.sedck_expressions.specs.View.{tree}
-use Rattle.sedck_expressions.specs.Private.Sequence.{sequence}
-use Rattle.sedck_expressions.specs.Shape.{Level, Inside, Position, First, behind}
-use Rattle.sedck_expressions.specs.Private.Reading.{◌>>=◌, at_end, atom, with_sign, before_all, more, some_items, items}
-use Rattle.sedck_expressions.specs.Private.FullReading.{full, free}
-use Rattle.sedck_expressions.specs.declared.tree.Bre.{Bre}
+use Rattle.sedck_expressions.specs.Private.Reading.{before_all, more, some_items, items}
 use Rattle.sedck_expressions.proofs.ReadLemmas.{Takes, Reads}
 use Rattle.sedck_expressions.proofs.IntervalLemmas.{interval_takes, interval_again}
 use Rattle.sedck_expressions.proofs.WholeBracket.{bracket_takes, bracket_again}

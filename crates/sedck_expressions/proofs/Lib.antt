@@ -1,3 +1,4 @@
+mod Common
 pub mod ReadLemmas
 pub mod NumberedGroups
 pub mod ReadingSound

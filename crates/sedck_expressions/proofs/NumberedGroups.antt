@@ -1,13 +1,6 @@
 -- Groups are numbered in a row.
-use Rattle.std.proofs.Common.{◌≡◌, ℕ, zero, suc, ◌+◌, ◌<◌, ◌≤◌, true, false, List, [], ◌∷◌, ◌++◌, length, ◌⊎◌, refl, sym, ap, subst, arith}
-use Rattle.std.specs.Prelude.{◌==◌, ◌||◌}
-use Rattle.std.specs.List.{range_with_len}
-use Rattle.std.proofs.lemmas.Bool.{false≢true}
-use Rattle.std.proofs.lemmas.Bool.Decides.{nat_tests}
-use Rattle.std.proofs.lemmas.List.Folds.{list_any-append}
-use Rattle.sedck_expressions.specs.Tree.{Tree, groups_in, is_in}
-use Rattle.sedck_expressions.specs.WellFormed.{IsWellFormed}
-use Rattle.sedck_expressions.specs.Private.Numbering.{CountsFrom}
+use Rattle.sedck_expressions.proofs.Common.{◌≡◌, ℕ, zero, suc, ◌+◌, ◌<◌, ◌≤◌, true, false, List, [], ◌∷◌, ◌++◌, length, refl, sym, ap, subst, arith, ◌==◌, ◌||◌, range_with_len, false≢true, nat_tests, list_any-append, Tree, groups_in, is_in, IsWellFormed, CountsFrom}
+use Rattle.std.proofs.Common.{◌⊎◌}
 
 pub CountsFrom-left : (n : ℕ) (xs ys : List ℕ) → CountsFrom n (xs ++ ys) → CountsFrom n xs
 CountsFrom-left n [] ys h = tt

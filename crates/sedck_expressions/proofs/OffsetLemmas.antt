@@ -1,17 +1,8 @@
 -- What is at a cursor's offset in its text.
-use Rattle.std.proofs.Common.{◌≡◌, ℕ, true, ◌-◌, List, [], ◌∷◌, length, take, drop, refl, sym, ap, ◌∙◌, arith}
+use Rattle.sedck_expressions.proofs.Common.{◌≡◌, ℕ, true, ◌-◌, List, [], ◌∷◌, length, take, drop, refl, sym, ap, ◌∙◌, arith, false≢true, nat_tests, IsTrue, String, begins, Cursor, unread, HasOneAt, is_mistakable, at_end, inside_at, inside_of}
 use Rattle.std.proofs.lemmas.List.{length-drop}
-use Rattle.std.proofs.lemmas.Bool.{false≢true}
-use Rattle.std.proofs.lemmas.Bool.Decides.{nat_tests}
-use Rattle.std.specs.Prelude.{IsTrue, Bool, zero, suc}
-use Prim.Native.String.{String}
-use Rattle.sedck_text.specs.Text.{begins}
-use Rattle.sedck_text.specs.declared.cursor.Cursor.{Cursor}
-use Rattle.sedck_text.specs.Cursors.{unread}
-use Rattle.sedck_expressions.specs.Faults.{HasOneAt}
-use Rattle.sedck_expressions.specs.Brackets.{is_mistakable}
-use Rattle.sedck_expressions.specs.Private.Reading.{at_end}
-use Rattle.sedck_expressions.specs.Private.BracketReading.{inside_at, bracket_at, inside_of}
+use Rattle.std.specs.Prelude.{Bool, zero, suc}
+use Rattle.sedck_expressions.specs.Private.BracketReading.{bracket_at}
 
 -- what is at an offset behind which the text begins with one of these bytes
 pub stands_behind : (text : List ℕ) (n : ℕ) (s : String) → IsTrue (begins s (drop n text)) → HasOneAt text n s

@@ -1,14 +1,7 @@
 -- Tools on readings, what a bracket list and an interval reader must give, and which trees fit the groups so far.
-use Rattle.std.proofs.Common.{◌≡◌, ◌≢◌, ℕ, ◌+◌, ◌<◌, ◌≤◌, Bool, true, false, cond, List, [], ◌∷◌, ◌++◌, length, drop, Option, Some, None, IfSome, refl, arith, length-append}
-use Rattle.std.specs.Prelude.{◌&&◌, ◌||◌, nat_le}
-use Rattle.std.proofs.lemmas.Bool.Decides.{nat_tests}
-use Rattle.sedck_text.specs.Text.{begins}
-use Rattle.sedck_expressions.specs.Private.Numbering.{CountsFrom}
-use Rattle.sedck_expressions.specs.Tree.{Tree, Trees, Seq, Then, groups_in, groups_in_all, depth}
+use Rattle.sedck_expressions.proofs.Common.{◌≡◌, ◌≢◌, ℕ, ◌+◌, ◌<◌, ◌≤◌, Bool, true, false, cond, List, [], ◌∷◌, ◌++◌, length, drop, Option, Some, None, IfSome, refl, arith, length-append, ◌&&◌, ◌||◌, nat_le, nat_tests, begins, CountsFrom, Tree, Trees, Seq, Then, groups_in, groups_in_all, is_empty, SpellsCount, IsRepeatable, IsBracketList, ◌>>=◌, Readers, begins_pair, is_repeatable}
+use Rattle.sedck_expressions.specs.Tree.{depth}
 use Rattle.sedck_expressions.specs.WellFormed.{RefersBack}
-use Rattle.sedck_expressions.specs.Shape.{is_empty, SpellsCount, IsRepeatable}
-use Rattle.sedck_expressions.specs.Brackets.{IsBracketList}
-use Rattle.sedck_expressions.specs.Private.Reading.{◌>>=◌, Readers, begins_pair, is_repeatable}
 use Rattle.sedck_expressions.proofs.NumberedGroups.{CountsFrom-left, CountsFrom-right, CountsFrom-join}
 
 pub bind_holds : {A B : Type 0} (o : Option A) (f : A → Option B) (P : B → Type 0) (Q : A → Type 0) → IfSome o Q → ((x : A) → Q x → IfSome (f x) P)

@@ -1,15 +1,6 @@
 -- What is spelled is read: the reading of a text with the shape of a tree is that tree.
-use Rattle.std.proofs.Common.{◌≡◌, ◌≢◌, ℕ, zero, suc, ◌+◌, ◌<◌, ◌≤◌, Bool, true, false, List, [], ◌∷◌, ◌++◌, length, Option, Some, refl, sym, ap, subst, ◌∙◌, arith, append_assoc, length-append}
-use Rattle.std.specs.Prelude.{codes, nat_lt, ◌&&◌, ◌||◌}
-use Rattle.std.proofs.lemmas.Bool.Decides.{nat_tests}
-use Rattle.std.proofs.lemmas.List.{append-nil}
-use Rattle.sedck_text.specs.Text.{begins}
-use Rattle.sedck_expressions.specs.WellFormed.{IsWellFormed}
-use Rattle.sedck_expressions.specs.Private.Numbering.{CountsFrom}
-use Rattle.sedck_expressions.specs.Tree.{Tree, Trees, Byte, Set, Group, Ref, Seq, Repeat, Nil, Then, groups_in, is_in}
-use Rattle.sedck_expressions.specs.Brackets.{IsBracketList}
-use Rattle.sedck_expressions.specs.Shape.{Level, Whole, Inside, Position, First, is_empty, behind, SpellsByte, SpellsCount, IsRepeatable, SpellsItem, SpellsItems, SpellsTree}
-use Rattle.sedck_expressions.specs.Private.Reading.{◌>>=◌, Readers, begins_pair, at_end, is_repeatable, atom, with_sign, items, whole, read}
+use Rattle.sedck_expressions.proofs.Common.{◌≡◌, ◌≢◌, ℕ, zero, suc, ◌+◌, ◌<◌, ◌≤◌, Bool, true, false, List, [], ◌∷◌, ◌++◌, length, Option, Some, refl, sym, ap, subst, ◌∙◌, arith, append_assoc, length-append, codes, nat_lt, ◌&&◌, ◌||◌, nat_tests, append-nil, begins, IsWellFormed, CountsFrom, Tree, Trees, Byte, Set, Group, Ref, Seq, Repeat, Nil, Then, groups_in, is_in, IsBracketList, Level, Whole, Inside, Position, First, is_empty, behind, SpellsByte, SpellsCount, IsRepeatable, SpellsItem, SpellsItems, SpellsTree, ◌>>=◌, Readers, begins_pair, at_end, is_repeatable, atom, with_sign, whole}
+use Rattle.sedck_expressions.specs.Private.Reading.{items, read}
 use Rattle.sedck_expressions.proofs.ReadLemmas.{Reads, not_empty_more, length_some, Fit, Fits, fits_first, fits_others, allowed}
 use Rattle.sedck_expressions.proofs.NumberedGroups.{range_counts, are_numbered}
 use Rattle.sedck_expressions.proofs.ItemBeginnings.{bracket_front, item_front, item_some, sign_some, list_ends, no_sign, behind_repeatable}

@@ -1,16 +1,8 @@
 -- What is spelled is sound; and what is read is spelled so, and well formed.
-use Rattle.std.proofs.Common.{◌≡◌, ℕ, zero, suc, ◌+◌, ◌≤◌, Bool, true, false, List, [], ◌∷◌, ◌++◌, length, drop, Option, None, inl, refl, sym, ap, subst, ◌∙◌, arith, IfSome, append_assoc}
-use Rattle.std.specs.Prelude.{◌==◌, codes, nat_lt, ◌&&◌, ◌||◌}
+use Rattle.sedck_expressions.proofs.Common.{◌≡◌, ℕ, zero, suc, ◌+◌, ◌≤◌, Bool, true, false, List, [], ◌∷◌, ◌++◌, length, drop, Option, None, inl, refl, sym, ap, subst, ◌∙◌, arith, IfSome, append_assoc, ◌==◌, codes, nat_lt, ◌&&◌, ◌||◌, nat_tests, append-nil, IfSome_then, begins, Tree, Trees, Set, Group, Seq, Repeat, Nil, Then, groups_in, groups_in_all, Level, Whole, Inside, Position, First, is_empty, behind, SpellsCount, SpellsItem, SpellsItems, SpellsList, Shape, is_listed, Readers, begins_pair, at_end, is_repeatable, atom, with_sign, whole}
 use Rattle.std.proofs.lemmas.Bool.{eqb-true}
-use Rattle.std.proofs.lemmas.Bool.Decides.{nat_tests}
-use Rattle.std.proofs.lemmas.List.{append-nil}
-use Rattle.std.proofs.lemmas.Option.{IfSome_then}
-use Rattle.sedck_text.specs.Text.{begins}
-use Rattle.sedck_expressions.specs.Tree.{Tree, Trees, Set, Group, Seq, Repeat, Nil, Then, groups_in, groups_in_all}
 use Rattle.sedck_expressions.specs.WellFormed.{IsSound, AreSound, AreBounds}
-use Rattle.sedck_expressions.specs.Shape.{Level, Whole, Inside, Position, First, is_empty, behind, SpellsCount, SpellsItem, SpellsItems, SpellsList, Shape}
-use Rattle.sedck_expressions.specs.Brackets.{is_listed}
-use Rattle.sedck_expressions.specs.Private.Reading.{Readers, begins_pair, at_end, is_repeatable, plain, closed_by, escaped, backslash, atom, with_sign, Lister, items, whole, read}
+use Rattle.sedck_expressions.specs.Private.Reading.{plain, closed_by, escaped, backslash, Lister, items, read}
 use Rattle.sedck_expressions.proofs.ReadLemmas.{bind_holds, cond_holds, pair_text, Takes, IsListBefore, IsIntervalBefore, star_text, not_empty_more, repeatable_of, Fit, fit_all}
 use Rattle.sedck_expressions.proofs.ItemBeginnings.{sign_some, list_ends}
 use Rattle.sedck_expressions.proofs.NumberedGroups.{counts_range}

@@ -1,12 +1,7 @@
 -- Sets of bytes, word by word and bit by bit.
-use Rattle.std.proofs.Common.{◌≡◌, ℕ, ◌+◌, ◌*◌, ◌-◌, ◌/◌, ◌%◌, ◌^◌, ◌<◌, ◌≤◌, Bool, List, [], ◌∷◌, ap, ◌∙◌, arith}
-use Rattle.std.specs.Prelude.{◌||◌, not, nat_lt, slice_index, bit_or}
-use Rattle.std.specs.Int.{bit_at}
-use Rattle.std.proofs.lemmas.Bool.Decides.{nat_tests}
-use Rattle.std.proofs.lemmas.Nat.Bits.{bit_at_or, bit_at_ones, bit_at_ones_above}
-use Rattle.sedck_expressions.specs.Brackets.{is_from}
+use Rattle.sedck_expressions.proofs.Common.{◌≡◌, ℕ, ◌+◌, ◌*◌, ◌-◌, ◌/◌, ◌%◌, ◌^◌, ◌<◌, ◌≤◌, Bool, List, [], ◌∷◌, ap, ◌∙◌, arith, ◌||◌, not, nat_lt, slice_index, bit_or, bit_at, nat_tests, bit_at_or, is_from, bit_of, HasJust, HasBitsBelow}
+use Rattle.std.proofs.lemmas.Nat.Bits.{bit_at_ones, bit_at_ones_above}
 use Rattle.sedck_expressions.proofs.BracketSets.{below_four}
-use Rattle.sedck_expressions.specs.Private.Sets.{bit_of, HasJust, HasBitsBelow}
 
 -- ---- One word
 

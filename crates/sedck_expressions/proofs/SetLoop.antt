@@ -1,14 +1,7 @@
 -- The set that grows with the elements, and the set of a whole list.
-use Rattle.std.proofs.Common.{◌≡◌, ◌≢◌, ℕ, Bool, true, false, List, [], ◌∷◌, ◌++◌, Some, None, refl, sym, arith}
-use Rattle.std.specs.Prelude.{◌||◌}
-use Rattle.std.specs.List.{list_any}
-use Rattle.sedck_expressions.specs.Tree.{bytes_where}
+use Rattle.sedck_expressions.proofs.Common.{◌≡◌, ◌≢◌, ℕ, Bool, true, false, List, [], ◌∷◌, ◌++◌, Some, None, refl, sym, arith, ◌||◌, list_any, bytes_where, Element, in_element, is_mistakable, is_listed, some_of, inside_of, elements_of, set_at, AreWords, HasJust, has_no_word, is_of, list_any-append}
 use Rattle.sedck_expressions.specs.View.{bytes_in}
-use Rattle.sedck_expressions.specs.Brackets.{Element, in_element, is_mistakable, is_listed}
-use Rattle.sedck_expressions.specs.Private.BracketReading.{some_of, inside_of, elements_of, set_at}
-use Rattle.sedck_expressions.specs.Private.Sets.{AreWords, HasJust, has_no_word}
-use Rattle.sedck_expressions.specs.Private.BracketCode.{is_of, signed}
-use Rattle.std.proofs.lemmas.List.Folds.{list_any-append}
+use Rattle.sedck_expressions.specs.Private.BracketCode.{signed}
 use Rattle.sedck_expressions.proofs.SetLemmas.{just_same}
 use Rattle.sedck_expressions.proofs.BracketSets.{just_bytes, some_in, none_in}
 

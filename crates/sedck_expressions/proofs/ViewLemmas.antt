@@ -1,10 +1,9 @@
 -- The tree of each form that has parts.
-use Rattle.std.proofs.Common.{◌≡◌, ℕ, map, Option, Vec, Box, Global, sym, ap, ◌∙◌}
-use Rattle.sedck_expressions.specs.Tree.{Tree, trees}
-use Rattle.sedck_expressions.specs.View.{tree, node_tree, bytes_in}
+use Rattle.sedck_expressions.proofs.Common.{◌≡◌, ℕ, map, Option, sym, ap, ◌∙◌, Tree, trees, tree, ByteSet, Bre}
+use Rattle.std.proofs.Common.{Vec, Box, Global}
+use Rattle.sedck_expressions.specs.View.{node_tree, bytes_in}
 use Rattle.sedck_expressions.specs.Tree as spec
-use Rattle.sedck_expressions.specs.declared.tree.ByteSet.{ByteSet}
-use Rattle.sedck_expressions.specs.declared.tree.Bre.{Bre, Bre-F, fold-roll-Bre}
+use Rattle.sedck_expressions.specs.declared.tree.Bre.{Bre-F, fold-roll-Bre}
 use Rattle.sedck_expressions.specs.declared.tree.Bre.TheVariants.{Byte, Any, Set, Ref, Group, Seq, Repeat, rolls-Byte, rolls-Any, rolls-Set, rolls-Ref, rolls-Group, rolls-Seq, rolls-Repeat}
 
 pub tree-Any : tree Any ≡ spec.Any

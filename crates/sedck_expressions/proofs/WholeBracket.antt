@@ -1,14 +1,7 @@
 -- A whole bracket list: what is read is one, and what is one is read.
-use Rattle.std.proofs.Common.{◌≡◌, ◌≢◌, ℕ, suc, zero, ◌+◌, ◌-◌, ◌<◌, ◌≤◌, Bool, true, false, cond, List, [], ◌∷◌, ◌++◌, length, take, drop, Option, Some, None, IfSome, refl, sym, ap, ◌∙◌, subst, arith, append_assoc, length-append}
-use Rattle.std.specs.Prelude.{◌&&◌, not, codes}
+use Rattle.sedck_expressions.proofs.Common.{◌≡◌, ◌≢◌, ℕ, suc, zero, ◌+◌, ◌-◌, ◌<◌, ◌≤◌, Bool, true, false, cond, List, [], ◌∷◌, ◌++◌, length, take, drop, Option, Some, None, IfSome, refl, sym, ap, ◌∙◌, subst, arith, append_assoc, length-append, ◌&&◌, not, codes, false≢true, nat_tests, begins, bytes_where, Element, WritesElement, WritesElements, is_mistakable, is_listed, IsBracketList, ◌>>=◌, some_of, inside_of, elements_of, set_at, inside_at, opening}
 use Rattle.std.proofs.Math.Seq.{take-append_seam}
-use Rattle.std.proofs.lemmas.Bool.{false≢true}
-use Rattle.std.proofs.lemmas.Bool.Decides.{nat_tests}
-use Rattle.sedck_text.specs.Text.{begins}
-use Rattle.sedck_expressions.specs.Tree.{bytes_where}
-use Rattle.sedck_expressions.specs.Brackets.{Element, WritesElement, WritesElements, is_mistakable, is_listed, IsBracketList}
-use Rattle.sedck_expressions.specs.Private.Reading.{◌>>=◌}
-use Rattle.sedck_expressions.specs.Private.BracketReading.{elements_at, some_of, inside_of, clear_of, set_of, elements_of, set_at, inside_at, bracket_at, opening}
+use Rattle.sedck_expressions.specs.Private.BracketReading.{elements_at, clear_of, set_of, bracket_at}
 use Rattle.sedck_expressions.proofs.ReadLemmas.{cond_holds, IsListBefore}
 use Rattle.sedck_expressions.proofs.BracketLemmas.{one_front, begins_before, is_closing_front}
 use Rattle.sedck_expressions.proofs.BracketSound.{AreElementsBefore, elements_take, written_front}

@@ -1,13 +1,8 @@
 -- The reading of a whole text, from that of its list of items.
-use Rattle.std.proofs.Common.{◌≡◌, ℕ, ◌+◌, ◌<◌, Bool, true, false, List, [], length, Option, Some, None, ap, subst, replicate, arith}
-use Rattle.std.specs.Prelude.{◌==◌}
-use Rattle.std.proofs.lemmas.Bool.Decides.{nat_tests}
+use Rattle.sedck_expressions.proofs.Common.{◌≡◌, ℕ, ◌+◌, ◌<◌, Bool, true, false, List, [], length, Option, Some, None, ap, subst, arith, ◌==◌, nat_tests, Tree, Trees, Seq, Whole, First, SpellsTree, Shape, ◌>>=◌, whole, full, free, ClosedIs}
+use Rattle.std.proofs.Common.{replicate}
 use Rattle.std.proofs.lemmas.List.{get_or-replicate}
-use Rattle.sedck_expressions.specs.Tree.{Tree, Trees, Seq}
-use Rattle.sedck_expressions.specs.Shape.{Whole, First, SpellsTree, Shape}
-use Rattle.sedck_expressions.specs.Private.Reading.{◌>>=◌, items, whole, read}
-use Rattle.sedck_expressions.specs.Private.FullReading.{full, free}
-use Rattle.sedck_expressions.specs.Private.Gives.{ClosedIs}
+use Rattle.sedck_expressions.specs.Private.Reading.{items, read}
 use Rattle.sedck_expressions.proofs.ReadingSound.{read_sound}
 use Rattle.sedck_expressions.proofs.ReadingComplete.{read_again}
 use Rattle.sedck_expressions.proofs.ItemLoop.{full_takes, full_reads, free_reads}

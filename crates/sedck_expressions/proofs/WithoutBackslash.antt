@@ -1,14 +1,8 @@
 -- An expression without a backslash has no group and no reference, so it isn't misjudged.
-use Rattle.std.proofs.Common.{◌≡◌, ℕ, suc, ◌+◌, Bool, true, false, List, [], ◌∷◌, ◌++◌, length, refl, sym, ap, ◌∙◌, arith}
-use Rattle.std.specs.Prelude.{◌==◌, ◌||◌, not, nat_lt, if◌then◌else◌}
+use Rattle.sedck_expressions.proofs.Common.{◌≡◌, ℕ, suc, ◌+◌, Bool, true, false, List, [], ◌∷◌, ◌++◌, length, refl, sym, ap, ◌∙◌, arith, ◌==◌, ◌||◌, not, nat_lt, if◌then◌else◌, false≢true, nat_tests, Tree, Trees, Byte, Any, Set, Start, End, Maybe, Group, Ref, Seq, Repeat, Nil, Then, Level, Whole, Inside, Position, behind, SpellsItem, SpellsItems, SpellsList, has_part, is_reference, is_anchor, repeats_anchor, is_misjudged}
 use Rattle.std.specs.List.{prefix_len}
-use Rattle.std.proofs.lemmas.Bool.{false≢true}
-use Rattle.std.proofs.lemmas.Bool.Decides.{nat_tests}
 use Rattle.sedck_text.specs.Text.{is_in}
-use Rattle.sedck_expressions.specs.Tree.{Tree, Trees, Byte, Any, Set, Start, End, Maybe, Group, Ref, Seq, Repeat, Nil, Then}
-use Rattle.sedck_expressions.specs.Shape.{Level, Whole, Inside, Position, behind, SpellsItem, SpellsItems, SpellsList}
 use Rattle.sedck_expressions.proofs.NumberedGroups.{is_in-neither}
-use Rattle.sedck_expressions.specs.Misjudged.{has_part, is_reference, is_anchor, repeats_anchor, is_misjudged}
 
 -- the bytes before the first backslash are fewer than all exactly where there is one
 pub run_tells : (text : List ℕ) → nat_lt (prefix_len (λ b. not (b == 92)) text) (length text) ≡ is_in 92 text

@@ -1,4 +1,4 @@
-use Rattle.std.proofs.Common.{sym, arith}
+use Rattle.sedck_expressions.proofs.Common.{sym, arith}
 use Rattle.sedck_expressions.proofs.NumberReading.{number_none, number_large, number_some}
 use Rattle.sedck_expressions.proofs.intervals.read_number.Goals as goal
 use Rattle.sedck_expressions.proofs.intervals.read_number.Goals.{then-is_empty-via-then-is_empty, then-is_empty-via-else-is_empty+then-value-gt255}

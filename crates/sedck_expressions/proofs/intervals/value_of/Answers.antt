@@ -1,4 +1,4 @@
-use Rattle.std.proofs.Common.{◌∙◌, ap, min, ◌+◌, ◌*◌}
+use Rattle.sedck_expressions.proofs.Common.{◌∙◌, ap, min, ◌+◌, ◌*◌}
 use Rattle.sedck_expressions.proofs.NumberReading.{digits_more}
 use Rattle.sedck_expressions.proofs.intervals.value_of.Goals as goal
 

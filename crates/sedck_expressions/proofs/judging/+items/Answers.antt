@@ -1,11 +1,5 @@
-use Rattle.std.proofs.Common.{◌+◌, ◌++◌, ◌∷◌, drop, map, refl, sym, ap, subst, ◌∙◌, append_assoc}
-use Rattle.std.proofs.lemmas.Result.{err_from_is_err_and}
+use Rattle.sedck_expressions.proofs.Common.{◌+◌, ◌++◌, ◌∷◌, drop, map, refl, sym, ap, subst, ◌∙◌, append_assoc, err_from_is_err_and, unread, trees, tree, Inside, SpellsItem, StopsAt}
 use Rattle.std.proofs.lemmas.List.{drop_more, drop_all}
-use Rattle.sedck_text.specs.Cursors.{unread}
-use Rattle.sedck_expressions.specs.Tree.{trees}
-use Rattle.sedck_expressions.specs.View.{tree}
-use Rattle.sedck_expressions.specs.Shape.{Inside, SpellsItem}
-use Rattle.sedck_expressions.specs.Private.Along.{StopsAt}
 use Rattle.sedck_expressions.proofs.Along.{IsLeft, left_more, left_none, none_group, none_repeat, stops_group, stops_repeat, stops_all, group_cut, reference_stands}
 use Rattle.sedck_expressions.proofs.ViewLemmas.{tree-Byte, tree-Set, tree-Ref, tree-Group, tree-Repeat}
 use Rattle.sedck_expressions.proofs.judging.+items.Goals as goal

@@ -1,9 +1,5 @@
-use Rattle.std.proofs.Common.{◌≡◌, ◌++◌, List, ℕ, drop, map}
-use Rattle.sedck_text.specs.Cursors.{unread}
-use Rattle.sedck_expressions.specs.Tree.{trees}
-use Rattle.sedck_expressions.specs.View.{tree}
+use Rattle.sedck_expressions.proofs.Common.{◌≡◌, ◌++◌, List, ℕ, drop, map, unread, trees, tree, SpellsItems}
 use Rattle.sedck_expressions.specs.Shape as shape
-use Rattle.sedck_expressions.specs.Shape.{SpellsItems}
 use Rattle.sedck_expressions.proofs.Along.{IsLeft}
 use Rattle.sedck_expressions.proofs.judging.+items.Given as goal
 

@@ -1,6 +1,4 @@
-use Rattle.std.proofs.Common.{◌≡◌, ◌++◌, ap, sym, ◌∙◌, true}
-use Rattle.sedck_text.specs.Cursors.{unread}
-use Rattle.sedck_text.specs.Text.{begins}
+use Rattle.sedck_expressions.proofs.Common.{◌≡◌, ◌++◌, ap, sym, ◌∙◌, true, unread, begins}
 use Rattle.sedck_expressions.specs.Private.BracketReading.{bracket_at}
 use Rattle.sedck_expressions.proofs.Along.{second_same}
 use Rattle.sedck_expressions.proofs.WholeBracket.{bracket_again}

@@ -1,5 +1,4 @@
-use Rattle.std.proofs.Common.{ap, sym, ◌∙◌, drop}
-use Rattle.sedck_text.specs.Text.{begins}
+use Rattle.sedck_expressions.proofs.Common.{ap, sym, ◌∙◌, drop, begins}
 use Rattle.sedck_expressions.specs.Private.IntervalReading.{interval_at}
 use Rattle.sedck_expressions.proofs.Along.{star_left, interval_opens, third_same}
 use Rattle.sedck_expressions.proofs.IntervalLemmas.{interval_again}

@@ -1,5 +1,4 @@
-use Rattle.std.proofs.Common.{ap, ◌∙◌, length}
-use Rattle.std.specs.Prelude.{nat_lt}
+use Rattle.sedck_expressions.proofs.Common.{ap, ◌∙◌, length, nat_lt}
 use Rattle.sedck_expressions.proofs.WithoutBackslash.{run_tells}
 use Rattle.sedck_expressions.proofs.judging.has_backslash.Goals as goal
 

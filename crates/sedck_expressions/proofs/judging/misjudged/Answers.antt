@@ -1,12 +1,4 @@
-use Rattle.std.proofs.Common.{[], refl, sym, ap, subst, ◌∙◌}
-use Rattle.std.proofs.Math.Bool.{or-true}
-use Rattle.std.proofs.lemmas.List.{append-nil}
-use Rattle.sedck_expressions.specs.Shape.{Whole}
-use Rattle.sedck_expressions.specs.View.{tree}
-use Rattle.sedck_expressions.specs.Misjudged.{has_misjudged_reference}
-use Rattle.sedck_expressions.specs.Private.Along.{StopsAt}
-use Rattle.sedck_expressions.specs.Private.Parts.{misjudges_reference, misjudges_anchor}
-use Rattle.sedck_expressions.specs.declared.judging.Sought.{Sought}
+use Rattle.sedck_expressions.proofs.Common.{[], refl, sym, ap, subst, ◌∙◌, or-true, append-nil, Whole, tree, has_misjudged_reference, StopsAt, misjudges_reference, misjudges_anchor, Sought}
 use Rattle.sedck_expressions.proofs.Along.{none_misjudged, stops_misjudged}
 use Rattle.sedck_expressions.proofs.PartLemmas.{reference_found, misjudges_reference_of, misjudges_anchor_of}
 use Rattle.sedck_expressions.proofs.WithoutBackslash.{without_backslash}

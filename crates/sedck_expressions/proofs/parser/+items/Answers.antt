@@ -1,14 +1,6 @@
-use Rattle.std.proofs.Common.{◌≡◌, ◌+◌, ◌<◌, ◌∷◌, ◌++◌, length, map, true, false, refl, sym, ap, ◌∙◌, subst, arith, length-append}
-use Rattle.std.proofs.lemmas.Result.{err_from_is_err_and}
-use Rattle.std.proofs.lemmas.List.{map_push, append-nil}
-use Rattle.sedck_text.specs.Cursors.{unread}
-use Rattle.sedck_expressions.specs.Tree.{groups_in}
-use Rattle.sedck_expressions.specs.View.{tree}
-use Rattle.sedck_expressions.specs.Private.Sequence.{sequence}
-use Rattle.sedck_expressions.specs.Private.Reading.{at_end}
-use Rattle.sedck_expressions.specs.Private.Gives.{ClosedIs}
+use Rattle.sedck_expressions.proofs.Common.{◌≡◌, ◌+◌, ◌<◌, ◌∷◌, ◌++◌, length, map, true, false, refl, sym, ap, ◌∙◌, subst, arith, length-append, err_from_is_err_and, append-nil, unread, groups_in, tree, sequence, at_end, ClosedIs, set}
+use Rattle.std.proofs.lemmas.List.{map_push}
 use Rattle.sedck_expressions.proofs.ItemLoop.{groups-push, loop_starts, loop_ends, loop_goes, loop_fails, loop_fails_at, same_left, closed-push, closed_more}
-use Rattle.std.proofs.Math.ListN.{set}
 use Rattle.sedck_expressions.specs.declared.tree.Bre.TheVariants as Bre
 use Rattle.sedck_expressions.proofs.ViewLemmas.{tree-Seq, tree-Group}
 use Rattle.sedck_expressions.proofs.parser.+items.Goals as goal

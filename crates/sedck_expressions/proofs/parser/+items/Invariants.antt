@@ -1,12 +1,7 @@
-use Rattle.std.proofs.Common.{◌≡◌, ℕ, ◌+◌, ◌*◌, ◌<◌, ◌≤◌, ◌++◌, List, length, map}
-use Rattle.sedck_text.specs.Cursors.{unread}
-use Rattle.sedck_expressions.specs.Tree.{groups_in}
-use Rattle.sedck_expressions.specs.View.{tree}
-use Rattle.sedck_expressions.specs.Private.Sequence.{sequence}
+use Rattle.sedck_expressions.proofs.Common.{◌≡◌, ℕ, ◌+◌, ◌*◌, ◌<◌, ◌≤◌, ◌++◌, List, length, map, unread, groups_in, tree, sequence, full, ClosedIs}
 use Rattle.sedck_expressions.specs.Shape as shape
 use Rattle.sedck_expressions.specs.Private.Reading.{items}
-use Rattle.sedck_expressions.specs.Private.FullReading.{full}
-use Rattle.sedck_expressions.specs.Private.Gives.{position_of, level_of, ClosedIs}
+use Rattle.sedck_expressions.specs.Private.Gives.{position_of, level_of}
 use Rattle.sedck_expressions.proofs.ItemLoop.{LeftToRead}
 use Rattle.sedck_expressions.proofs.parser.+items.Given as goal
 

@@ -1,14 +1,6 @@
-use Rattle.std.proofs.Common.{◌≡◌, ℕ, ◌<◌, Bool, List, [], map, length, Some, sym, ap, ◌∙◌, subst, true}
-use Rattle.std.specs.Prelude.{◌==◌}
-use Rattle.sedck_expressions.specs.declared.tree.Bre.{Bre}
+use Rattle.sedck_expressions.proofs.Common.{◌≡◌, ℕ, ◌<◌, Bool, List, [], map, length, Some, sym, ap, ◌∙◌, subst, true, ◌==◌, Bre, err_from_is_err_and, Nil, trees, tree, sequence, Whole, First, Shape, full}
 use Rattle.sedck_expressions.specs.declared.tree.Bre.TheVariants.{Seq}
-use Rattle.std.proofs.lemmas.Result.{err_from_is_err_and}
-use Rattle.sedck_expressions.specs.Tree.{Nil, trees}
-use Rattle.sedck_expressions.specs.View.{tree}
-use Rattle.sedck_expressions.specs.Private.Sequence.{sequence}
-use Rattle.sedck_expressions.specs.Shape.{Whole, First, Shape}
 use Rattle.sedck_expressions.specs.Private.Reading.{read, items}
-use Rattle.sedck_expressions.specs.Private.FullReading.{full}
 use Rattle.sedck_expressions.proofs.WholeReading.{read-at, whole-some, whole-none, shape_of, only_of, none_of, none_closed}
 use Rattle.sedck_expressions.proofs.ViewLemmas.{tree-Seq}
 use Rattle.sedck_expressions.proofs.OffsetLemmas.{end_stands}

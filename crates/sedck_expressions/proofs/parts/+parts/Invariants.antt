@@ -1,7 +1,4 @@
-use Rattle.std.proofs.Common.{◌≡◌, drop, map}
-use Rattle.sedck_expressions.specs.Tree.{trees}
-use Rattle.sedck_expressions.specs.View.{tree}
-use Rattle.sedck_expressions.specs.Private.Parts.{empty, parts_after}
+use Rattle.sedck_expressions.proofs.Common.{◌≡◌, drop, map, trees, tree, empty, parts_after}
 use Rattle.sedck_expressions.proofs.parts.+parts.Given as goal
 
 abbrev pub invariant-parts_of_all-loop-item : goal.invariant-parts_of_all-loop-item

@@ -1,6 +1,4 @@
-use Rattle.std.proofs.Common.{◌≡◌, ◌≤◌, ◌+◌, min, drop}
-use Rattle.std.specs.Prelude.{sum_by}
-use Rattle.sedck_expressions.specs.Private.Parts.{references_by}
+use Rattle.sedck_expressions.proofs.Common.{◌≡◌, ◌≤◌, ◌+◌, min, drop, sum_by, references_by}
 use Rattle.sedck_expressions.proofs.parts.are_two_to_nothing.Given as goal
 
 abbrev pub invariant-loop-k : goal.invariant-loop-k

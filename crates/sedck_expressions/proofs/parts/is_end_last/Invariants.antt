@@ -1,6 +1,4 @@
-use Rattle.std.proofs.Common.{◌≡◌, false, drop, map}
-use Rattle.sedck_expressions.specs.Tree.{trees}
-use Rattle.sedck_expressions.specs.View.{tree}
+use Rattle.sedck_expressions.proofs.Common.{◌≡◌, false, drop, map, trees, tree}
 use Rattle.sedck_expressions.specs.Misjudged.{is_end_last}
 use Rattle.sedck_expressions.proofs.parts.is_end_last.Given as goal
 

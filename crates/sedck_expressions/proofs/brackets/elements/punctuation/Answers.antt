@@ -1,8 +1,5 @@
-use Rattle.std.proofs.Common.{◌≡◌, ℕ, arith}
-use Rattle.std.specs.Prelude.{◌&&◌, ◌||◌, not}
-use Rattle.std.proofs.lemmas.Bool.Decides.{nat_tests}
-use Rattle.sedck_text.specs.Classes.{is_digit, is_letter}
-use Rattle.sedck_expressions.specs.Brackets.{is_from}
+use Rattle.sedck_expressions.proofs.Common.{◌≡◌, ℕ, arith, ◌&&◌, ◌||◌, not, nat_tests, is_digit, is_from}
+use Rattle.sedck_text.specs.Classes.{is_letter}
 use Rattle.sedck_expressions.proofs.SetLemmas.{just_same}
 use Rattle.sedck_expressions.proofs.brackets.elements.punctuation.Goals as goal
 

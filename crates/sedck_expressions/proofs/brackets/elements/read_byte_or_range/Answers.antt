@@ -1,7 +1,5 @@
-use Rattle.std.proofs.Common.{◌∙◌, sym, ap, refl, subst}
-use Rattle.std.proofs.lemmas.List.{drop-drop, take_rest}
-use Rattle.sedck_expressions.specs.Private.Reading.{◌>>=◌}
-use Rattle.sedck_expressions.specs.Private.BracketReading.{range_or_one}
+use Rattle.sedck_expressions.proofs.Common.{◌∙◌, sym, ap, refl, subst, drop-drop, ◌>>=◌, range_or_one}
+use Rattle.std.proofs.lemmas.List.{take_rest}
 use Rattle.sedck_expressions.specs.Private.BracketCode.{Reads}
 use Rattle.sedck_expressions.proofs.brackets.elements.read_byte_or_range.Goals as goal
 

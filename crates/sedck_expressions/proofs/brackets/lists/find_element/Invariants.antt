@@ -1,5 +1,4 @@
-use Rattle.std.proofs.Common.{◌≤◌, length}
-use Rattle.sedck_text.specs.Cursors.{unread}
+use Rattle.sedck_expressions.proofs.Common.{◌≤◌, length, unread}
 use Rattle.sedck_expressions.proofs.brackets.lists.find_element.Given as goal
 
 abbrev pub invariant-elements : goal.invariant-elements

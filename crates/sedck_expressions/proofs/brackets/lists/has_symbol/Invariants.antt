@@ -1,4 +1,4 @@
-use Rattle.std.proofs.Common.{◌≡◌, length}
+use Rattle.sedck_expressions.proofs.Common.{◌≡◌, length}
 use Rattle.sedck_expressions.specs.Brackets.{has_symbol}
 use Rattle.sedck_expressions.proofs.brackets.lists.has_symbol.Given as goal
 

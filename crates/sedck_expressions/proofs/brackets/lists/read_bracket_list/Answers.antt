@@ -1,10 +1,5 @@
-use Rattle.std.proofs.Common.{refl, ◌≡◌, ◌∙◌, ℕ, List, true, false, sym, subst, ap, rules}
-use Rattle.sedck_text.specs.Text.{begins}
-use Rattle.sedck_text.specs.Cursors.{unread}
-use Rattle.sedck_text.specs.declared.cursor.Cursor.{Cursor}
-use Rattle.sedck_expressions.specs.declared.tree.ByteSet.{ByteSet}
+use Rattle.sedck_expressions.proofs.Common.{refl, ◌≡◌, ◌∙◌, ℕ, List, true, false, sym, subst, ap, rules, begins, unread, Cursor, ByteSet, inside_at, set_at}
 use Rattle.sedck_expressions.specs.View.{bytes_in}
-use Rattle.sedck_expressions.specs.Private.BracketReading.{inside_at, set_at}
 use Rattle.sedck_expressions.specs.Private.Gives.{Gives}
 use Rattle.sedck_expressions.proofs.OffsetLemmas.{bracket_is}
 use Rattle.sedck_expressions.proofs.brackets.lists.read_bracket_list.Goals as goal

@@ -1,7 +1,6 @@
-use Rattle.std.proofs.Common.{◌∙◌, ◌++◌, ◌∷◌, [], refl, sym, ap, arith, Some, rules, ◌<◌, length, length-drop}
-use Rattle.sedck_text.specs.Cursors.{unread}
-use Rattle.sedck_expressions.specs.Brackets.{in_element}
-use Rattle.sedck_expressions.specs.Private.BracketCode.{element_of, is_of}
+use Rattle.sedck_expressions.proofs.Common.{◌∙◌, ◌++◌, ◌∷◌, [], refl, sym, ap, arith, Some, rules, ◌<◌, length, unread, in_element, is_of}
+use Rattle.std.proofs.Common.{length-drop}
+use Rattle.sedck_expressions.specs.Private.BracketCode.{element_of}
 use Rattle.sedck_expressions.proofs.ElementLoop.{elements_start, elements_end, elements_go, elements_fail}
 use Rattle.sedck_expressions.proofs.SetLoop.{just_push}
 use Rattle.sedck_expressions.proofs.brackets.lists.read_elements.Goals as goal

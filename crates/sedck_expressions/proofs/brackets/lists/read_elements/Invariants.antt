@@ -1,9 +1,4 @@
-use Rattle.std.proofs.Common.{◌≡◌, ◌≤◌, List, length}
-use Rattle.sedck_text.specs.Cursors.{unread}
-use Rattle.sedck_expressions.specs.Brackets.{Element}
-use Rattle.sedck_expressions.specs.Private.Sets.{HasJust}
-use Rattle.sedck_expressions.specs.Private.BracketCode.{is_of}
-use Rattle.sedck_expressions.specs.Private.BracketReading.{elements_of}
+use Rattle.sedck_expressions.proofs.Common.{◌≡◌, ◌≤◌, List, length, unread, Element, HasJust, is_of, elements_of}
 use Rattle.sedck_expressions.proofs.ElementLoop.{LeftToRead}
 use Rattle.sedck_expressions.proofs.brackets.lists.read_elements.Given as goal
 

@@ -1,6 +1,4 @@
-use Rattle.std.proofs.Common.{◌∙◌, sym, true, false}
-use Rattle.sedck_text.specs.Cursors.{unread}
-use Rattle.sedck_expressions.specs.Private.BracketCode.{is_of}
+use Rattle.sedck_expressions.proofs.Common.{◌∙◌, sym, true, false, unread, is_of}
 use Rattle.sedck_expressions.proofs.OffsetLemmas.{mistakable_read}
 use Rattle.sedck_expressions.proofs.SetLoop.{set_given, set_empty, set_mistakable}
 use Rattle.sedck_expressions.proofs.brackets.lists.read_set.Goals as goal

@@ -1,6 +1,5 @@
-use Rattle.std.proofs.Common.{◌*◌, ◌-◌, ◌<◌, sym, subst, arith}
+use Rattle.sedck_expressions.proofs.Common.{◌*◌, ◌-◌, ◌<◌, sym, subst, arith, HasBitsBelow}
 use Rattle.std.proofs.lemmas.Nat.{one_shl}
-use Rattle.sedck_expressions.specs.Private.Sets.{HasBitsBelow}
 use Rattle.sedck_expressions.proofs.SetLemmas.{all_bits, some_bits}
 use Rattle.sedck_expressions.proofs.brackets.sets.bits_below.Goals as goal
 

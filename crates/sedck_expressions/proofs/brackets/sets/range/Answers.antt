@@ -1,4 +1,4 @@
-use Rattle.sedck_expressions.specs.Brackets.{is_from}
+use Rattle.sedck_expressions.proofs.Common.{is_from}
 use Rattle.sedck_expressions.proofs.SetLemmas.{just_same, range_test}
 use Rattle.sedck_expressions.proofs.brackets.sets.range.Goals as goal
 

@@ -1,4 +1,4 @@
-use Rattle.std.proofs.Common.{◌∙◌, sym, drop}
+use Rattle.sedck_expressions.proofs.Common.{◌∙◌, sym, drop}
 use Rattle.sedck_expressions.proofs.ClassNames.{class_skips, class_found}
 use Rattle.sedck_expressions.proofs.brackets.symbols.read_class.Goals as goal
 

@@ -1,7 +1,4 @@
-use Rattle.std.proofs.Common.{◌≡◌, map, drop}
-use Rattle.sedck_expressions.specs.Brackets.{classes}
-use Rattle.sedck_expressions.specs.Private.BracketReading.{class_from}
-use Rattle.sedck_expressions.specs.Private.BracketCode.{class_of}
+use Rattle.sedck_expressions.proofs.Common.{◌≡◌, map, drop, classes, class_from, class_of}
 use Rattle.sedck_expressions.proofs.brackets.symbols.read_class.Given as goal
 
 abbrev pub invariant-classes : goal.invariant-classes
