@@ -1,20 +1,10 @@
 -- Outside of different groups that are items of the expression, however many there are, a match has a least rest.
-use Rattle.std.proofs.Common.{◌≡◌, min, ℕ, zero, suc, ◌+◌, ◌≤◌, Bool, true, false, IsTrue, List, [], ◌∷◌, filter, length, refl, sym, ◌∙◌, arith}
+use Rattle.sedck_bre.proofs.Common.{◌≡◌, min, ℕ, zero, suc, ◌+◌, ◌≤◌, Bool, true, false, List, [], ◌∷◌, filter, length, refl, sym, ◌∙◌, arith, bit_at, false≢true, nat_tests, Tree, Trees, Seq, groups_in_all, is_in, Groups, no_groups, WideMatch, IsWellFormed, cap, IsLeastSize, HasLength, is_top_group, names, texts_length, HasRest, IsLeastRest, no_bounds, outside, CountsFrom, are_numbered}
+use Rattle.std.proofs.Common.{IsTrue}
 use Rattle.std.specs.List.{range_with_len}
-use Rattle.std.specs.Int.{bit_at}
-use Rattle.std.proofs.lemmas.Bool.{false≢true}
-use Rattle.std.proofs.lemmas.Bool.Decides.{nat_tests}
 use Rattle.std.proofs.lemmas.Nat.Bits.{bit_at-zero}
-use Rattle.sedck_expressions.specs.Tree.{Tree, Trees, Seq, groups_in_all, is_in}
-use Rattle.sedck_bre.specs.Match.{Groups, no_groups}
-use Rattle.sedck_bre.specs.WideMatch.{WideMatch}
-use Rattle.sedck_expressions.specs.WellFormed.{IsWellFormed}
-use Rattle.sedck_bre.specs.Lengths.{cap, IsLeastSize, HasLength}
-use Rattle.sedck_bre.specs.Rests.{is_top_group, names, named, NamesTopGroups, texts_length, HasRest, IsLeastRest}
-use Rattle.sedck_bre.specs.Private.Bounds.{no_bounds, outside}
-use Rattle.sedck_expressions.specs.Private.Numbering.{CountsFrom}
+use Rattle.sedck_bre.specs.Rests.{named, NamesTopGroups}
 use Rattle.sedck_expressions.proofs.BracketSets.{below_from, in_from}
-use Rattle.sedck_expressions.proofs.NumberedGroups.{are_numbered}
 use Rattle.sedck_bre.proofs.NamedSums.{items_sum, without, items_sum-none, items_sum-same, items_sum-split, texts_sum, sum_of-none}
 use Rattle.sedck_bre.proofs.LeastRest.{HasWideFloor, lengths, items_rest, whole_rest, least-rest, least-size}
 

@@ -1,9 +1,8 @@
 -- The worked examples of expressions hold.
-use Rattle.std.proofs.Common.{◌≡◌, ℕ, List, [], ◌∷◌, ◌++◌, Some, None, refl, sym, arith, inl, inr, ◌⊎◌}
+use Rattle.sedck_bre.proofs.Common.{◌≡◌, ℕ, List, [], ◌∷◌, ◌++◌, None, refl, sym, arith, inl, inr, ◌⊎◌, Tree, Byte, Group, Ref, trees, Groups, no_groups, text_of, unset, Match, MatchAll, Language, with_text, Times}
+use Rattle.std.proofs.Common.{Some}
 use Rattle.std.specs.Prelude.{codes}
 use Rattle.std.proofs.lemmas.List.{append-nil}
-use Rattle.sedck_expressions.specs.Tree.{Tree, Byte, Group, Ref, trees}
-use Rattle.sedck_bre.specs.Match.{Groups, no_groups, text_of, unset, Match, MatchAll, Language, with_text, Times}
 use Rattle.std.specs.Prelude.{All}
 use Rattle.std.proofs.lemmas.List.Elements.{All-nil, All-cons}
 use Rattle.sedck_bre.specs.Examples.{sequence_of, text_tree, star, spelled_texts, refused_texts, two_or_three, any_number, nested, ExamplesHold}

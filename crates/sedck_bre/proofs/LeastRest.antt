@@ -1,17 +1,9 @@
 -- The least length outside of groups that are items: no match has less, and a shortest match has it.
-use Rattle.std.proofs.Common.{◌≡◌, min, ℕ, ◌+◌, ◌-◌, ◌<◌, ◌≤◌, Bool, List, [], length, inl, refl, ap, subst, ◌∙◌, arith, length-append}
-use Rattle.std.specs.Prelude.{Some, unwrap_or}
-use Rattle.std.proofs.lemmas.Bool.Decides.{nat_tests}
-use Rattle.sedck_expressions.specs.Tree.{Tree, Trees, Group, Seq, Nil, Then, groups_in, groups_in_all}
-use Rattle.sedck_bre.specs.Match.{Groups, no_groups, text_of, with_text}
-use Rattle.sedck_bre.specs.WideMatch.{WideMatch, WideMatchAll}
+use Rattle.sedck_bre.proofs.Common.{◌≡◌, min, ℕ, ◌+◌, ◌<◌, ◌≤◌, Bool, List, [], length, inl, refl, ap, subst, ◌∙◌, arith, length-append, unwrap_or, nat_tests, Tree, Trees, Group, Seq, Nil, Then, groups_in, groups_in_all, Groups, no_groups, text_of, with_text, WideMatch, WideMatchAll, IsWellFormed, texts_length, HasRest, IsLeastRest, Bounds, no_bounds, least, after, least_all, after_all, CountsFrom, cap, IsLeastSize, CountsFrom-left, CountsFrom-right, beside_row, are_numbered}
+use Rattle.std.proofs.Common.{◌-◌}
+use Rattle.std.specs.Prelude.{Some}
 use Rattle.sedck_bre.proofs.MatchIsWide.{widens}
-use Rattle.sedck_expressions.specs.WellFormed.{IsWellFormed}
-use Rattle.sedck_bre.specs.Rests.{texts_length, HasRest, IsLeastRest}
-use Rattle.sedck_bre.specs.Private.Bounds.{Bounds, no_bounds, least, after, least_all, after_all, own_beside, outside_picked}
-use Rattle.sedck_expressions.specs.Private.Numbering.{CountsFrom}
-use Rattle.sedck_bre.specs.Lengths.{cap, IsLeastSize}
-use Rattle.sedck_expressions.proofs.NumberedGroups.{CountsFrom-left, CountsFrom-right, beside_row, are_numbered}
+use Rattle.sedck_bre.specs.Private.Bounds.{own_beside, outside_picked}
 use Rattle.sedck_bre.proofs.LeastLemmas.{FreshFrom, after-fresh, after_all-below, with_bound-same}
 use Rattle.sedck_bre.proofs.LeastFloor.{Reaches, floor, floor_all, wide-floor}
 use Rattle.sedck_bre.proofs.LeastReached.{least-met}

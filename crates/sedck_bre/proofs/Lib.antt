@@ -1,3 +1,4 @@
+mod Common
 pub mod MatchIsWide
 pub mod LeastLemmas
 pub mod LeastFloor

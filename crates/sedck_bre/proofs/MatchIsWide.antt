@@ -1,8 +1,5 @@
 -- Each match is a wide match.
-use Rattle.std.proofs.Common.{◌≡◌, ◌≢◌, ℕ, zero, suc, ◌≤◌, List, [], ◌∷◌, length, refl, arith}
-use Rattle.sedck_expressions.specs.Tree.{Tree, Trees, Any, Set, Group, Seq, Repeat, Nil, Then}
-use Rattle.sedck_bre.specs.Match.{Groups, Times, Match, MatchAll}
-use Rattle.sedck_bre.specs.WideMatch.{WideMatch, WideMatchAll}
+use Rattle.sedck_bre.proofs.Common.{◌≡◌, ◌≢◌, ℕ, zero, suc, ◌≤◌, List, [], ◌∷◌, length, refl, arith, Tree, Trees, Any, Set, Group, Seq, Repeat, Nil, Then, Groups, Times, Match, MatchAll, WideMatch, WideMatchAll}
 
 -- a text that isn't empty has a byte
 pub some_byte : (w : List ℕ) → w ≢ [] → 1 ≤ length w

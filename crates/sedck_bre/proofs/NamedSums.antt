@@ -1,13 +1,6 @@
 -- A sum over the groups that a test picks: by their numbers, and by the items of an expression.
-use Rattle.std.proofs.Common.{◌≡◌, ℕ, ◌+◌, ◌<◌, ◌≤◌, Bool, true, false, List, [], ◌∷◌, length, filter, refl, arith}
-use Rattle.std.specs.Prelude.{◌==◌, if◌then◌else◌}
-use Rattle.std.proofs.lemmas.Bool.Decides.{nat_tests}
-use Rattle.sedck_expressions.specs.Tree.{Tree, Trees, Group, Nil, Then, groups_in, groups_in_all}
-use Rattle.sedck_bre.specs.Match.{Groups, text_of}
-use Rattle.sedck_expressions.specs.Private.Numbering.{CountsFrom}
-use Rattle.sedck_bre.specs.Rests.{is_group, is_item, texts_length}
-use Rattle.sedck_expressions.proofs.NumberedGroups.{CountsFrom-left, CountsFrom-right}
-use Rattle.std.proofs.lemmas.Bool.{false≢true}
+use Rattle.sedck_bre.proofs.Common.{◌≡◌, ℕ, ◌+◌, ◌<◌, ◌≤◌, Bool, true, false, List, [], ◌∷◌, length, filter, refl, arith, if◌then◌else◌, nat_tests, Tree, Trees, Group, Nil, Then, groups_in, groups_in_all, Groups, text_of, CountsFrom, is_group, is_item, texts_length, CountsFrom-left, CountsFrom-right, false≢true}
+use Rattle.std.specs.Prelude.{◌==◌}
 
 -- the sum over the numbers that are picked
 abbrev pub sum_of : (ℕ → Bool) → (ℕ → ℕ) → List ℕ → ℕ

@@ -1,10 +1,5 @@
 -- A match leaves the texts of the groups that aren't in the tree as they were.
-use Rattle.std.proofs.Common.{◌≡◌, ℕ, zero, suc, false, List, ◌∷◌, ◌⊎◌, inl, inr, ap, ◌∙◌, arith}
-use Rattle.std.proofs.lemmas.Bool.Decides.{nat_tests}
-use Rattle.sedck_expressions.specs.Tree.{Tree, Trees, Group, Seq, Repeat, Nil, Then, groups_in, groups_in_all, is_in}
-use Rattle.sedck_bre.specs.Match.{Groups, with_text, unset, Times}
-use Rattle.sedck_bre.specs.WideMatch.{WideMatch, WideMatchAll}
-use Rattle.sedck_expressions.proofs.NumberedGroups.{is_in-neither}
+use Rattle.sedck_bre.proofs.Common.{◌≡◌, ℕ, zero, suc, false, List, ◌∷◌, ◌⊎◌, inl, inr, ap, ◌∙◌, arith, nat_tests, Tree, Trees, Group, Seq, Repeat, Nil, Then, groups_in, groups_in_all, is_in, Groups, with_text, unset, Times, WideMatch, WideMatchAll, is_in-neither}
 
 -- a match leaves the group's text as it was
 abbrev pub Leaves : ℕ → (Groups → List ℕ → Groups → Type 0) → Type 0

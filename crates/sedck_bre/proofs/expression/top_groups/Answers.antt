@@ -1,8 +1,4 @@
-use Rattle.std.proofs.Common.{sym, ap, ◌∙◌}
-use Rattle.std.specs.List.{list_any}
-use Rattle.sedck_expressions.specs.View.{tree}
-use Rattle.sedck_expressions.proofs.ViewLemmas.{tree-Seq}
-use Rattle.sedck_bre.specs.Rests.{is_group, is_top_group}
+use Rattle.sedck_bre.proofs.Common.{sym, ap, ◌∙◌, list_any, tree, tree-Seq, is_group, is_top_group}
 use Rattle.sedck_bre.proofs.TopGroup.{item_any, no_groups}
 use Rattle.sedck_bre.proofs.expression.top_groups.Goals as goal
 

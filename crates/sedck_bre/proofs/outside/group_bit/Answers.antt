@@ -1,8 +1,6 @@
-use Rattle.std.proofs.Common.{ap, ◌∙◌}
+use Rattle.sedck_bre.proofs.Common.{ap, ◌∙◌, tree, tree-Group}
 use Rattle.std.proofs.lemmas.Nat.{one_shl}
-use Rattle.sedck_expressions.specs.View.{tree}
 use Rattle.sedck_expressions.proofs.PartLemmas.{names_pow}
-use Rattle.sedck_expressions.proofs.ViewLemmas.{tree-Group}
 use Rattle.sedck_bre.proofs.outside.group_bit.Goals as goal
 
 pub returns-in-Group : goal.returns-in-Group

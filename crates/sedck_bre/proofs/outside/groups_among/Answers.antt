@@ -1,11 +1,7 @@
-use Rattle.std.proofs.Common.{◌≡◌, ◌∷◌, ◌+◌, Bool, drop, sym, ap, ◌∙◌}
-use Rattle.std.specs.Prelude.{◌||◌}
-use Rattle.std.specs.List.{list_any}
+use Rattle.sedck_bre.proofs.Common.{◌≡◌, ◌∷◌, ◌+◌, Bool, drop, sym, ap, ◌∙◌, ◌||◌, list_any, tree, is_group, names}
 use Rattle.std.proofs.Math.Bool.{or_assoc}
 use Rattle.std.proofs.lemmas.List.{drop_more}
-use Rattle.sedck_expressions.specs.View.{tree}
 use Rattle.sedck_expressions.proofs.PartLemmas.{names_or}
-use Rattle.sedck_bre.specs.Rests.{is_group, names}
 use Rattle.sedck_bre.proofs.outside.groups_among.Goals as goal
 
 pub loop-item-preserved : goal.loop-item-preserved

@@ -1,7 +1,5 @@
-use Rattle.std.proofs.Common.{◌≡◌, ℕ, ◌<◌, ◌||◌, drop}
-use Rattle.std.specs.List.{list_any}
-use Rattle.sedck_expressions.specs.View.{tree}
-use Rattle.sedck_bre.specs.Rests.{is_group, names}
+use Rattle.sedck_bre.proofs.Common.{◌≡◌, ℕ, ◌<◌, drop, list_any, tree, is_group, names}
+use Rattle.std.proofs.Common.{◌||◌}
 use Rattle.sedck_bre.proofs.outside.groups_among.Given as goal
 
 -- each group is named, or among the items that are left

@@ -1,9 +1,6 @@
-use Rattle.std.proofs.Common.{◌≡◌, ◌∙◌, false, nat_lt, ap, arith}
-use Rattle.std.proofs.lemmas.Bool.Decides.{nat_tests}
+use Rattle.sedck_bre.proofs.Common.{◌≡◌, ◌∙◌, false, ap, arith, nat_tests, bit_at, tree, tree-Group}
+use Rattle.std.proofs.Common.{nat_lt}
 use Rattle.std.proofs.lemmas.Nat.Bits.{bit_at_above}
-use Rattle.std.specs.Int.{bit_at}
-use Rattle.sedck_expressions.specs.View.{tree}
-use Rattle.sedck_expressions.proofs.ViewLemmas.{tree-Group}
 use Rattle.sedck_bre.proofs.outside.is_named.Goals as goal
 
 pub returns-else-k-lt16 : goal.returns-else-k-lt16

@@ -1,10 +1,4 @@
-use Rattle.std.proofs.Common.{◌≡◌, min, map, ◌+◌, ◌++◌, ◌∷◌, [], take, sym, ap, ◌∙◌, arith}
-use Rattle.std.proofs.lemmas.List.{take_more}
-use Rattle.sedck_expressions.specs.Tree.{trees}
-use Rattle.sedck_bre.specs.Lengths.{cap}
-use Rattle.sedck_expressions.specs.View.{tree}
-use Rattle.sedck_expressions.specs.Private.Sequence.{sequence}
-use Rattle.sedck_bre.specs.Private.Bounds.{no_bounds, after, own, outside}
+use Rattle.sedck_bre.proofs.Common.{◌≡◌, min, map, ◌+◌, ◌++◌, ◌∷◌, [], take, sym, ap, ◌∙◌, arith, take_more, trees, cap, tree, sequence, no_bounds, after, own, outside}
 use Rattle.sedck_bre.proofs.CappedSums.{outside-push, after-push, own-named, own-other}
 use Rattle.sedck_bre.proofs.outside.least_outside_of.Goals.{then-not-is_named, else-not-is_named}
 use Rattle.sedck_bre.proofs.outside.least_outside_of.Goals as goal

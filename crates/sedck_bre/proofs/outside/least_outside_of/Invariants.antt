@@ -1,9 +1,4 @@
-use Rattle.std.proofs.Common.{◌≡◌, min, map, take}
-use Rattle.sedck_expressions.specs.Tree.{trees}
-use Rattle.sedck_bre.specs.Lengths.{cap}
-use Rattle.sedck_expressions.specs.View.{tree}
-use Rattle.sedck_expressions.specs.Private.Sequence.{sequence}
-use Rattle.sedck_bre.specs.Private.Bounds.{no_bounds, Holds, after, outside}
+use Rattle.sedck_bre.proofs.Common.{◌≡◌, min, map, take, trees, cap, tree, sequence, no_bounds, Holds, after, outside}
 use Rattle.sedck_bre.proofs.outside.least_outside_of.Given as goal
 
 abbrev pub invariant-loop-item : goal.invariant-loop-item

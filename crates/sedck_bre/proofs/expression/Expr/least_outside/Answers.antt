@@ -1,12 +1,4 @@
-use Rattle.std.proofs.Common.{◌≡◌, ℕ, true, min, map, sym, ap, subst, ◌∙◌}
-use Rattle.std.proofs.lemmas.Bool.{false≢true}
-use Rattle.sedck_expressions.specs.Tree.{trees}
-use Rattle.sedck_expressions.specs.View.{tree}
-use Rattle.sedck_expressions.specs.WellFormed.{IsWellFormed}
-use Rattle.sedck_bre.specs.Lengths.{cap, IsLeastSize, HasLength}
-use Rattle.sedck_bre.specs.Private.Bounds.{no_bounds, outside}
-use Rattle.sedck_bre.specs.Rests.{names, is_top_group}
-use Rattle.sedck_expressions.proofs.ViewLemmas.{tree-Seq}
+use Rattle.sedck_bre.proofs.Common.{◌≡◌, ℕ, true, min, map, sym, ap, subst, ◌∙◌, false≢true, trees, tree, IsWellFormed, cap, IsLeastSize, HasLength, no_bounds, outside, names, is_top_group, tree-Seq}
 use Rattle.sedck_bre.proofs.TopGroup.{no_list}
 use Rattle.sedck_bre.proofs.DifferentGroups.{least-outside, least-alone, least-whole, none-by-zero}
 use Rattle.sedck_bre.proofs.expression.Expr.least_outside.Goals as goal

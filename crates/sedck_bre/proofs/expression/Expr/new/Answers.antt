@@ -1,11 +1,5 @@
-use Rattle.std.proofs.Common.{◌≡◌, ℕ, ◌≤◌, min, length, arith, subst}
+use Rattle.sedck_bre.proofs.Common.{◌≡◌, ℕ, ◌≤◌, min, length, arith, subst, are_numbered, cap, IsLeastSize, HasLength, tree, no_bounds, least, IsWellFormed, Tree}
 use Rattle.std.proofs.lemmas.List.{get_or-replicate}
-use Rattle.sedck_expressions.proofs.NumberedGroups.{are_numbered}
-use Rattle.sedck_bre.specs.Lengths.{cap, IsLeastSize, HasLength}
-use Rattle.sedck_expressions.specs.View.{tree}
-use Rattle.sedck_bre.specs.Private.Bounds.{no_bounds, least}
-use Rattle.sedck_expressions.specs.WellFormed.{IsWellFormed}
-use Rattle.sedck_expressions.specs.Tree.{Tree}
 use Rattle.sedck_bre.proofs.LeastFloor.{least-floor}
 use Rattle.sedck_bre.proofs.LeastReached.{least-met}
 use Rattle.sedck_bre.proofs.expression.Expr.new.Goals as goal

@@ -1,9 +1,5 @@
-use Rattle.std.proofs.Common.{sym, ap, ◌∙◌}
-use Rattle.std.specs.List.{list_any}
-use Rattle.sedck_expressions.specs.View.{tree}
-use Rattle.sedck_bre.specs.Rests.{is_group, is_top_group}
+use Rattle.sedck_bre.proofs.Common.{sym, ap, ◌∙◌, list_any, tree, is_group, is_top_group, tree-Seq}
 use Rattle.sedck_bre.proofs.TopGroup.{item_any}
-use Rattle.sedck_expressions.proofs.ViewLemmas.{tree-Seq}
 use Rattle.sedck_bre.proofs.expression.Expr.top_group.Goals as goal
 
 pub returns-in-Seq : goal.returns-in-Seq
