@@ -1,9 +1,6 @@
 -- What an address is, by its first byte.
-use Rattle.std.proofs.Common.{◌≡◌, ◌≢◌, ℕ, List, ◌∷◌, refl, ap, sym, ◌∙◌, subst, subst₂, arith}
-use Rattle.std.specs.Prelude.{IsTrue}
-use Rattle.sedck_commands.specs.Cuts.{is_delimiter}
-use Rattle.sedck_commands.specs.Program.{Place, Last}
-use Rattle.sedck_commands.specs.Parts.{Number, PlaceText}
+use Rattle.sedck_commands.proofs.Common.{◌≡◌, ◌≢◌, ℕ, List, ◌∷◌, refl, ap, sym, ◌∙◌, subst, subst₂, arith, IsTrue, is_delimiter, Place, Number, PlaceText}
+use Rattle.sedck_commands.specs.Program.{Last}
 use Rattle.sedck_commands.specs.Parts as p
 use Rattle.sedck_commands.specs.Private.AddressReading.{ContextText, CustomText}
 use Rattle.sedck_commands.proofs.UniqueItems.{place_class, place_begins}

@@ -1,19 +1,12 @@
 -- How far the bracket lists of a text are closed.
-use Rattle.std.proofs.Common.{◌≡◌, ◌≢◌, ℕ, ◌+◌, ◌<◌, ◌≤◌, ◌-◌, List, [], ◌∷◌, ◌++◌, length, take, drop, refl, ap, sym, ◌∙◌, subst, append_assoc, length-append, arith}
-use Rattle.std.proofs.lemmas.List.{append_cancel_right, nil_from_length}
-use Rattle.sedck_commands.specs.Cuts.{Longest}
+use Rattle.sedck_commands.proofs.Common.{◌≡◌, ◌≢◌, ℕ, ◌+◌, ◌<◌, ◌≤◌, ◌-◌, List, [], ◌∷◌, ◌++◌, length, take, drop, refl, ap, sym, ◌∙◌, subst, append_assoc, length-append, arith, nil_from_length, Longest, DelimitedList, FirstList, StandsAt, EndsIn, longest_one, unread, Follows, Cursor, read_unread, unread_length}
+use Rattle.std.proofs.lemmas.List.{append_cancel_right}
 use Rattle.sedck_commands.specs.BracketLists.{BracketBegins, BracketList, BracketsClose}
 use Rattle.sedck_commands.specs.BracketLists as b
-use Rattle.sedck_commands.specs.Parts.{DelimitedList, FirstList}
-use Rattle.sedck_commands.specs.Faults.{StandsAt, IsOpenBracket}
-use Rattle.sedck_commands.specs.Private.Reading.{EndsIn}
-use Rattle.sedck_text.proofs.Runs.{longest_one}
+use Rattle.sedck_commands.specs.Faults.{IsOpenBracket}
 use Rattle.sedck_commands.proofs.FirstBytes.{tails}
 use Rattle.sedck_commands.proofs.OffsetLemmas.{tail_cut, tail_tail, tail_behind, tail_cons, list_cut, take_front}
 use Rattle.sedck_commands.proofs.UniqueParts.{list_one}
-use Rattle.sedck_text.specs.Cursors.{unread, Follows}
-use Rattle.sedck_text.specs.declared.cursor.Cursor.{Cursor}
-use Rattle.sedck_text.proofs.Cursors.{read_unread, unread_length}
 
 -- ---- One bracket list
 

@@ -1,12 +1,5 @@
 -- Ends of commands.
-use Rattle.std.proofs.Common.{◌≡◌, ◌∙◌, ℕ, false, List, ◌∷◌, refl, subst}
-use Rattle.std.proofs.lemmas.Bool.{both_ways, not-true}
-use Rattle.sedck_commands.specs.Cuts.{is_blank, is_ending, IsEmptyOr, Longest}
-use Rattle.sedck_commands.specs.Parts.{Ends}
-use Rattle.sedck_commands.specs.Faults.{StandsWhere, is_extra}
-use Rattle.sedck_text.specs.Cursors.{unread}
-use Rattle.sedck_text.specs.declared.cursor.Cursor.{Cursor}
-use Rattle.sedck_text.proofs.Runs.{longest_one}
+use Rattle.sedck_commands.proofs.Common.{◌≡◌, ◌∙◌, ℕ, false, List, ◌∷◌, refl, subst, both_ways, not-true, is_blank, is_ending, IsEmptyOr, Longest, Ends, StandsWhere, is_extra, unread, Cursor, longest_one}
 use Rattle.sedck_commands.proofs.CursorPlaces.{stands_here}
 
 -- after the blanks is a byte that ends no command

@@ -1,21 +1,7 @@
 -- A command is its addresses, its marks and its verb.
-use Rattle.std.proofs.Common.{◌≡◌, ℕ, Bool, ◌||◌, eqb, List, [], ◌∷◌, ◌++◌, Option, Some, None, length, refl, ap, ◌∙◌, subst₂, arith}
-use Rattle.std.specs.List.{list_any}
-use Rattle.std.specs.Option.{option_or}
-use Rattle.sedck_commands.specs.Cuts.{Longest}
-use Rattle.sedck_commands.specs.Program.{Pattern, Previous, Expression, Address}
-use Rattle.sedck_commands.specs.Parts.{AddressText}
+use Rattle.sedck_commands.proofs.Common.{◌≡◌, ℕ, Bool, ◌||◌, eqb, List, [], ◌∷◌, ◌++◌, Option, Some, None, length, refl, ap, ◌∙◌, subst₂, arith, list_any, option_or, Longest, Pattern, Previous, Expression, Address, AddressText, WrittenVerb, VerbText, Takes, CommandText, EndsIn, is_mark, IsOnlyAddress, has_previous, location_of, Location, unread, Cursor, unread_length, longest_one}
 use Rattle.sedck_commands.specs.Parts as p
-use Rattle.sedck_commands.specs.Items.{WrittenVerb, VerbText, Takes, CommandText}
-use Rattle.sedck_commands.specs.Private.Reading.{EndsIn}
-use Rattle.sedck_commands.specs.Private.AddressReading.{is_mark, IsOnlyAddress}
-use Rattle.sedck_commands.specs.ReadItems.{has_previous, IsEmptyAt}
-use Rattle.sedck_commands.specs.Locations.{location_of}
-use Rattle.sedck_commands.specs.declared.location.Location.{Location}
-use Rattle.sedck_text.specs.Cursors.{unread}
-use Rattle.sedck_text.specs.declared.cursor.Cursor.{Cursor}
-use Rattle.sedck_text.proofs.Cursors.{unread_length}
-use Rattle.sedck_text.proofs.Runs.{longest_one}
+use Rattle.sedck_commands.specs.ReadItems.{IsEmptyAt}
 use Rattle.sedck_commands.proofs.OffsetLemmas.{tail_cut, tail_tail, tail_cons}
 use Rattle.sedck_commands.proofs.UniqueItems.{longest_along}
 use Rattle.sedck_commands.proofs.UniqueAddresses.{place_tail}

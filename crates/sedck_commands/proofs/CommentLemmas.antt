@@ -1,13 +1,7 @@
 -- Where carriage returns are in a comment.
-use Rattle.std.proofs.Common.{◌≡◌, ℕ, suc, ◌+◌, ◌<◌, ◌≤◌, true, inl, inr, Option, Some, None, List, [], ◌∷◌, ◌++◌, length, take, drop, get_or, refl, ap, ◌∙◌, length-append, arith}
-use Rattle.std.proofs.Math.Seq.{split_at, get_or-append_seam}
-use Rattle.std.proofs.lemmas.List.{nil_from_length, length-drop}
-use Rattle.std.proofs.lemmas.Bool.{eqb-true, eq-eqb, cases_order}
+use Rattle.sedck_commands.proofs.Common.{◌≡◌, ℕ, suc, ◌+◌, ◌<◌, ◌≤◌, true, inl, inr, Option, Some, None, List, [], ◌∷◌, ◌++◌, length, take, drop, get_or, refl, ap, ◌∙◌, length-append, arith, split_at, get_or-append_seam, nil_from_length, length-drop, eqb-true, eq-eqb, HasNoInnerReturn, StandsWhere, is_extra, unread, Cursor}
+use Rattle.std.proofs.lemmas.Bool.{cases_order}
 use Rattle.memchr.specs.Find.{IsFirstByte, is_byte}
-use Rattle.sedck_commands.specs.ReadAlike.{HasNoInnerReturn}
-use Rattle.sedck_commands.specs.Faults.{StandsWhere, is_extra}
-use Rattle.sedck_text.specs.Cursors.{unread}
-use Rattle.sedck_text.specs.declared.cursor.Cursor.{Cursor}
 use Rattle.sedck_commands.proofs.CursorPlaces.{line_byte}
 
 -- where the first one, if there is one, is the last byte

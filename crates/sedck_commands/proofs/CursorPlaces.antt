@@ -1,15 +1,6 @@
 -- What a cursor has read, and what is at its place in the whole text.
-use Rattle.std.proofs.Common.{◌≡◌, ℕ, zero, suc, ◌+◌, ◌-◌, ◌<◌, Bool, not, List, [], ◌∷◌, ◌++◌, Some, length, take, drop, get_or, refl, sym, ap, ◌∙◌, subst, append_assoc, length-append, arith}
-use Rattle.std.proofs.Math.Seq.{split_at}
-use Rattle.std.proofs.lemmas.List.{drop-drop, length-drop, take-append-drop}
-use Rattle.std.proofs.lemmas.Bool.{not-true}
-use Rattle.std.proofs.lemmas.Option.{slice_get_within}
-use Rattle.std.specs.Prelude.{slice_get}
-use Rattle.sedck_text.specs.Cursors.{unread, IsAhead, Follows}
-use Rattle.sedck_text.specs.declared.cursor.Cursor.{Cursor}
-use Rattle.sedck_text.proofs.Cursors.{first_there, read_unread, unread_length}
-use Rattle.sedck_commands.specs.Cuts.{IsEmptyOr}
-use Rattle.sedck_commands.specs.Faults.{StandsAt, EndsOrFails}
+use Rattle.sedck_commands.proofs.Common.{◌≡◌, ℕ, zero, suc, ◌+◌, ◌-◌, ◌<◌, Bool, not, List, [], ◌∷◌, ◌++◌, Some, length, take, drop, get_or, refl, sym, ap, ◌∙◌, subst, append_assoc, length-append, arith, split_at, drop-drop, length-drop, not-true, slice_get_within, slice_get, unread, IsAhead, Follows, Cursor, first_there, read_unread, unread_length, IsEmptyOr, StandsAt, EndsOrFails}
+use Rattle.std.proofs.lemmas.List.{take-append-drop}
 use Rattle.sedck_commands.proofs.OffsetLemmas.{take_front}
 
 -- the first byte that hasn't been read is at the cursor's offset

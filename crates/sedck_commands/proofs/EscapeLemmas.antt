@@ -1,17 +1,9 @@
 -- The escaped delimiters of an expression.
-use Rattle.std.proofs.Common.{◌≡◌, ◌≢◌, ℕ, true, false, Some, Option, List, [], ◌∷◌, ◌++◌, drop, refl, ap, sym, ◌∙◌, subst, subst₂, append_assoc}
-use Rattle.std.specs.Prelude.{IsTrue}
-use Rattle.std.specs.Option.{option_or}
+use Rattle.sedck_commands.proofs.Common.{◌≡◌, ◌≢◌, ℕ, true, false, Some, Option, List, [], ◌∷◌, ◌++◌, drop, refl, ap, sym, ◌∙◌, subst, subst₂, append_assoc, IsTrue, option_or, and_from, DelimitedExpression, ExpressionText, is_misread, is_delimiter, Bor, unread, Follows, Cursor, IsFirstEscape, as_written}
 use Rattle.std.proofs.lemmas.List.{append_cancel_left}
-use Rattle.std.proofs.lemmas.Bool.{and_from}
-use Rattle.sedck_commands.specs.Parts.{DelimitedExpression, ExpressionText}
-use Rattle.sedck_commands.specs.ReadAlike.{is_misread}
-use Rattle.sedck_commands.specs.Cuts.{can_be_escaped, is_delimiter}
+use Rattle.sedck_commands.specs.Cuts.{can_be_escaped}
 use Rattle.sedck_commands.specs.Faults.{IsForbiddenEscape, IsMisreadEscape}
-use Rattle.std.specs.Borrow.{Bor}
-use Rattle.sedck_text.specs.Cursors.{unread, Follows}
-use Rattle.sedck_text.specs.declared.cursor.Cursor.{Cursor}
-use Rattle.sedck_commands.specs.Private.PieceReading.{IsFirstEscape, as_written, escaped}
+use Rattle.sedck_commands.specs.Private.PieceReading.{escaped}
 use Rattle.sedck_commands.proofs.FirstBytes.{heads}
 use Rattle.sedck_commands.proofs.CursorPlaces.{stands_here, stands_ahead}
 use Rattle.sedck_commands.proofs.UniqueParts.{expression_one}

@@ -1,16 +1,7 @@
 -- How far the flags of a substitution have been read.
-use Rattle.std.proofs.Common.{◌≡◌, ◌≢◌, ℕ, Bool, true, false, ◌||◌, List, ◌∷◌, Option, Some, None, is_some, refl, ap, sym, ◌∙◌, subst, arith}
-use Rattle.std.proofs.Math.Bool.{or-false}
-use Rattle.std.proofs.lemmas.Bool.{false≢true, both_ways, or_from}
-use Rattle.sedck_commands.specs.Cuts.{is_blank, is_digit, is_ending}
-use Rattle.sedck_commands.specs.Program.{Pattern, Part, Substitution}
-use Rattle.sedck_commands.specs.Parts.{Number}
-use Rattle.sedck_commands.specs.Private.Alike.{Name, Flags}
+use Rattle.sedck_commands.proofs.Common.{◌≡◌, ◌≢◌, ℕ, Bool, true, false, ◌||◌, List, ◌∷◌, Option, Some, None, is_some, refl, ap, sym, ◌∙◌, subst, arith, or-false, false≢true, both_ways, or_from, is_blank, is_digit, is_ending, Pattern, Part, Substitution, Number, Name, Flags, unread, Cursor, StandsWhere, is_extra}
 use Rattle.sedck_commands.specs.Private.Reading.{EndsFlags}
 use Rattle.sedck_commands.specs.Parts as p
-use Rattle.sedck_text.specs.Cursors.{unread}
-use Rattle.sedck_text.specs.declared.cursor.Cursor.{Cursor}
-use Rattle.sedck_commands.specs.Faults.{StandsWhere, is_extra}
 use Rattle.sedck_commands.proofs.CursorPlaces.{stands_here}
 use Rattle.sedck_commands.proofs.PlaceLemmas.{extra_digit}
 use Rattle.sedck_commands.proofs.UniqueParts.{number_first, ends_first, number_no_byte, number_one, with_file, flag_class, head_flag, number_flag, flags_begin}

@@ -1,9 +1,5 @@
 -- What the byte of a verb is, by what the verb takes.
-use Rattle.std.proofs.Common.{◌≡◌, ℕ, Bool, true, false, List, refl, sym, subst}
-use Rattle.std.specs.Prelude.{codes}
-use Rattle.sedck_text.specs.Text.{is_in}
-use Rattle.sedck_commands.specs.Faults.{begins_address, verb_bytes}
-use Rattle.sedck_commands.specs.Private.Forms.{text_byte, file_byte, jump_byte, IsForm}
+use Rattle.sedck_commands.proofs.Common.{◌≡◌, ℕ, Bool, true, false, List, refl, sym, subst, codes, is_in, begins_address, verb_bytes, text_byte, file_byte, jump_byte, IsForm}
 use Rattle.sedck_commands.specs.declared.forms.Form.{Form}
 use Rattle.sedck_commands.specs.declared.forms.Form.TheVariants as form
 use Rattle.sedck_commands.specs.declared.forms.TextVerb.{TextVerb}

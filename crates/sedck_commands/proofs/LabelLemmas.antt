@@ -1,20 +1,11 @@
 -- Labels of branches, and what may be after a label.
-use Rattle.std.proofs.Common.{◌≡◌, ℕ, Bool, true, false, not, ◌||◌, ◌≢◌, ◌-◌, ◌<◌, List, [], ◌∷◌, ◌++◌, length, take, Option, Some, None, ap, sym, ◌∙◌, subst, append_assoc, arith}
-use Rattle.std.proofs.lemmas.List.{nil_from_length}
-use Rattle.sedck_text.specs.Text.{one_of}
-use Rattle.sedck_text.specs.Cursors.{unread}
-use Rattle.sedck_text.specs.declared.cursor.Cursor.{Cursor}
-use Rattle.std.specs.Prelude.{◌==◌}
+use Rattle.sedck_commands.proofs.Common.{◌≡◌, ℕ, Bool, true, false, not, ◌||◌, ◌≢◌, ◌-◌, ◌<◌, List, [], ◌∷◌, ◌++◌, length, take, Option, Some, None, ap, sym, ◌∙◌, subst, append_assoc, arith, nil_from_length, one_of, unread, Cursor, ◌==◌, is_blank, is_separator, is_ending, is_label_byte, IsEmptyOr, Longest, Ends, LabelText, IsNoBrace, begins_braced_comment, EndsOrFails, BranchText, longest_one}
 use Rattle.sedck_commands.proofs.UniqueParts.{ends_first}
-use Rattle.sedck_commands.specs.Cuts.{is_blank, is_separator, is_ending, is_label_byte, IsEmptyOr, Longest}
-use Rattle.sedck_commands.specs.Parts.{Ends, LabelText}
-use Rattle.sedck_commands.specs.Items.{IsNoComment, IsNoBrace}
+use Rattle.sedck_commands.specs.Items.{IsNoComment}
 use Rattle.sedck_commands.specs.Private.Alike.{EndsJump}
-use Rattle.sedck_commands.specs.ReadAlike.{begins_braced_comment}
 use Rattle.sedck_commands.specs.Private.Reading.{IsLabelAt}
-use Rattle.sedck_commands.specs.Faults.{EndsOrFails, FollowsLabel, IsLabelBehind}
-use Rattle.sedck_commands.specs.Private.LabelReading.{BranchText, IsBehindVerb, IsBehindLabel}
-use Rattle.sedck_text.proofs.Runs.{longest_one}
+use Rattle.sedck_commands.specs.Faults.{FollowsLabel, IsLabelBehind}
+use Rattle.sedck_commands.specs.Private.LabelReading.{IsBehindVerb, IsBehindLabel}
 use Rattle.sedck_commands.proofs.UniqueVerbs.{label_or_end}
 use Rattle.sedck_commands.proofs.CursorPlaces.{fails_here, read_byte, read_more}
 

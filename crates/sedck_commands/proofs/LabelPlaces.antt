@@ -1,14 +1,7 @@
 -- What a map of labels' places has when one more item is read.
-use Rattle.std.proofs.Common.{◌≡◌, ℕ, zero, suc, Bool, true, false, cond, List, [], ◌∷◌, ◌++◌, length, Option, Some, None, refl, ap, sym, ◌∙◌, inl, inr, ◌⊎◌}
-use Rattle.std.specs.Prelude.{slice_get}
+use Rattle.sedck_commands.proofs.Common.{◌≡◌, ℕ, zero, suc, Bool, true, false, cond, List, [], ◌∷◌, ◌++◌, length, Option, Some, None, refl, ap, sym, ◌∙◌, inl, inr, ◌⊎◌, slice_get, Bor, HashMap, both_ways, NoAddress, Label, Known, Item, Written, HasLabels, label_place}
 use Rattle.std.specs.Str.{bytes_eq}
-use Rattle.std.specs.Borrow.{Bor}
-use Rattle.std.specs.HashMap.{HashMap}
 use Rattle.std.proofs.lemmas.Slice.Eq.{bytes_eq-Decides}
-use Rattle.std.proofs.lemmas.Bool.{both_ways}
-use Rattle.sedck_commands.specs.Program.{NoAddress, Label}
-use Rattle.sedck_commands.specs.Items.{Known, Item, Written}
-use Rattle.sedck_commands.specs.Labels.{HasLabels, label_place}
 
 pub get_front : {A : Type 0} (xs ys : List A) (i : ℕ) (y : A) → slice_get xs i ≡ Some y → slice_get (xs ++ ys) i ≡ Some y
 get_front [] ys i y h = absurd (cc h)

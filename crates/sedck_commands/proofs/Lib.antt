@@ -1,3 +1,4 @@
+mod Common
 pub mod CursorPlaces
 pub mod LineBytes
 pub mod FirstBytes

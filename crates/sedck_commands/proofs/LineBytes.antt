@@ -1,17 +1,7 @@
 -- Where a byte of a line is in the whole text.
-use Rattle.std.proofs.Common.{◌≡◌, ℕ, true, false, Bool, Option, ◌+◌, ◌-◌, ◌<◌, ◌⊎◌, inl, inr, Some, List, [], ◌∷◌, ◌++◌, length, get_or, refl, ap, sym, ◌∙◌, subst, length-append, arith}
-use Rattle.std.proofs.Math.Seq.{get_or-append_seam}
-use Rattle.std.proofs.lemmas.Bool.{false≢true, eqb-true}
-use Rattle.std.proofs.lemmas.Bool.Decides.{eqb_tells}
-use Rattle.std.specs.Prelude.{IsTrue, MatchOption}
-use Rattle.sedck_text.specs.Text.{begins}
-use Rattle.sedck_commands.specs.Cuts.{is_continued}
-use Rattle.sedck_commands.specs.Private.NameReading.{is_skipped}
-use Rattle.sedck_commands.specs.Faults.{StandsAt, StandsWhere, is_extra, IsPlaced}
-use Rattle.sedck_commands.specs.declared.fault.ScriptFault.{ScriptFault}
+use Rattle.sedck_commands.proofs.Common.{◌≡◌, ℕ, true, false, Bool, Option, ◌+◌, ◌-◌, ◌<◌, ◌⊎◌, inl, inr, Some, List, [], ◌∷◌, ◌++◌, length, get_or, refl, ap, sym, ◌∙◌, subst, length-append, arith, get_or-append_seam, false≢true, eqb-true, eqb_tells, IsTrue, begins, is_continued, is_skipped, StandsAt, StandsWhere, is_extra, IsPlaced, ScriptFault, unread, IsAhead, Cursor}
+use Rattle.std.specs.Prelude.{MatchOption}
 use Rattle.sedck_commands.specs.declared.fault.ScriptFault.TheVariants.{MissingName}
-use Rattle.sedck_text.specs.Cursors.{unread, IsAhead}
-use Rattle.sedck_text.specs.declared.cursor.Cursor.{Cursor}
 use Rattle.sedck_commands.proofs.CursorPlaces.{line_byte}
 
 -- ---- Bytes that may not be in a name

@@ -1,8 +1,5 @@
 -- The length of the literal parts of a replacement, part after part.
-use Rattle.std.proofs.Common.{◌≡◌, ℕ, zero, suc, ◌+◌, ◌<◌, ◌≤◌, List, [], ◌∷◌, map, length, get_or, take, ap, ◌∙◌, arith}
-use Rattle.std.proofs.lemmas.List.{get_or-map, length-map}
-use Rattle.sedck_commands.specs.Program.{Part, part_length, literal_length}
-use Rattle.sedck_commands.specs.View.{part_of}
+use Rattle.sedck_commands.proofs.Common.{◌≡◌, ℕ, zero, suc, ◌+◌, ◌<◌, ◌≤◌, List, [], ◌∷◌, map, length, get_or, take, ap, ◌∙◌, arith, get_or-map, length-map, Part, part_length, literal_length, part_of}
 use Rattle.sedck_commands.specs.declared.types.Part.{Part as Coded}
 use Rattle.sedck_commands.specs.declared.types.Part.TheVariants.{Text as PartText}
 

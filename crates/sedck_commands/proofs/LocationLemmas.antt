@@ -1,19 +1,10 @@
 -- The locations of the commands read so far, when one more item is read.
-use Rattle.std.proofs.Common.{◌≡◌, ℕ, suc, ◌≤◌, ◌-◌, Bool, not, List, [], ◌∷◌, ◌++◌, length, refl, ap, sym, ◌∙◌, subst, append_assoc, append-nil, arith}
-use Rattle.sedck_commands.specs.Cuts.{is_newline, is_separator, Longest}
-use Rattle.sedck_commands.specs.Program.{Address}
-use Rattle.sedck_commands.specs.Parts.{Ends}
-use Rattle.sedck_commands.specs.Items.{WrittenVerb, CommandText, Item, Items}
+use Rattle.sedck_commands.proofs.Common.{◌≡◌, ℕ, suc, ◌≤◌, ◌-◌, Bool, not, List, [], ◌∷◌, ◌++◌, length, refl, ap, sym, ◌∙◌, subst, append_assoc, append-nil, arith, is_newline, is_separator, Longest, Address, Ends, WrittenVerb, CommandText, Item, Items, locations_of, IsOnlyLocation, AreFirstLocations, BeginsCommand, commands_among, Location, nil_from_length}
 use Rattle.sedck_commands.specs.Items as w
-use Rattle.sedck_commands.specs.Locations.{locations_of, AreInOrder}
-use Rattle.sedck_commands.specs.Private.Locating.{IsOnlyLocation, AreFirstLocations}
-use Rattle.sedck_commands.specs.Private.Progress.{BeginsCommand}
-use Rattle.sedck_commands.specs.Labels.{commands_among}
-use Rattle.sedck_commands.specs.declared.location.Location.{Location}
+use Rattle.sedck_commands.specs.Locations.{AreInOrder}
 use Rattle.sedck_commands.proofs.OffsetLemmas.{tail_cut, tail_length, ends_tail, verb_text_shorter}
 use Rattle.sedck_commands.proofs.CommandLemmas.{address_tail}
 use Rattle.sedck_commands.proofs.ProgressLemmas.{items_forth, comment_step, closing_step, command_step, items_end}
-use Rattle.std.proofs.lemmas.List.{nil_from_length}
 
 -- ---- As many as commands, and in order
 

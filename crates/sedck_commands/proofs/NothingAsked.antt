@@ -1,10 +1,7 @@
 -- What is read with something asked besides the grammar is read so with nothing asked.
-use Rattle.std.proofs.Common.{ℕ, Bool, List}
-use Rattle.sedck_commands.specs.Narrowings.{Narrowings, nothing_asked}
-use Rattle.sedck_commands.specs.Program.{Pattern, Place, Address, Part, Substitution}
-use Rattle.sedck_commands.specs.Parts.{ExpressionTextIn, IsPatternIn, NameIn, FlagsIn, PlaceTextIn, AddressTextIn}
+use Rattle.sedck_commands.proofs.Common.{ℕ, Bool, List, Narrowings, Pattern, Place, Address, Part, Substitution, ExpressionTextIn, IsPatternIn, NameIn, FlagsIn, PlaceTextIn, AddressTextIn, WrittenVerb, Item, VerbTextIn, CommandTextIn, ItemsIn}
+use Rattle.sedck_commands.specs.Narrowings.{nothing_asked}
 use Rattle.sedck_commands.specs.Parts as p
-use Rattle.sedck_commands.specs.Items.{WrittenVerb, Item, VerbTextIn, CommandTextIn, ItemsIn}
 use Rattle.sedck_commands.specs.Items as w
 
 expression_read : {asks : Narrowings} {d : ℕ} {text e rest : List ℕ} → ExpressionTextIn asks d text e rest → ExpressionTextIn nothing_asked d text e rest

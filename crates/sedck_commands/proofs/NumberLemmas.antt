@@ -1,13 +1,8 @@
 -- Values of digits, up to a limit.
-use Rattle.std.proofs.Common.{◌≡◌, ℕ, ◌+◌, ◌-◌, ◌*◌, ◌^◌, ◌<◌, min, true, List, take, length, get_or, ap, sym, ◌∙◌, subst, arith}
+use Rattle.sedck_commands.proofs.Common.{◌≡◌, ℕ, ◌+◌, ◌-◌, ◌*◌, ◌^◌, ◌<◌, min, true, List, take, length, get_or, ap, sym, ◌∙◌, subst, arith, digits_value, list_all, is_digit, Longest, Number, longest_one}
 use Rattle.std.specs.Char.{digit_value}
-use Rattle.std.specs.Str.Parse.{digits_value}
-use Rattle.std.specs.List.{list_all}
 use Rattle.std.proofs.lemmas.Int.Digits.{digits_value_more}
 use Rattle.std.proofs.lemmas.List.Sums.{AllPass-from_list_all}
-use Rattle.sedck_commands.specs.Cuts.{is_digit, Longest}
-use Rattle.sedck_commands.specs.Parts.{Number}
-use Rattle.sedck_text.proofs.Runs.{longest_one}
 
 value_of_digit : (b : ℕ) → is_digit b ≡ true → digit_value b ≡ b - 48
 value_of_digit b h = grind (arith, h)

@@ -1,13 +1,7 @@
 -- What each part leaves is an end of its text.
-use Rattle.std.proofs.Common.{◌≡◌, ℕ, Bool, List, [], ◌∷◌, ◌++◌, length, take, drop, ◌-◌, ◌<◌, ◌≤◌, refl, ap, sym, ◌∙◌, subst, length-append, arith, append_assoc}
-use Rattle.sedck_commands.specs.Cuts.{Longest}
-use Rattle.sedck_commands.specs.Program.{Pattern, Part, Substitution}
-use Rattle.sedck_commands.specs.Parts.{Ends, Number, Lines, GivenText, LabelText, DelimitedExpression, DelimitedList, Replacement, NameIn, FlagsIn}
+use Rattle.sedck_commands.proofs.Common.{◌≡◌, ℕ, Bool, List, [], ◌∷◌, ◌++◌, length, take, drop, ◌-◌, ◌<◌, ◌≤◌, refl, ap, sym, ◌∙◌, subst, length-append, arith, append_assoc, Longest, Pattern, Part, Substitution, Ends, Number, Lines, GivenText, LabelText, DelimitedExpression, DelimitedList, Replacement, NameIn, FlagsIn, WrittenVerb, VerbText, VerbTextIn, EndsIn, Narrowings}
 use Rattle.sedck_commands.specs.Parts as p
-use Rattle.sedck_commands.specs.Items.{WrittenVerb, VerbText, VerbTextIn}
 use Rattle.sedck_commands.specs.Items as w
-use Rattle.sedck_commands.specs.Private.Reading.{EndsIn}
-use Rattle.sedck_commands.specs.Narrowings.{Narrowings}
 
 -- what a run, a verb and the end of its line leave is an end of the text
 pub tail_cut : {test : ℕ → Bool} {text front rest : List ℕ} → Longest test text front rest → EndsIn text rest

@@ -1,14 +1,8 @@
 -- Names and texts.
-use Rattle.std.proofs.Common.{◌≡◌, ◌≢◌, ℕ, Bool, true, false, ◌<◌, ◌≤◌, get_or, arith, not, List, [], ◌∷◌, length, ap, sym, ◌∙◌, subst, inl, inr, ◌⊎◌}
-use Rattle.sedck_commands.specs.Cuts.{is_newline, is_blank, is_continued, IsEmptyOr, Longest}
-use Rattle.sedck_commands.specs.Parts.{Lines, GivenText}
-use Rattle.sedck_commands.specs.Private.Alike.{Name}
-use Rattle.sedck_commands.specs.Private.NameReading.{is_skipped}
+use Rattle.sedck_commands.proofs.Common.{◌≡◌, ◌≢◌, ℕ, Bool, true, false, ◌<◌, ◌≤◌, get_or, arith, not, List, [], ◌∷◌, length, ap, sym, ◌∙◌, subst, inl, inr, ◌⊎◌, is_newline, is_blank, is_continued, IsEmptyOr, Longest, Lines, GivenText, Name, is_skipped, longest_one, nil_from_length, false≢true}
 use Rattle.sedck_commands.specs.Parts as p
-use Rattle.sedck_text.proofs.Runs.{longest_one}
 use Rattle.sedck_commands.proofs.FirstBytes.{heads, tails}
-use Rattle.std.proofs.lemmas.List.{nil_from_length, length-append}
-use Rattle.std.proofs.lemmas.Bool.{false≢true}
+use Rattle.std.proofs.lemmas.List.{length-append}
 
 module _ {text blanks begins front rest name r : List ℕ} (l : Longest is_blank text blanks begins) (m : Longest (λ b. not (is_newline b)) begins front rest)
     (n : Name text name r) where

@@ -1,23 +1,12 @@
 -- How far a delimited part has been read.
-use Rattle.std.proofs.Common.{◌≡◌, ◌≢◌, ℕ, ◌-◌, ◌<◌, ◌≤◌, take, length-append, Some, None, inl, inr, ◌⊎◌, List, [], ◌∷◌, ◌++◌, length, refl, ap, sym, ◌∙◌, subst, append_assoc, append-nil, arith}
-use Rattle.sedck_commands.specs.Parts.{DelimitedExpression, ExpressionText, DelimitedList, previous, expression}
-use Rattle.sedck_commands.specs.Private.Alike.{IsExpression, IsPattern}
+use Rattle.sedck_commands.proofs.Common.{◌≡◌, ◌≢◌, ℕ, ◌-◌, ◌<◌, ◌≤◌, take, length-append, Some, None, inl, inr, ◌⊎◌, List, [], ◌∷◌, ◌++◌, length, refl, ap, sym, ◌∙◌, subst, append_assoc, append-nil, arith, DelimitedExpression, ExpressionText, DelimitedList, previous, expression, IsExpression, IsPattern, Piece, nat_tests, Tree, Pattern, Previous, Expression, IsPiece, IsReadUpTo, IsWrittenUpTo, list_escape, PatternText, unread, Cursor, unread_length, nil_from_length}
 use Rattle.sedck_commands.specs.Parts as p
-use Rattle.sedck_commands.specs.declared.delimited.Piece.{Piece}
 use Rattle.sedck_commands.specs.declared.delimited.Piece.TheVariants as piece
-use Rattle.std.proofs.lemmas.Bool.Decides.{nat_tests}
-use Rattle.sedck_expressions.specs.Tree.{Tree}
 use Rattle.sedck_expressions.specs.Shape.{SpellsTree}
 use Rattle.sedck_commands.specs.Narrowings.{Matched}
 use Rattle.sedck_commands.specs.ReadAlike.{read_alike}
-use Rattle.sedck_commands.specs.Program.{Pattern, Previous, Expression}
-use Rattle.sedck_commands.specs.Private.PieceReading.{IsPiece, IsReadUpTo, IsWrittenUpTo, list_escape, PatternText}
-use Rattle.sedck_text.specs.Cursors.{unread}
-use Rattle.sedck_text.specs.declared.cursor.Cursor.{Cursor}
-use Rattle.sedck_text.proofs.Cursors.{unread_length}
 use Rattle.sedck_commands.proofs.OffsetLemmas.{take_front}
 use Rattle.sedck_commands.proofs.UniqueParts.{at_piece, expression_first, expression_one, list_first}
-use Rattle.std.proofs.lemmas.List.{nil_from_length}
 
 -- one more piece
 pub piece_more : {Delimited : List ℕ → List ℕ → List ℕ → Type 0} {text bytes rest front behind : List ℕ} (all : List ℕ) → all ≡ bytes ++ front

@@ -1,27 +1,14 @@
 -- What is at the place of an end of the text.
-use Rattle.std.proofs.Common.{◌≡◌, ◌≢◌, ℕ, ◌+◌, ◌<◌, ◌-◌, Bool, true, false, not, List, [], ◌∷◌, ◌++◌, length, take, drop, refl, ap, sym, ◌∙◌, subst, subst₂, append_assoc, length-append, arith}
-use Rattle.std.specs.Prelude.{IsTrue, if◌then◌else◌}
-use Rattle.std.proofs.lemmas.List.{drop-drop, length-drop}
-use Rattle.sedck_text.specs.Cursors.{unread, Follows}
-use Rattle.sedck_text.specs.declared.cursor.Cursor.{Cursor}
-use Rattle.sedck_text.proofs.Cursors.{first_there, unread_length}
+use Rattle.sedck_commands.proofs.Common.{◌≡◌, ◌≢◌, ℕ, ◌+◌, ◌<◌, ◌-◌, Bool, true, false, not, List, [], ◌∷◌, ◌++◌, length, take, drop, refl, ap, sym, ◌∙◌, subst, subst₂, append_assoc, length-append, arith, IsTrue, drop-drop, length-drop, unread, Follows, Cursor, first_there, unread_length, Bor, false≢true, false_from_ne_true, not_from_false, both_ways, is_in, one_of, ScriptFault, is_digit, is_delimiter, IsEmptyOr, Longest, Place, Address, Pattern, Previous, Expression, Verb, place_patterns, Number, DelimitedExpression, PlaceText, AddressText, IsPattern, WrittenVerb, Simple, VerbText, EndsOrFails, StandsWhere, is_extra, begins_address, IsPlaced, verb_bytes, IsPartPlaced, is_mark, IsBehindComma, BeginsNoPlace, has_previous, written_patterns}
+use Rattle.std.specs.Prelude.{if◌then◌else◌}
 use Rattle.sedck_commands.proofs.CursorPlaces.{stands_here, fails_here, read_more, verb_before}
-use Rattle.std.specs.Borrow.{Bor}
-use Rattle.std.proofs.lemmas.Bool.{false≢true, false_from_ne_true, not_from_false, both_ways, cond_both}
-use Rattle.sedck_text.specs.Text.{is_in, one_of}
-use Rattle.sedck_commands.specs.declared.fault.ScriptFault.{ScriptFault}
+use Rattle.std.proofs.lemmas.Bool.{cond_both}
 use Rattle.sedck_commands.specs.declared.fault.ScriptFault.TheVariants as fault
-use Rattle.sedck_commands.specs.Cuts.{is_digit, is_delimiter, IsEmptyOr, Longest}
-use Rattle.sedck_commands.specs.Program.{Place, Address, Pattern, Previous, Expression, Verb, place_patterns, verb_patterns}
-use Rattle.sedck_commands.specs.Parts.{Number, DelimitedExpression, PlaceText, AddressText}
-use Rattle.sedck_commands.specs.Private.Alike.{IsPattern}
+use Rattle.sedck_commands.specs.Program.{verb_patterns}
 use Rattle.sedck_commands.specs.Parts as p
-use Rattle.sedck_commands.specs.Items.{WrittenVerb, Simple, VerbText}
 use Rattle.sedck_commands.specs.Items as w
-use Rattle.sedck_commands.specs.Faults.{BeginsCommand, IsVerbDue, EndsOrFails, StandsWhere, is_extra, begins_address, begins_part, IsNoNumber, IsNoSecondAddress, IsEmptyExpression, IsUnread, IsPlaced, verb_bytes}
-use Rattle.sedck_commands.specs.Private.PieceReading.{IsPartPlaced}
-use Rattle.sedck_commands.specs.Private.AddressReading.{is_mark, IsBehindComma, IsSecond, BeginsNoPlace}
-use Rattle.sedck_commands.specs.ReadItems.{has_previous, written_patterns}
+use Rattle.sedck_commands.specs.Faults.{BeginsCommand, IsVerbDue, begins_part, IsNoNumber, IsNoSecondAddress, IsEmptyExpression, IsUnread}
+use Rattle.sedck_commands.specs.Private.AddressReading.{IsSecond}
 use Rattle.sedck_commands.proofs.OffsetLemmas.{tail_length, expression_tail, take_front}
 use Rattle.sedck_commands.proofs.UniqueParts.{digit_no_end}
 use Rattle.sedck_commands.proofs.ReplacementParts.{flags_leave}

@@ -1,12 +1,6 @@
 -- The place of a fault is within the text.
-use Rattle.std.proofs.Common.{ℕ, ◌<◌, ◌≤◌, List, length, drop, ap, length-append, inl, inr, arith}
-use Rattle.std.specs.Prelude.{IfSome}
-use Rattle.std.proofs.lemmas.List.{length-drop}
-use Rattle.std.proofs.lemmas.Option.{slice_get_within}
-use Rattle.sedck_commands.specs.Cuts.{is_label_byte, Longest}
-use Rattle.sedck_commands.specs.Faults.{StandsAt, IsPlaced}
+use Rattle.sedck_commands.proofs.Common.{ℕ, ◌<◌, ◌≤◌, List, length, drop, ap, length-append, inl, inr, arith, IfSome, length-drop, slice_get_within, is_label_byte, Longest, StandsAt, IsPlaced, ScriptFault}
 use Rattle.sedck_commands.specs.FaultWords.{fault_place}
-use Rattle.sedck_commands.specs.declared.fault.ScriptFault.{ScriptFault}
 use Rattle.sedck_commands.specs.declared.fault.ScriptFault.TheVariants as fault
 
 within : (text : List ℕ) (place b : ℕ) → StandsAt text place b → place ≤ length text

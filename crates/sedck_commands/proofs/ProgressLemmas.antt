@@ -1,31 +1,13 @@
 -- How the items of a script go on.
-use Rattle.std.proofs.Common.{◌≡◌, ◌↔◌, ℕ, suc, ◌<◌, ◌≤◌, ◌-◌, Bool, true, false, not, List, [], ◌∷◌, ◌++◌, length, take, map, Some, refl, ap, sym, ◌∙◌, subst, append_assoc, append-nil, length-append, inl, inr, ◌⊎◌, arith}
-use Rattle.std.specs.Prelude.{slice_get}
-use Rattle.sedck_commands.specs.Cuts.{is_newline, is_separator, Longest}
-use Rattle.std.specs.Borrow.{Bor}
-use Rattle.std.specs.HashMap.{HashMap}
-use Rattle.std.proofs.lemmas.Option.{slice_get_within}
-use Rattle.std.proofs.lemmas.List.{nil_from_length}
-use Rattle.sedck_commands.specs.Program.{Address, NoAddress, Label}
-use Rattle.sedck_commands.specs.Parts.{Ends}
-use Rattle.sedck_commands.specs.Items.{WrittenVerb, Known, JumpTo, Opening, VerbText, Takes, CommandText, Item, Written, Closing, Items}
+use Rattle.sedck_commands.proofs.Common.{◌≡◌, ℕ, suc, ◌<◌, ◌≤◌, ◌-◌, Bool, true, false, not, List, [], ◌∷◌, ◌++◌, length, take, map, Some, refl, ap, sym, ◌∙◌, subst, append_assoc, append-nil, length-append, inl, inr, ◌⊎◌, arith, slice_get, is_newline, is_separator, Longest, Bor, HashMap, slice_get_within, nil_from_length, Address, NoAddress, Label, Ends, WrittenVerb, Known, JumpTo, Opening, VerbText, Takes, CommandText, Item, Written, Closing, Items, EndsIn, HasLabels, commands_among, is_braced, DefinesKnown, item_of, locations_in, Turn, Opens, Closes, Stays, Jumps, verb_turn, location_of, locations_of, Location, IsOnlyLocation, AreFirstLocations, IsProgress, BeginsCommand, IsBeyond, longest_one, unread, Cursor, read_unread, unread_length}
+use Rattle.std.proofs.Common.{◌↔◌}
 use Rattle.sedck_commands.specs.Items as w
-use Rattle.sedck_commands.specs.Private.Reading.{EndsIn}
-use Rattle.sedck_commands.specs.Labels.{IsLabelOf, AreLabelsOnce, HasLabels, commands_among}
+use Rattle.sedck_commands.specs.Labels.{IsLabelOf, AreLabelsOnce}
 use Rattle.sedck_commands.specs.Private.CommentReading.{CommentText}
-use Rattle.sedck_commands.specs.Private.VerbReading.{is_braced, DefinesKnown}
-use Rattle.sedck_commands.specs.ItemView.{item_of, locations_in}
-use Rattle.sedck_commands.specs.Blocks.{Turn, Opens, Closes, Stays, Jumps, verb_turn, Turned, Nests}
-use Rattle.sedck_commands.specs.Locations.{location_of, locations_of}
-use Rattle.sedck_commands.specs.declared.location.Location.{Location}
-use Rattle.sedck_commands.specs.Private.Locating.{IsOnlyLocation, AreFirstLocations}
-use Rattle.sedck_commands.specs.Private.Progress.{IsFront, IsProgress, BeginsCommand, IsBeyond}
+use Rattle.sedck_commands.specs.Blocks.{Turned, Nests}
+use Rattle.sedck_commands.specs.Private.Progress.{IsFront}
 use Rattle.sedck_commands.specs.ReadItems.{HasNoItems}
 use Rattle.sedck_commands.specs.declared.items.Progress.{Progress}
-use Rattle.sedck_text.proofs.Runs.{longest_one}
-use Rattle.sedck_text.specs.Cursors.{unread}
-use Rattle.sedck_text.specs.declared.cursor.Cursor.{Cursor}
-use Rattle.sedck_text.proofs.Cursors.{read_unread, unread_length}
 use Rattle.sedck_commands.proofs.FirstBytes.{tails, heads}
 use Rattle.sedck_commands.proofs.OffsetLemmas.{tail_cut, tail_tail, tail_length, verb_text_shorter}
 use Rattle.sedck_commands.proofs.LabelPlaces.{get_front, get_seam}

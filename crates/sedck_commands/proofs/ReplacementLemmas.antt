@@ -1,15 +1,10 @@
 -- How far a replacement has been read.
-use Rattle.std.proofs.Common.{◌≡◌, ◌≢◌, ℕ, ◌≤◌, true, List, [], ◌∷◌, ◌++◌, length, take, drop, zero, suc, refl, ap, sym, ◌∙◌, subst, append_assoc, append-nil, length-append, arith, inl, inr}
+use Rattle.sedck_commands.proofs.Common.{◌≡◌, ◌≢◌, ℕ, ◌≤◌, true, List, [], ◌∷◌, ◌++◌, length, take, drop, zero, suc, refl, ap, sym, ◌∙◌, subst, append_assoc, append-nil, length-append, arith, inl, inr, both_ways, not_from_false, or_from, not-true, is_digit, Longest, Part, Text, Whole, Group, EscapedPart, Replacement, is_plain, Piece, IsPiece, HasGroupsUpTo}
 use Rattle.std.proofs.lemmas.List.Elements.{Contains-append_cases, Contains-append_right}
-use Rattle.std.proofs.lemmas.Bool.{both_ways, not_from_false, or_from, not-true, ne_eqb}
-use Rattle.sedck_commands.specs.Cuts.{is_digit, Longest}
-use Rattle.sedck_commands.specs.Program.{Part, Text, Whole, Group}
-use Rattle.sedck_commands.specs.Parts.{EscapedPart, Replacement, is_plain}
+use Rattle.std.proofs.lemmas.Bool.{ne_eqb}
 use Rattle.sedck_commands.specs.Parts as p
-use Rattle.sedck_commands.specs.declared.delimited.Piece.{Piece}
 use Rattle.sedck_commands.specs.declared.delimited.Piece.TheVariants as piece
-use Rattle.sedck_commands.specs.Private.PieceReading.{IsPiece}
-use Rattle.sedck_commands.specs.Private.ReplacementReading.{IsGroupWithin, HasGroupsUpTo, IsFirstPart}
+use Rattle.sedck_commands.specs.Private.ReplacementReading.{IsGroupWithin, IsFirstPart}
 use Rattle.sedck_commands.proofs.FirstBytes.{heads}
 use Rattle.sedck_commands.proofs.UniqueParts.{at_piece, replacement_first, whole_behind, run_behind, escaped_one}
 

@@ -1,9 +1,5 @@
 -- The parts of a replacement, and what flags leave of them.
-use Rattle.std.proofs.Common.{◌≡◌, ℕ, ◌+◌, ◌≤◌, List, ◌∷◌, length, refl, ap, length-append, arith}
-use Rattle.std.specs.List.{AllByRecursion}
-use Rattle.sedck_commands.specs.Program.{Pattern, Part, Substitution, part_length, literal_length}
-use Rattle.sedck_commands.specs.Parts.{EscapedPart, IsPart, Replacement}
-use Rattle.sedck_commands.specs.Private.Alike.{Flags}
+use Rattle.sedck_commands.proofs.Common.{◌≡◌, ℕ, ◌+◌, ◌≤◌, List, ◌∷◌, length, refl, ap, length-append, arith, AllByRecursion, Pattern, Part, Substitution, part_length, literal_length, EscapedPart, IsPart, Replacement, Flags}
 use Rattle.sedck_commands.specs.Parts as p
 
 escaped_size : {b : ℕ} {part : Part} → EscapedPart b part → part_length part ≤ 1

@@ -1,22 +1,10 @@
 -- What is known of the items read so far, when one more is read.
-use Rattle.std.proofs.Common.{◌≡◌, ℕ, suc, ◌<◌, Bool, List, [], ◌∷◌, ◌++◌, length, Option, Some, None, refl, ap, sym, ◌∙◌, subst, append-nil, length-append, arith}
+use Rattle.sedck_commands.proofs.Common.{◌≡◌, ℕ, suc, ◌<◌, Bool, List, [], ◌∷◌, ◌++◌, length, Option, Some, None, refl, ap, sym, ◌∙◌, subst, append-nil, length-append, arith, ascii, Address, WrittenVerb, Known, JumpTo, Opening, Takes, Item, Written, Closing, StandsAt, Turn, Opens, Closes, Stays, Jumps, verb_turn, commands_among, HasLabels, label_place, locations_in, written_verb, patterns_of, item_patterns, IsWrittenAt, NotesLabel, Bor, HashMap, All-push, is_braced, DefinesKnown}
 use Rattle.std.specs.Prelude.{All}
 use Rattle.std.proofs.Math.ListN.{get_or-append}
-use Rattle.sedck_text.specs.Bytes.{ascii}
-use Rattle.sedck_commands.specs.Program.{Address}
-use Rattle.sedck_commands.specs.Items.{WrittenVerb, Known, JumpTo, Opening, Takes, Item, Written, Closing}
 use Rattle.sedck_commands.specs.ReadAlike.{MayBeBraced}
-use Rattle.sedck_commands.specs.Faults.{StandsAt}
-use Rattle.sedck_commands.specs.Blocks.{Turn, Opens, Closes, Stays, Jumps, verb_turn}
-use Rattle.sedck_commands.specs.Labels.{commands_among, HasLabels, label_place}
-use Rattle.sedck_commands.specs.ItemView.{locations_in, written_verb}
-use Rattle.sedck_commands.specs.ReadItems.{patterns_of, item_patterns, IsWrittenAt}
-use Rattle.sedck_commands.specs.Private.Progress.{NotesLabel, NotesBlock}
-use Rattle.std.specs.Borrow.{Bor}
-use Rattle.std.specs.HashMap.{HashMap}
+use Rattle.sedck_commands.specs.Private.Progress.{NotesBlock}
 use Rattle.std.proofs.lemmas.List.Concat.{flat_map-append}
-use Rattle.std.proofs.lemmas.List.Elements.{All-push}
-use Rattle.sedck_commands.specs.Private.VerbReading.{is_braced, DefinesKnown}
 use Rattle.sedck_commands.specs.declared.items.WrittenCommand.{WrittenCommand}
 use Rattle.sedck_commands.specs.declared.items.WrittenItem.{WrittenItem}
 use Rattle.sedck_commands.specs.declared.items.WrittenItem.TheVariants as item

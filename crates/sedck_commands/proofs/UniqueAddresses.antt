@@ -1,15 +1,8 @@
 -- The addresses of a command are the only ones.
-use Rattle.std.proofs.Common.{◌≡◌, ℕ, true, List, [], ◌∷◌, refl, ap, sym, ◌∙◌, subst}
-use Rattle.std.proofs.lemmas.Bool.{both_ways, not-true}
-use Rattle.sedck_commands.specs.Cuts.{is_blank, Longest}
-use Rattle.sedck_commands.specs.Program.{Place, Address, NoAddress, One, Two}
-use Rattle.sedck_commands.specs.Parts.{PlaceText, AddressText}
+use Rattle.sedck_commands.proofs.Common.{◌≡◌, ℕ, true, List, [], ◌∷◌, refl, ap, sym, ◌∙◌, subst, both_ways, not-true, is_blank, Longest, Place, Address, NoAddress, One, Two, PlaceText, AddressText, WrittenVerb, VerbText, is_mark, BeginsNoPlace, IsOnlyAddress, IsBehindComma, longest_one, EndsIn}
 use Rattle.sedck_commands.specs.Parts as p
-use Rattle.sedck_commands.specs.Items.{WrittenVerb, VerbText}
-use Rattle.sedck_commands.specs.Private.AddressReading.{begins_address, is_mark, BeginsPlace, BeginsNoPlace, IsOnlyAddress, IsNoCommand, IsBehindComma, HasNoComma}
-use Rattle.sedck_text.proofs.Runs.{longest_one}
+use Rattle.sedck_commands.specs.Private.AddressReading.{begins_address, BeginsPlace, IsNoCommand, HasNoComma}
 use Rattle.sedck_commands.proofs.UniqueItems.{place_first, place_other, place_no_mark, no_verb_here, no_place_here, no_comma_here, longest_along, place_one}
-use Rattle.sedck_commands.specs.Private.Reading.{EndsIn}
 use Rattle.sedck_commands.proofs.OffsetLemmas.{tail_cons, number_tail, expression_tail}
 use Rattle.sedck_commands.proofs.FirstBytes.{heads, tails}
 

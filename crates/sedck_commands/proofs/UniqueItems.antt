@@ -1,21 +1,13 @@
 -- A text has one list of items at most.
-use Rattle.std.proofs.Common.{◌≡◌, ◌≢◌, ℕ, Bool, true, false, not, ◌||◌, eqb, cond, List, [], ◌∷◌, refl, ap, sym, ◌∙◌, subst, inl, inr, ◌⊎◌, arith}
-use Rattle.std.specs.List.{list_any, list_all}
-use Rattle.std.proofs.lemmas.Bool.{false≢true, or_left, and_parts, and_from}
-use Rattle.sedck_text.specs.Text.{one_of}
-use Rattle.sedck_commands.specs.Cuts.{is_blank, is_digit, Longest}
-use Rattle.sedck_commands.specs.Program.{Pattern, Place, Line, Context, Address, One, Verb}
-use Rattle.sedck_commands.specs.Parts.{Ends, ExpressionText, PlaceText, AddressText, ExpressionTextIn, IsPatternIn, PlaceTextIn, AddressTextIn}
+use Rattle.sedck_commands.proofs.Common.{◌≡◌, ◌≢◌, ℕ, Bool, true, false, not, ◌||◌, eqb, cond, List, [], ◌∷◌, refl, ap, sym, ◌∙◌, subst, inl, inr, ◌⊎◌, arith, list_any, list_all, false≢true, or_left, and_parts, and_from, one_of, is_blank, is_digit, Longest, Pattern, Place, Address, One, Verb, Ends, ExpressionText, PlaceText, AddressText, ExpressionTextIn, IsPatternIn, PlaceTextIn, AddressTextIn, WrittenVerb, Simple, VerbText, CommandText, Item, Written, Items, VerbTextIn, CommandTextIn, ItemsIn, is_mark, longest_one, Narrowings}
+use Rattle.sedck_commands.specs.Program.{Line, Context}
 use Rattle.sedck_commands.specs.Parts as p
-use Rattle.sedck_commands.specs.Items.{WrittenVerb, Simple, VerbText, CommandText, Item, Written, Items, VerbTextIn, CommandTextIn, ItemsIn}
 use Rattle.sedck_commands.specs.Items as w
-use Rattle.sedck_commands.specs.Private.AddressReading.{begins_address, is_mark}
-use Rattle.sedck_text.proofs.Runs.{longest_one}
+use Rattle.sedck_commands.specs.Private.AddressReading.{begins_address}
 use Rattle.sedck_commands.proofs.FirstBytes.{heads, tails}
 use Rattle.sedck_commands.proofs.UniqueParts.{ends_one, number_one, number_first, expression_one, pattern_one}
 use Rattle.sedck_commands.proofs.UniqueVerbs.{verb_one, no_backslash}
 use Rattle.sedck_commands.proofs.OffsetLemmas.{verb_takes}
-use Rattle.sedck_commands.specs.Narrowings.{Narrowings}
 
 -- a byte with which no verb begins: one that begins an address, a comma, `#` or `}`
 abbrev is_other : ℕ → Bool

@@ -1,19 +1,11 @@
 -- Each part of a command is cut in one way at most, and means one thing.
-use Rattle.std.proofs.Common.{◌≡◌, ◌≢◌, ℕ, ◌<◌, Bool, cond, true, false, not, ◌||◌, List, [], ◌∷◌, ◌++◌, length, Some, None, refl, ap, sym, ◌∙◌, subst, subst₂, inl, inr, ◌⊎◌, arith}
-use Rattle.std.specs.List.{list_all}
-use Rattle.std.specs.Str.Parse.{digits_value}
-use Rattle.std.proofs.lemmas.Bool.{false≢true, false_from_ne_true, and_parts, or_left, or_right}
+use Rattle.sedck_commands.proofs.Common.{◌≡◌, ◌≢◌, ℕ, ◌<◌, Bool, cond, true, false, not, ◌||◌, List, [], ◌∷◌, ◌++◌, length, Some, None, refl, ap, sym, ◌∙◌, subst, subst₂, inl, inr, ◌⊎◌, arith, list_all, digits_value, false≢true, false_from_ne_true, and_parts, or_left, is_newline, is_blank, is_digit, is_ending, IsEmptyOr, Longest, Pattern, Expression, Part, Text, Whole, Substitution, Ends, Number, DelimitedExpression, previous, expression, DelimitedList, EscapedPart, Replacement, is_plain, Lines, GivenText, LabelText, NameIn, IsPatternIn, FlagsIn, longest_one, Piece, IsPiece, list_escape, Narrowings}
+use Rattle.std.proofs.lemmas.Bool.{or_right}
 use Rattle.sedck_expressions.proofs.WholeReading.{one_spelling}
-use Rattle.sedck_commands.specs.Cuts.{is_newline, is_blank, is_digit, is_letter, is_ending, IsEmptyOr, Longest}
-use Rattle.sedck_commands.specs.Program.{Pattern, Expression, Part, Text, Whole, Substitution}
-use Rattle.sedck_commands.specs.Parts.{Ends, Number, DelimitedExpression, previous, expression, DelimitedList, EscapedPart, Replacement, is_plain, Lines, GivenText, LabelText, NameIn, IsPatternIn, FlagsIn}
+use Rattle.sedck_commands.specs.Cuts.{is_letter}
 use Rattle.sedck_commands.specs.Parts as p
-use Rattle.sedck_text.proofs.Runs.{longest_one}
 use Rattle.sedck_commands.proofs.FirstBytes.{heads}
-use Rattle.sedck_commands.specs.declared.delimited.Piece.{Piece}
 use Rattle.sedck_commands.specs.declared.delimited.Piece.TheVariants as piece
-use Rattle.sedck_commands.specs.Private.PieceReading.{IsPiece, list_escape}
-use Rattle.sedck_commands.specs.Narrowings.{Narrowings}
 
 pub ends_one : {text r s : List ℕ} → Ends text r → Ends text s → r ≡ s
 ends_one e f = (longest_one e.run f.run).1

@@ -1,17 +1,9 @@
 -- A text has one verb at most, whole with what it takes.
-use Rattle.std.proofs.Common.{◌≡◌, ◌≢◌, ℕ, ◌<◌, Bool, true, false, eqb, cond, List, [], ◌∷◌, ◌++◌, length, Option, Some, refl, ap, sym, ◌∙◌, subst, arith}
-use Rattle.std.specs.Prelude.{IsTrue}
-use Rattle.std.specs.List.{list_all}
-use Rattle.std.proofs.lemmas.Bool.{both_ways, and_parts, eq-eqb}
-use Rattle.sedck_text.specs.Text.{one_of, begins as begins_with}
-use Rattle.sedck_commands.specs.Cuts.{is_delimiter, is_ending, is_label_byte, IsEmptyOr}
-use Rattle.sedck_commands.specs.Program.{Pattern, Part, Substitution, Verb, Label, Read, Write, Append, Change, Insert, Substitute, Transliterate}
-use Rattle.sedck_commands.specs.Parts.{Ends, LabelText, Replacement, DelimitedList, ExpressionTextIn, IsPatternIn, FlagsIn}
-use Rattle.sedck_commands.specs.Items.{WrittenVerb, Known, JumpTo, Simple, VerbText, VerbTextIn}
+use Rattle.sedck_commands.proofs.Common.{◌≡◌, ◌≢◌, ℕ, ◌<◌, Bool, true, false, eqb, cond, List, [], ◌∷◌, ◌++◌, length, Option, Some, refl, ap, sym, ◌∙◌, subst, arith, IsTrue, list_all, both_ways, and_parts, eq-eqb, one_of, is_delimiter, is_ending, is_label_byte, IsEmptyOr, Pattern, Part, Substitution, Verb, Label, Substitute, Transliterate, Ends, LabelText, Replacement, DelimitedList, ExpressionTextIn, IsPatternIn, FlagsIn, WrittenVerb, Known, JumpTo, Simple, VerbText, VerbTextIn, longest_one, Narrowings}
+use Rattle.sedck_text.specs.Text.{begins as begins_with}
+use Rattle.sedck_commands.specs.Program.{Read, Write, Append, Change, Insert}
 use Rattle.sedck_commands.specs.Items as w
-use Rattle.sedck_text.proofs.Runs.{longest_one}
 use Rattle.sedck_commands.proofs.UniqueParts.{label_one, ends_one, name_one, expression_one, pattern_one, list_one, replacement_one, flags_one, given_one}
-use Rattle.sedck_commands.specs.Narrowings.{Narrowings}
 
 pub simple_one : {b : ℕ} {v u : Verb} → Simple b v → Simple b u → v ≡ u
 simple_one w.line_number w.line_number = refl

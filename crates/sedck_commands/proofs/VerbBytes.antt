@@ -1,11 +1,7 @@
 -- What the first byte of a verb says of it.
-use Rattle.std.proofs.Common.{◌≡◌, ◌≢◌, ℕ, Bool, true, false, not, ◌&&◌, eqb, cond, List, Option, ◌∷◌, refl, sym, ◌∙◌, subst, arith}
-use Rattle.std.proofs.lemmas.Bool.{false≢true, eq-eqb}
-use Rattle.sedck_text.specs.Text.{is_in, one_of}
-use Rattle.sedck_commands.specs.Program.{Address, NoAddress, Two, Verb}
-use Rattle.sedck_commands.specs.Items.{WrittenVerb, Known, JumpTo, Opening, Simple, VerbText, Takes}
+use Rattle.sedck_commands.proofs.Common.{◌≡◌, ◌≢◌, ℕ, Bool, true, false, not, eqb, cond, List, Option, ◌∷◌, refl, sym, ◌∙◌, subst, arith, false≢true, eq-eqb, is_in, one_of, Address, NoAddress, Two, Verb, WrittenVerb, Known, JumpTo, Opening, Simple, VerbText, Takes, verb_bytes}
+use Rattle.std.proofs.Common.{◌&&◌}
 use Rattle.sedck_commands.specs.Items as w
-use Rattle.sedck_commands.specs.Faults.{verb_bytes}
 use Rattle.sedck_commands.specs.Private.Progress.{is_none, is_two, takes}
 use Rattle.sedck_commands.proofs.FirstBytes.{heads}
 

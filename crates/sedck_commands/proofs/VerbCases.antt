@@ -1,22 +1,7 @@
 -- What follows a verb's byte, by its byte.
-use Rattle.std.proofs.Common.{◌≡◌, ℕ, Bool, true, false, eqb, inl, inr, List, [], ◌∷◌, Option, Some, None, is_some, refl, ap, sym, ◌∙◌, subst}
-use Rattle.std.specs.Borrow.{Bor}
-use Rattle.std.specs.HashMap.{HashMap}
-use Rattle.std.specs.Prelude.{codes}
-use Rattle.std.specs.List.{list_all}
-use Rattle.std.proofs.lemmas.Bool.{false≢true, or_cases, eqb-true, and_parts}
-use Rattle.sedck_text.specs.Text.{is_in, one_of}
-use Rattle.sedck_commands.specs.Cuts.{is_blank, Longest}
-use Rattle.sedck_commands.specs.Program.{Verb}
-use Rattle.sedck_commands.specs.Parts.{Ends, LabelText, GivenText}
-use Rattle.sedck_commands.specs.Private.Alike.{Name}
-use Rattle.sedck_commands.specs.Items.{WrittenVerb, JumpTo, Simple, VerbText, IsNoBrace}
+use Rattle.sedck_commands.proofs.Common.{◌≡◌, ℕ, Bool, true, false, eqb, inl, inr, List, [], ◌∷◌, Option, Some, None, is_some, refl, ap, sym, ◌∙◌, subst, Bor, HashMap, codes, list_all, false≢true, eqb-true, and_parts, is_in, one_of, is_blank, Longest, Verb, Ends, LabelText, GivenText, Name, WrittenVerb, JumpTo, Simple, VerbText, IsNoBrace, jump_byte, label_place, BranchText, DefinesKnown, longest_one}
+use Rattle.std.proofs.lemmas.Bool.{or_cases}
 use Rattle.sedck_commands.specs.Items as w
-use Rattle.sedck_commands.specs.Private.Forms.{jump_byte}
-use Rattle.sedck_commands.specs.Labels.{label_place}
-use Rattle.sedck_commands.specs.Private.LabelReading.{BranchText}
-use Rattle.sedck_commands.specs.Private.VerbReading.{DefinesKnown}
-use Rattle.sedck_text.proofs.Runs.{longest_one}
 use Rattle.sedck_commands.proofs.UniqueParts.{label_one}
 use Rattle.sedck_commands.proofs.UniqueVerbs.{NoVerb, class, class_of, begins, differ, simple_class, jump_class}
 use Rattle.sedck_commands.proofs.FlagLemmas.{some_of}

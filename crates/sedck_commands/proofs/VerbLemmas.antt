@@ -1,15 +1,8 @@
 -- What follows a verb's byte.
-use Rattle.std.proofs.Common.{◌≡◌, ◌≢◌, ℕ, List, ◌∷◌, length, refl, ap, sym, ◌∙◌, subst}
-use Rattle.std.specs.Prelude.{IsTrue}
-use Rattle.sedck_commands.specs.Cuts.{is_delimiter}
-use Rattle.sedck_commands.specs.Program.{Pattern, Part, Substitution, Substitute, Transliterate}
-use Rattle.sedck_commands.specs.Parts.{Ends, DelimitedList, FirstList, Replacement, HasGroups, greatest_group}
-use Rattle.sedck_commands.specs.Private.Alike.{Flags}
-use Rattle.sedck_commands.specs.Items.{WrittenVerb, Known, VerbText}
+use Rattle.sedck_commands.proofs.Common.{◌≡◌, ◌≢◌, ℕ, List, ◌∷◌, length, refl, ap, sym, ◌∙◌, subst, IsTrue, is_delimiter, Pattern, Part, Substitution, Substitute, Transliterate, Ends, DelimitedList, FirstList, Replacement, Flags, WrittenVerb, Known, VerbText, PatternText, HasGroupsUpTo}
+use Rattle.sedck_commands.specs.Parts.{HasGroups, greatest_group}
 use Rattle.sedck_commands.specs.Items as w
-use Rattle.sedck_commands.specs.Private.PieceReading.{PatternText}
 use Rattle.sedck_commands.specs.Private.VerbReading.{AreLists}
-use Rattle.sedck_commands.specs.Private.ReplacementReading.{HasGroupsUpTo}
 use Rattle.sedck_commands.proofs.UniqueParts.{list_one, replacement_one}
 use Rattle.sedck_commands.proofs.UniqueVerbs.{NoVerb, class_of, begins, differ}
 

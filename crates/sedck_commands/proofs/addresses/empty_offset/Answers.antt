@@ -1,7 +1,5 @@
-use Rattle.std.proofs.Common.{◌≡◌, ◌∙◌, true, ap, sym, refl}
-use Rattle.sedck_commands.specs.Program.{place_patterns}
+use Rattle.sedck_commands.proofs.Common.{◌≡◌, ◌∙◌, true, ap, sym, refl, place_patterns, has_previous}
 use Rattle.sedck_commands.specs.View as view
-use Rattle.sedck_commands.specs.ReadItems.{has_previous}
 use Rattle.sedck_commands.proofs.PlaceLemmas.{empty_address}
 use Rattle.sedck_commands.proofs.addresses.empty_offset.Goals as goal
 

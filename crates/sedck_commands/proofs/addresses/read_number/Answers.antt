@@ -1,4 +1,4 @@
-use Rattle.std.proofs.Common.{arith}
+use Rattle.sedck_commands.proofs.Common.{arith}
 use Rattle.sedck_commands.proofs.NumberLemmas.{number_digits}
 use Rattle.sedck_commands.proofs.addresses.read_number.Goals as goal
 use Rattle.sedck_commands.proofs.addresses.read_number.Goals.{then-is_empty-via-then-is_empty, then-is_empty-via-else-is_empty+then-value-eq0, then-is_empty-via-else-is_empty+else-value-eq0+then-value-eq-NUMBER_LIMIT}

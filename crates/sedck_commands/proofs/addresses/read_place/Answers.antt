@@ -1,6 +1,5 @@
-use Rattle.std.proofs.Common.{inl, refl, arith}
+use Rattle.sedck_commands.proofs.Common.{inl, refl, arith, line}
 use Rattle.sedck_commands.proofs.PlaceLemmas.{no_number_place, address_placed}
-use Rattle.sedck_commands.specs.Parts.{line}
 use Rattle.sedck_commands.proofs.ResultLemmas.{if_ok_more, if_err_more, if_err_both}
 use Rattle.sedck_commands.proofs.AddressLemmas.{last_text, slash_text, slash_only, custom_text, custom_only, no_line}
 use Rattle.sedck_commands.proofs.addresses.read_place.Goals as goal

@@ -1,6 +1,4 @@
-use Rattle.std.proofs.Common.{subst}
-use Rattle.sedck_text.specs.Cursors.{unread}
-use Rattle.sedck_commands.specs.Cuts.{is_blank, Longest}
+use Rattle.sedck_commands.proofs.Common.{subst, unread, is_blank, Longest}
 use Rattle.sedck_commands.proofs.UniqueAddresses.{no_comma}
 use Rattle.sedck_commands.proofs.addresses.skip_comma.Goals as goal
 

@@ -1,7 +1,5 @@
-use Rattle.std.proofs.Common.{drop, sym, ◌∙◌, subst}
-use Rattle.sedck_text.specs.Cursors.{unread}
-use Rattle.sedck_commands.specs.Program.{place_patterns}
-use Rattle.sedck_commands.specs.Parts.{PlaceText, none, one}
+use Rattle.sedck_commands.proofs.Common.{drop, sym, ◌∙◌, subst, unread, place_patterns, PlaceText}
+use Rattle.sedck_commands.specs.Parts.{none, one}
 use Rattle.sedck_commands.specs.View.{place_of}
 use Rattle.sedck_commands.proofs.CommandLemmas.{empty_append}
 use Rattle.sedck_commands.proofs.PlaceLemmas.{place_read, second_read, second_begins}

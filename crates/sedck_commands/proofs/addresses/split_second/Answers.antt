@@ -1,5 +1,4 @@
-use Rattle.std.proofs.Common.{inr}
-use Rattle.sedck_text.specs.Cursors.{unread}
+use Rattle.sedck_commands.proofs.Common.{inr, unread}
 use Rattle.sedck_commands.proofs.ResultLemmas.{if_err_from}
 use Rattle.sedck_commands.proofs.PlaceLemmas.{no_second_place}
 use Rattle.sedck_commands.proofs.UniqueAddresses.{no_place}

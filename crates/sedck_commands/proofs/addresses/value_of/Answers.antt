@@ -1,4 +1,4 @@
-use Rattle.std.proofs.Common.{◌∙◌, ap, min, ◌+◌, ◌*◌}
+use Rattle.sedck_commands.proofs.Common.{◌∙◌, ap, min, ◌+◌, ◌*◌}
 use Rattle.sedck_commands.proofs.NumberLemmas.{digits_more}
 use Rattle.sedck_commands.proofs.addresses.value_of.Goals as goal
 

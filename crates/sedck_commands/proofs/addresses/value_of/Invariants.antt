@@ -1,5 +1,4 @@
-use Rattle.std.proofs.Common.{◌≡◌, min, take}
-use Rattle.std.specs.Str.Parse.{digits_value}
+use Rattle.sedck_commands.proofs.Common.{◌≡◌, min, take, digits_value}
 use Rattle.sedck_commands.proofs.addresses.value_of.Given as goal
 
 abbrev pub invariant-loop-digit : goal.invariant-loop-digit

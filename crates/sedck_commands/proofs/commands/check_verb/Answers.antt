@@ -1,7 +1,5 @@
-use Rattle.std.proofs.Common.{◌≡◌, Some, ap, sym, ◌∙◌, inl, arith}
-use Rattle.std.proofs.lemmas.Bool.{false≢true, both_ways, eqb-true, eq-eqb}
+use Rattle.sedck_commands.proofs.Common.{◌≡◌, Some, ap, sym, ◌∙◌, inl, arith, false≢true, both_ways, eqb-true, eq-eqb, address_of}
 use Rattle.sedck_commands.proofs.CursorPlaces.{stands_here}
-use Rattle.sedck_commands.specs.View.{address_of}
 use Rattle.sedck_commands.proofs.FormLemmas.{form_known}
 use Rattle.sedck_commands.proofs.PlaceLemmas.{ends_here, no_verb_placed}
 use Rattle.sedck_commands.proofs.VerbBytes.{byte_of, not_taken, misplaced}

@@ -1,8 +1,4 @@
-use Rattle.std.proofs.Common.{◌≡◌, ◌∷◌, inl, inr, ap, sym, ◌∙◌, subst}
-use Rattle.sedck_commands.specs.Items.{VerbText}
-use Rattle.sedck_commands.specs.Faults.{IsPlaced}
-use Rattle.sedck_commands.specs.Private.VerbReading.{is_braced}
-use Rattle.sedck_commands.specs.ReadItems.{IsWrittenAt}
+use Rattle.sedck_commands.proofs.Common.{◌≡◌, ◌∷◌, inl, inr, ap, sym, ◌∙◌, subst, VerbText, IsPlaced, is_braced, IsWrittenAt}
 use Rattle.sedck_commands.proofs.ResultLemmas.{if_err_each, if_err_from, if_err_same}
 use Rattle.sedck_commands.proofs.UniqueVerbs.{verb_one}
 use Rattle.sedck_commands.proofs.commands.read_allowed_verb.Goals as goal

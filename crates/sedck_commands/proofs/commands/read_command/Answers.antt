@@ -1,8 +1,5 @@
-use Rattle.std.proofs.Common.{refl, sym, ◌∙◌}
+use Rattle.sedck_commands.proofs.Common.{refl, sym, ◌∙◌, address_of, written_verb, written_patterns}
 use Rattle.sedck_commands.specs.Program.{address_patterns}
-use Rattle.sedck_commands.specs.View.{address_of}
-use Rattle.sedck_commands.specs.ItemView.{written_verb}
-use Rattle.sedck_commands.specs.ReadItems.{written_patterns}
 use Rattle.sedck_commands.proofs.ResultLemmas.{if_err_from}
 use Rattle.sedck_commands.proofs.PlaceLemmas.{verb_due, empty_verb_place}
 use Rattle.sedck_commands.proofs.UniqueVerbs.{verb_one}

@@ -1,4 +1,4 @@
-use Rattle.std.proofs.Common.{◌≡◌, length}
+use Rattle.sedck_commands.proofs.Common.{◌≡◌, length}
 use Rattle.sedck_commands.specs.ReadAlike.{has_loose_quote}
 use Rattle.sedck_commands.proofs.delimited.has_loose_quote.Given as goal
 

@@ -1,4 +1,4 @@
-use Rattle.std.proofs.Common.{length}
+use Rattle.sedck_commands.proofs.Common.{length}
 use Rattle.sedck_commands.proofs.BracketLemmas.{ClosedUpTo}
 use Rattle.sedck_commands.proofs.delimited.open_bracket.Given as goal
 

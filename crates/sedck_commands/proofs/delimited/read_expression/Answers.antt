@@ -1,6 +1,4 @@
-use Rattle.std.proofs.Common.{◌≡◌, [], ◌∷◌, ◌++◌, ◌∙◌, ap, sym}
-use Rattle.sedck_text.specs.Cursors.{unread}
-use Rattle.sedck_commands.specs.Private.PieceReading.{IsPartPlaced, as_written}
+use Rattle.sedck_commands.proofs.Common.{◌≡◌, [], ◌∷◌, ◌++◌, ◌∙◌, ap, sym, unread, IsPartPlaced, as_written}
 use Rattle.sedck_commands.proofs.ResultLemmas.{if_err_each, if_err_same}
 use Rattle.sedck_commands.proofs.UniqueVerbs.{no_backslash}
 use Rattle.sedck_commands.proofs.PieceLemmas.{expression_byte, expression_pair, expression_end, expression_stuck, expression_broken, written_none, written_more, written_between}

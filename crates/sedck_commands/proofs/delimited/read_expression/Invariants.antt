@@ -1,6 +1,4 @@
-use Rattle.std.proofs.Common.{length}
-use Rattle.sedck_text.specs.Cursors.{unread}
-use Rattle.sedck_commands.specs.Private.PieceReading.{IsWrittenUpTo}
+use Rattle.sedck_commands.proofs.Common.{length, unread, IsWrittenUpTo}
 use Rattle.sedck_commands.proofs.delimited.read_expression.Given as goal
 
 abbrev pub invariant-pieces : goal.invariant-pieces

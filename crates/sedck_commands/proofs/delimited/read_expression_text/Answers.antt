@@ -1,8 +1,4 @@
-use Rattle.std.proofs.Common.{inr, ap, sym, ◌∙◌}
-use Rattle.std.proofs.lemmas.Bool.{both_ways}
-use Rattle.std.specs.Prelude.{IsTrue}
-use Rattle.std.specs.Cow.{cow_slice_items}
-use Rattle.sedck_commands.specs.ReadAlike.{is_misread}
+use Rattle.sedck_commands.proofs.Common.{inr, ap, sym, ◌∙◌, both_ways, IsTrue, cow_slice_items, is_misread}
 use Rattle.sedck_commands.proofs.UniqueVerbs.{no_backslash}
 use Rattle.sedck_commands.proofs.EscapeLemmas.{written_expression, no_written_expression, escape_place}
 use Rattle.sedck_commands.proofs.delimited.read_expression_text.Goals as goal

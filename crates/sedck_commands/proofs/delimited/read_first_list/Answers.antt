@@ -1,4 +1,4 @@
-use Rattle.std.proofs.Common.{inr, arith}
+use Rattle.sedck_commands.proofs.Common.{inr, arith}
 use Rattle.sedck_commands.proofs.UniqueVerbs.{no_backslash}
 use Rattle.sedck_commands.proofs.BracketLemmas.{list_shorter, written_cut, open_at, no_first_list, open_place}
 use Rattle.sedck_commands.proofs.delimited.read_first_list.Goals as goal

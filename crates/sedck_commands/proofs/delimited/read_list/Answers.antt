@@ -1,5 +1,4 @@
-use Rattle.std.proofs.Common.{◌≡◌, ◌∙◌, None, inl, refl, ap, sym}
-use Rattle.sedck_commands.specs.Private.PieceReading.{IsPartPlaced, list_escape}
+use Rattle.sedck_commands.proofs.Common.{◌≡◌, ◌∙◌, None, inl, refl, ap, sym, IsPartPlaced, list_escape}
 use Rattle.sedck_commands.proofs.CursorPlaces.{stands_here}
 use Rattle.sedck_commands.proofs.ResultLemmas.{if_err_each, if_err_same}
 use Rattle.sedck_commands.proofs.UniqueVerbs.{no_backslash}

@@ -1,7 +1,4 @@
-use Rattle.std.proofs.Common.{◌≡◌, length}
-use Rattle.sedck_text.specs.Cursors.{unread}
-use Rattle.sedck_commands.specs.Parts.{DelimitedList}
-use Rattle.sedck_commands.specs.Private.PieceReading.{IsReadUpTo}
+use Rattle.sedck_commands.proofs.Common.{◌≡◌, length, unread, DelimitedList, IsReadUpTo}
 use Rattle.sedck_commands.proofs.delimited.read_list.Given as goal
 
 abbrev pub invariant-loop-bytes : goal.invariant-loop-bytes

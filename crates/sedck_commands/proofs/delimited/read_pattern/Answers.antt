@@ -1,10 +1,5 @@
-use Rattle.std.proofs.Common.{◌≡◌, ◌<◌, ◌⊎◌, ℕ, false, List, length, sym, subst, arith}
-use Rattle.std.specs.Prelude.{◌==◌}
-use Rattle.std.proofs.lemmas.Bool.Decides.{nat_tests}
-use Rattle.std.specs.Cow.{cow_slice_items}
-use Rattle.sedck_commands.specs.Private.Alike.{IsExpression}
+use Rattle.sedck_commands.proofs.Common.{◌≡◌, ◌<◌, ◌⊎◌, ℕ, false, List, length, sym, subst, arith, ◌==◌, nat_tests, cow_slice_items, IsExpression, unread}
 use Rattle.sedck_commands.specs.Faults.{IsNoExpression, IsMisjudged}
-use Rattle.sedck_text.specs.Cursors.{unread}
 use Rattle.sedck_commands.proofs.UniqueVerbs.{no_backslash}
 use Rattle.sedck_commands.proofs.PieceLemmas.{pattern_none, pattern_some, pattern_none_only, pattern_some_only, no_pattern}
 use Rattle.sedck_commands.proofs.delimited.read_pattern.Goals as goal

@@ -1,5 +1,4 @@
-use Rattle.std.proofs.Common.{inl, sym, ◌∙◌}
-use Rattle.sedck_text.specs.Cursors.{unread}
+use Rattle.sedck_commands.proofs.Common.{inl, sym, ◌∙◌, unread}
 use Rattle.sedck_commands.proofs.EscapeLemmas.{forbidden_place}
 use Rattle.sedck_commands.proofs.delimited.read_piece.Goals as goal
 

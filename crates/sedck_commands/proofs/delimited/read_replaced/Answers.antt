@@ -1,8 +1,4 @@
-use Rattle.std.proofs.Common.{◌≡◌, [], ◌∷◌, ◌++◌, ◌∙◌, ap, sym, subst, Some, append_assoc}
-use Rattle.std.specs.Option.{option_or}
-use Rattle.sedck_text.specs.Cursors.{unread}
-use Rattle.sedck_commands.specs.Parts.{DelimitedExpression}
-use Rattle.sedck_commands.specs.Private.PieceReading.{IsReadUpTo, IsPartPlaced, as_written}
+use Rattle.sedck_commands.proofs.Common.{◌≡◌, [], ◌∷◌, ◌++◌, ◌∙◌, ap, sym, subst, Some, append_assoc, option_or, unread, DelimitedExpression, IsReadUpTo, IsPartPlaced, as_written}
 use Rattle.sedck_commands.proofs.ResultLemmas.{if_err_each, if_err_same}
 use Rattle.sedck_commands.proofs.UniqueVerbs.{no_backslash}
 use Rattle.sedck_commands.proofs.PieceLemmas.{piece_more, expression_byte, expression_escaped, expression_pair, expression_end, expression_stuck, expression_broken, written_between}

@@ -1,4 +1,4 @@
-use Rattle.std.proofs.Common.{refl, ◌∙◌, sym}
+use Rattle.sedck_commands.proofs.Common.{refl, ◌∙◌, sym}
 use Rattle.sedck_commands.proofs.ResultLemmas.{if_err_always}
 use Rattle.sedck_commands.proofs.CursorPlaces.{stands_here}
 use Rattle.sedck_commands.proofs.PlaceLemmas.{extra_digit, unread_verb}

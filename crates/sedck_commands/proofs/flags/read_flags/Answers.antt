@@ -1,6 +1,4 @@
-use Rattle.std.proofs.Common.{refl, ◌∙◌, sym, subst}
-use Rattle.sedck_text.specs.Cursors.{unread}
-use Rattle.sedck_commands.specs.Faults.{IsPlaced}
+use Rattle.sedck_commands.proofs.Common.{refl, ◌∙◌, sym, subst, unread, IsPlaced}
 use Rattle.sedck_commands.proofs.ResultLemmas.{if_err_same}
 use Rattle.sedck_commands.proofs.CursorPlaces.{stands_here}
 use Rattle.sedck_commands.proofs.FlagLemmas.{FlagsPassed, extra_number, flags_global, flags_print, flags_nth, global_twice, print_twice, nth_twice, none_of, flags_end, flags_file}

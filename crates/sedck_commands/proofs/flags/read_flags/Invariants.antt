@@ -1,5 +1,4 @@
-use Rattle.std.proofs.Common.{◌≡◌, length}
-use Rattle.sedck_text.specs.Cursors.{unread}
+use Rattle.sedck_commands.proofs.Common.{◌≡◌, length, unread}
 use Rattle.sedck_commands.proofs.FlagLemmas.{FlagsPassed}
 use Rattle.sedck_commands.proofs.flags.read_flags.Given as goal
 

@@ -1,5 +1,4 @@
-use Rattle.std.proofs.Common.{ℕ, sym, subst, ◌≡◌}
-use Rattle.sedck_commands.specs.Items.{Simple}
+use Rattle.sedck_commands.proofs.Common.{ℕ, sym, subst, ◌≡◌, Simple}
 use Rattle.sedck_commands.specs.Items as s
 use Rattle.sedck_commands.specs.Program as clean
 use Rattle.sedck_commands.specs.View.{verb_of}

@@ -1,13 +1,4 @@
-use Rattle.std.proofs.Common.{◌⊎◌, ◌<◌, ◌≤◌, ◌∷◌, [], map, ap, ◌∙◌, subst, length-append, arith}
-use Rattle.std.proofs.lemmas.List.{map_push}
-use Rattle.std.proofs.lemmas.List.Elements.{All-push}
-use Rattle.sedck_commands.specs.Items.{Written}
-use Rattle.sedck_commands.specs.View.{address_of}
-use Rattle.sedck_commands.specs.ItemView.{written_verb, item_of}
-use Rattle.sedck_commands.specs.Private.VerbReading.{DefinesKnown}
-use Rattle.sedck_commands.specs.Labels.{commands_among}
-use Rattle.sedck_commands.specs.ReadItems.{IsItemAt, patterns_of, item_patterns}
-use Rattle.sedck_commands.specs.Private.Progress.{IsBeyond, NotesLabel}
+use Rattle.sedck_commands.proofs.Common.{◌⊎◌, ◌<◌, ◌≤◌, ◌∷◌, [], map, ap, ◌∙◌, subst, length-append, arith, map_push, All-push, Written, address_of, written_verb, item_of, DefinesKnown, commands_among, IsItemAt, patterns_of, item_patterns, IsBeyond, NotesLabel}
 use Rattle.sedck_commands.proofs.ResultLemmas.{if_err_from}
 use Rattle.sedck_commands.proofs.ProgressLemmas.{front_refused, front_command, command_shorter, behind_begins, brace_stands}
 use Rattle.sedck_commands.proofs.StateLemmas.{among_append, patterns_push, locations_push, labels_noted, blocks_noted}

@@ -1,11 +1,5 @@
-use Rattle.std.proofs.Common.{◌≡◌, ℕ, suc, length, map, refl, ap, ◌∙◌, subst, length-append, arith}
+use Rattle.sedck_commands.proofs.Common.{◌≡◌, ℕ, suc, length, map, refl, ap, ◌∙◌, subst, length-append, arith, map_push, All-push, ascii, StandsAt, item_of, IsItemAt}
 use Rattle.std.specs.Prelude.{All}
-use Rattle.std.proofs.lemmas.List.{map_push}
-use Rattle.std.proofs.lemmas.List.Elements.{All-push}
-use Rattle.sedck_text.specs.Bytes.{ascii}
-use Rattle.sedck_commands.specs.Faults.{StandsAt}
-use Rattle.sedck_commands.specs.ItemView.{item_of}
-use Rattle.sedck_commands.specs.ReadItems.{IsItemAt}
 use Rattle.sedck_commands.proofs.ResultLemmas.{if_err_from}
 use Rattle.sedck_commands.proofs.CursorPlaces.{stands_here}
 use Rattle.sedck_commands.proofs.ProgressLemmas.{front_unopened, front_unended, front_closing}

@@ -1,6 +1,5 @@
-use Rattle.std.proofs.Common.{◌≡◌, length, ap, refl, rules, subst, sym, ◌∙◌, arith}
-use Rattle.sedck_text.specs.Cursors.{unread}
-use Rattle.sedck_commands.specs.Private.Progress.{IsProgress}
+use Rattle.sedck_commands.proofs.Common.{◌≡◌, length, ap, refl, subst, sym, ◌∙◌, arith, unread, IsProgress}
+use Rattle.std.proofs.Common.{rules}
 use Rattle.sedck_commands.proofs.ProgressLemmas.{progress_at, front_none, front_skip, front_done, front_unclosed, front_closed}
 use Rattle.sedck_commands.proofs.LocationLemmas.{located_skip, located_done}
 use Rattle.sedck_commands.proofs.items.read_items.Goals as goal

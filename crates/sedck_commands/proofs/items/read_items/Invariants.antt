@@ -1,6 +1,4 @@
-use Rattle.std.proofs.Common.{◌≡◌, length}
-use Rattle.sedck_text.specs.Cursors.{unread}
-use Rattle.sedck_commands.specs.Private.Progress.{IsProgress}
+use Rattle.sedck_commands.proofs.Common.{◌≡◌, length, unread, IsProgress}
 use Rattle.sedck_commands.proofs.items.read_items.Given as goal
 
 abbrev pub invariant-loop-first : goal.invariant-loop-first

@@ -1,5 +1,4 @@
-use Rattle.std.proofs.Common.{◌≡◌, length}
-use Rattle.sedck_commands.specs.ReadAlike.{begins_braced_comment}
+use Rattle.sedck_commands.proofs.Common.{◌≡◌, length, begins_braced_comment}
 use Rattle.sedck_commands.proofs.labels.begins_braced_comment.Given as goal
 
 abbrev pub invariant-braces : goal.invariant-braces

@@ -1,4 +1,4 @@
-use Rattle.std.proofs.Common.{sym, ◌∙◌}
+use Rattle.sedck_commands.proofs.Common.{sym, ◌∙◌}
 use Rattle.sedck_commands.proofs.LabelLemmas.{no_label_place, no_end_behind_definition}
 use Rattle.sedck_commands.proofs.labels.check_behind_definition.Goals as goal
 

@@ -1,4 +1,4 @@
-use Rattle.std.proofs.Common.{sym, ◌∙◌}
+use Rattle.sedck_commands.proofs.Common.{sym, ◌∙◌}
 use Rattle.sedck_commands.proofs.LabelLemmas.{no_label_place, no_end_behind_label}
 use Rattle.sedck_commands.proofs.labels.check_behind_label.Goals as goal
 

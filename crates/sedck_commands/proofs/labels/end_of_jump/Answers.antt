@@ -1,6 +1,4 @@
-use Rattle.std.proofs.Common.{◌∙◌, ap, sym}
-use Rattle.std.proofs.lemmas.Bool.{both_ways}
-use Rattle.sedck_commands.specs.ReadAlike.{begins_braced_comment}
+use Rattle.sedck_commands.proofs.Common.{◌∙◌, ap, sym, both_ways, begins_braced_comment}
 use Rattle.sedck_commands.proofs.ResultLemmas.{if_err_always}
 use Rattle.sedck_commands.proofs.LabelLemmas.{no_label_place}
 use Rattle.sedck_commands.proofs.UniqueParts.{ends_one}

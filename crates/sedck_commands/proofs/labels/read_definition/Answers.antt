@@ -1,6 +1,4 @@
-use Rattle.std.proofs.Common.{◌≡◌, ℕ, ◌+◌, sym, arith}
-use Rattle.sedck_commands.specs.Faults.{IsPlaced}
-use Rattle.sedck_text.specs.Text.{one_of}
+use Rattle.sedck_commands.proofs.Common.{◌≡◌, ℕ, ◌+◌, sym, arith, IsPlaced, one_of}
 use Rattle.sedck_commands.proofs.ResultLemmas.{if_err_always, if_err_same}
 use Rattle.sedck_commands.proofs.LabelLemmas.{no_label_there, no_definition, no_label_place}
 use Rattle.sedck_commands.proofs.labels.read_definition.Goals as goal

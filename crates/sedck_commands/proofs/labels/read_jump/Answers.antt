@@ -1,5 +1,4 @@
-use Rattle.std.proofs.Common.{arith}
-use Rattle.sedck_text.specs.Text.{one_of}
+use Rattle.sedck_commands.proofs.Common.{arith, one_of}
 use Rattle.sedck_commands.proofs.ResultLemmas.{if_err_always}
 use Rattle.sedck_commands.proofs.LabelLemmas.{no_branch_end, no_branch_label}
 use Rattle.sedck_commands.proofs.labels.read_jump.Goals as goal

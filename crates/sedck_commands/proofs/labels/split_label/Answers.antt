@@ -1,4 +1,4 @@
-use Rattle.std.proofs.Common.{sym, ◌∙◌}
+use Rattle.sedck_commands.proofs.Common.{sym, ◌∙◌}
 use Rattle.sedck_commands.proofs.LabelLemmas.{behind_label, label_begins}
 use Rattle.sedck_commands.proofs.labels.split_label.Goals as goal
 

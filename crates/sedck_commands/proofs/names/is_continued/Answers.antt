@@ -1,4 +1,4 @@
-use Rattle.std.proofs.Common.{arith}
+use Rattle.sedck_commands.proofs.Common.{arith}
 use Rattle.sedck_commands.proofs.LineBytes.{not_continued}
 use Rattle.sedck_commands.proofs.names.is_continued.Goals.{then-is_empty-via-then-is_empty, then-is_empty-via-else-is_empty+then-line-ne92}
 use Rattle.sedck_commands.proofs.names.is_continued.Goals as goal

@@ -1,5 +1,4 @@
-use Rattle.std.proofs.Common.{◌≡◌, length}
-use Rattle.sedck_commands.specs.Cuts.{is_continued}
+use Rattle.sedck_commands.proofs.Common.{◌≡◌, length, is_continued}
 use Rattle.sedck_commands.proofs.names.is_continued.Given as goal
 
 abbrev pub invariant-bytes : goal.invariant-bytes

@@ -1,4 +1,4 @@
-use Rattle.std.proofs.Common.{◌∙◌, ◌<◌, length, inr, sym, arith}
+use Rattle.sedck_commands.proofs.Common.{◌∙◌, ◌<◌, length, inr, sym, arith}
 use Rattle.sedck_commands.proofs.LineBytes.{skipped_stands, last_stands}
 use Rattle.sedck_commands.proofs.names.name_fault.Goals as goal
 

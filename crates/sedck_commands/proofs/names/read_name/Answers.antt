@@ -1,6 +1,4 @@
-use Rattle.std.proofs.Common.{◌∙◌, sym, arith, inl, inr}
-use Rattle.std.proofs.lemmas.Bool.{false≢true}
-use Rattle.sedck_commands.specs.Private.NameReading.{is_skipped}
+use Rattle.sedck_commands.proofs.Common.{◌∙◌, sym, arith, inl, inr, false≢true, is_skipped}
 use Rattle.sedck_commands.proofs.PartLemmas.{name_some, name_plain, name_over, first_passes}
 use Rattle.sedck_commands.proofs.names.read_name.Goals as goal
 

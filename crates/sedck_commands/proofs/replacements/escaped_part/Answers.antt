@@ -1,6 +1,5 @@
-use Rattle.std.proofs.Common.{sym, ◌∙◌, subst, arith}
-use Rattle.sedck_commands.specs.Program.{Text}
-use Rattle.sedck_commands.specs.Parts.{EscapedPart, line, tabulator, group, other}
+use Rattle.sedck_commands.proofs.Common.{sym, ◌∙◌, subst, arith, Text, EscapedPart, line}
+use Rattle.sedck_commands.specs.Parts.{tabulator, group, other}
 use Rattle.sedck_commands.proofs.ReplacementLemmas.{digit_group}
 use Rattle.sedck_commands.proofs.replacements.escaped_part.Goals as goal
 

@@ -1,5 +1,4 @@
-use Rattle.std.proofs.Common.{sym, ◌∙◌}
-use Rattle.sedck_commands.specs.View.{pattern_of}
+use Rattle.sedck_commands.proofs.Common.{sym, ◌∙◌, pattern_of}
 use Rattle.sedck_commands.proofs.ReferenceLemmas.{coded_part, kept_more}
 use Rattle.sedck_commands.proofs.replacements.kept_groups.Goals as goal
 

@@ -1,6 +1,4 @@
-use Rattle.std.proofs.Common.{◌≡◌, map, drop, Some}
-use Rattle.sedck_commands.specs.Private.Keeping.{kept_from}
-use Rattle.sedck_commands.specs.View.{pattern_of, part_of}
+use Rattle.sedck_commands.proofs.Common.{◌≡◌, map, drop, Some, kept_from, pattern_of, part_of}
 use Rattle.sedck_commands.proofs.replacements.kept_groups.Given as goal
 
 -- the parts that are left decide from the groups so far

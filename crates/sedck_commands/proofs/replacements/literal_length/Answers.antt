@@ -1,5 +1,5 @@
-use Rattle.std.proofs.Common.{suc, map, add-one, arith}
-use Rattle.sedck_commands.specs.View.{part_of}
+use Rattle.sedck_commands.proofs.Common.{suc, map, arith, part_of}
+use Rattle.std.proofs.Common.{add-one}
 use Rattle.sedck_commands.proofs.LiteralLengths.{filler_part, length_take_le, coded_length_more}
 use Rattle.sedck_commands.proofs.replacements.literal_length.Goals as goal
 

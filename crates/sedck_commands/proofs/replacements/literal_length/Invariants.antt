@@ -1,6 +1,4 @@
-use Rattle.std.proofs.Common.{◌≡◌, map, take}
-use Rattle.sedck_commands.specs.Program.{literal_length}
-use Rattle.sedck_commands.specs.View.{part_of}
+use Rattle.sedck_commands.proofs.Common.{◌≡◌, map, take, literal_length, part_of}
 use Rattle.sedck_commands.proofs.replacements.literal_length.Given as goal
 
 -- the parts so far have this length

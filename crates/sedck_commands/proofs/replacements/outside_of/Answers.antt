@@ -1,12 +1,6 @@
-use Rattle.std.proofs.Common.{◌≡◌, ℕ, List, map, Some, ap, sym, subst}
+use Rattle.sedck_commands.proofs.Common.{◌≡◌, ℕ, List, map, Some, ap, sym, subst, All, Tree, Pattern, Expression, Part, IsPart, kept_from, KeepsGroups, named_groups, pattern_of, part_of}
 use Rattle.std.proofs.lemmas.List.Elements.{recursion_from_All}
-use Rattle.std.specs.List.{All}
-use Rattle.sedck_expressions.specs.Tree.{Tree}
-use Rattle.sedck_commands.specs.Program.{Pattern, Expression, Part}
-use Rattle.sedck_commands.specs.Parts.{IsPart}
-use Rattle.sedck_commands.specs.Private.Keeping.{kept_from}
-use Rattle.sedck_commands.specs.References.{KeepsGroups, IsOutside, IsLeastOutside, named_groups}
-use Rattle.sedck_commands.specs.View.{pattern_of, part_of}
+use Rattle.sedck_commands.specs.References.{IsOutside, IsLeastOutside}
 use Rattle.sedck_commands.proofs.ReferenceLemmas.{Keeps, kept_keeps, none_kept, keeps_groups, names_top, outside_named}
 use Rattle.sedck_commands.proofs.replacements.outside_of.Goals as goal
 

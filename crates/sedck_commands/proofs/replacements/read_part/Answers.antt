@@ -1,4 +1,4 @@
-use Rattle.sedck_commands.specs.View.{part_of}
+use Rattle.sedck_commands.proofs.Common.{part_of}
 use Rattle.sedck_commands.proofs.ResultLemmas.{if_err_always}
 use Rattle.sedck_commands.proofs.CursorPlaces.{stands_here}
 use Rattle.sedck_commands.proofs.UniqueVerbs.{no_backslash}

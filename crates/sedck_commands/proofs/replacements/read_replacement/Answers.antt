@@ -1,7 +1,4 @@
-use Rattle.std.proofs.Common.{◌∙◌, ap, map}
-use Rattle.std.proofs.lemmas.List.{map_push}
-use Rattle.sedck_commands.specs.Private.PieceReading.{IsPartPlaced}
-use Rattle.sedck_commands.specs.View.{part_of}
+use Rattle.sedck_commands.proofs.Common.{◌∙◌, ap, map, map_push, IsPartPlaced, part_of}
 use Rattle.sedck_commands.proofs.ResultLemmas.{if_err_each, if_err_same}
 use Rattle.sedck_commands.proofs.ReplacementLemmas.{parts_more, parts_end, parts_stuck}
 use Rattle.sedck_commands.proofs.replacements.read_replacement.Goals as goal

@@ -1,6 +1,4 @@
-use Rattle.std.proofs.Common.{◌≡◌, length, map}
-use Rattle.sedck_text.specs.Cursors.{unread}
-use Rattle.sedck_commands.specs.View.{part_of}
+use Rattle.sedck_commands.proofs.Common.{◌≡◌, length, map, unread, part_of}
 use Rattle.sedck_commands.proofs.ReplacementLemmas.{PartsPassed}
 use Rattle.sedck_commands.proofs.replacements.read_replacement.Given as goal
 

@@ -1,6 +1,4 @@
-use Rattle.std.proofs.Common.{arith}
-use Rattle.sedck_text.specs.Cursors.{unread}
-use Rattle.sedck_commands.specs.Private.PieceReading.{IsPartPlaced}
+use Rattle.sedck_commands.proofs.Common.{arith, unread, IsPartPlaced}
 use Rattle.sedck_commands.proofs.ResultLemmas.{if_err_from, if_err_same}
 use Rattle.sedck_commands.proofs.UniqueVerbs.{no_backslash}
 use Rattle.sedck_commands.proofs.VerbLemmas.{no_second_list, unequal_lists}

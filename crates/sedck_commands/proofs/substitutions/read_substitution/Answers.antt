@@ -1,11 +1,5 @@
-use Rattle.std.proofs.Common.{◌<◌, ◌≤◌, ◌^◌, [], map, refl, ◌∙◌, sym, subst, arith}
-use Rattle.sedck_commands.specs.Program.{literal_length}
+use Rattle.sedck_commands.proofs.Common.{◌<◌, ◌≤◌, ◌^◌, [], map, refl, ◌∙◌, sym, subst, arith, literal_length, unread, unread_length, IsPlaced, pattern_of, part_of, IsPart}
 use Rattle.std.proofs.lemmas.List.Elements.{All-from_recursion}
-use Rattle.sedck_text.specs.Cursors.{unread}
-use Rattle.sedck_text.proofs.Cursors.{unread_length}
-use Rattle.sedck_commands.specs.Faults.{IsPlaced}
-use Rattle.sedck_commands.specs.View.{pattern_of, part_of}
-use Rattle.sedck_commands.specs.Parts.{IsPart}
 use Rattle.sedck_commands.proofs.OffsetLemmas.{tail_length, tail_behind, expression_tail}
 use Rattle.sedck_commands.proofs.ResultLemmas.{if_err_each, if_err_from, if_err_same}
 use Rattle.sedck_commands.proofs.PlaceLemmas.{part_placed, part_placed_same, unread_before}

@@ -1,5 +1,4 @@
-use Rattle.std.proofs.Common.{refl, ◌∙◌}
-use Rattle.sedck_commands.specs.Faults.{IsPlaced}
+use Rattle.sedck_commands.proofs.Common.{refl, ◌∙◌, IsPlaced}
 use Rattle.sedck_commands.proofs.CursorPlaces.{verb_before, verb_behind}
 use Rattle.sedck_commands.proofs.ResultLemmas.{if_err_each, if_err_from, if_err_same}
 use Rattle.sedck_commands.proofs.PlaceLemmas.{part_placed, part_placed_same, unread_before}

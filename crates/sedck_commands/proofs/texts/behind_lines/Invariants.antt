@@ -1,4 +1,4 @@
-use Rattle.std.proofs.Common.{length}
+use Rattle.sedck_commands.proofs.Common.{length}
 use Rattle.sedck_commands.proofs.PartLemmas.{LinesPassed}
 use Rattle.sedck_commands.proofs.texts.behind_lines.Given as goal
 

@@ -1,4 +1,4 @@
-use Rattle.std.proofs.Common.{◌∙◌, sym}
+use Rattle.sedck_commands.proofs.Common.{◌∙◌, sym}
 use Rattle.sedck_commands.proofs.CommandEnds.{no_end, extra_stands}
 use Rattle.sedck_commands.proofs.texts.end_of_command.Goals as goal
 

@@ -1,14 +1,7 @@
-use Rattle.std.proofs.Common.{◌≡◌, ◌⊎◌, ◌∙◌, List, ℕ, [], Some, false, inl, inr, ap, sym, subst, arith, not}
-use Rattle.std.proofs.lemmas.Bool.{both_ways}
-use Rattle.std.specs.Prelude.{IsTrue}
-use Rattle.sedck_text.specs.Text.{begins}
+use Rattle.sedck_commands.proofs.Common.{◌≡◌, ◌⊎◌, ◌∙◌, List, ℕ, [], Some, false, inl, inr, ap, sym, subst, arith, not, both_ways, IsTrue, begins, is_newline, is_continued, Longest, longest_one, unread, nil_from_length}
 use Rattle.sedck_commands.proofs.ResultLemmas.{if_err_always}
-use Rattle.sedck_commands.specs.Cuts.{is_newline, is_continued, Longest}
-use Rattle.sedck_text.proofs.Runs.{longest_one}
 use Rattle.sedck_commands.proofs.UniqueParts.{ends_one}
 use Rattle.sedck_commands.proofs.LineBytes.{continued_stands, begins_hash}
-use Rattle.sedck_text.specs.Cursors.{unread}
-use Rattle.std.proofs.lemmas.List.{nil_from_length}
 use Rattle.sedck_commands.proofs.texts.end_of_flags.Goals as goal
 use Rattle.sedck_commands.proofs.texts.end_of_flags.Goals.{else-not-is_empty-via-then-not-is_empty+else-is_continued, else-not-is_empty-via-else-not-is_empty}
 

@@ -1,6 +1,4 @@
-use Rattle.std.proofs.Common.{◌≡◌, subst, arith}
-use Rattle.sedck_commands.specs.ReadAlike.{HasNoInnerReturn}
-use Rattle.sedck_text.proofs.Runs.{longest_one}
+use Rattle.sedck_commands.proofs.Common.{◌≡◌, subst, arith, HasNoInnerReturn, longest_one}
 use Rattle.sedck_commands.proofs.CommentLemmas.{no_inner_return, inner_return, return_stands}
 use Rattle.sedck_commands.proofs.texts.read_comment.Goals as goal
 use Rattle.sedck_commands.proofs.texts.read_comment.Goals.{in-Some+else-at-line, in_default}

@@ -1,4 +1,4 @@
-use Rattle.std.proofs.Common.{inl, inr}
+use Rattle.sedck_commands.proofs.Common.{inl, inr}
 use Rattle.sedck_commands.proofs.PartLemmas.{given_at_once, given_below, given_behind, no_given_end, no_given_blank, no_given}
 use Rattle.sedck_commands.proofs.ResultLemmas.{if_none_always}
 use Rattle.sedck_commands.proofs.texts.read_text.Goals as goal

@@ -1,4 +1,4 @@
-use Rattle.std.proofs.Common.{refl}
+use Rattle.sedck_commands.proofs.Common.{refl}
 use Rattle.std.specs.Prelude.{option_copied}
 use Rattle.sedck_commands.proofs.ResultLemmas.{if_err_each}
 use Rattle.sedck_commands.proofs.VerbCases.{jump_read, no_jump}

@@ -1,6 +1,5 @@
-use Rattle.std.proofs.Common.{◌-◌, ap}
+use Rattle.sedck_commands.proofs.Common.{◌-◌, ap, file_byte}
 use Rattle.sedck_commands.specs.Items.{read, write}
-use Rattle.sedck_commands.specs.Private.Forms.{file_byte}
 use Rattle.sedck_commands.proofs.FormLemmas.{file_known}
 use Rattle.sedck_commands.proofs.LineBytes.{name_placed}
 use Rattle.sedck_commands.proofs.PlaceLemmas.{unread_before}

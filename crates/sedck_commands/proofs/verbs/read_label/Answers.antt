@@ -1,4 +1,4 @@
-use Rattle.std.proofs.Common.{refl, ◌∙◌, ap, sym, is_some}
+use Rattle.sedck_commands.proofs.Common.{refl, ◌∙◌, ap, sym, is_some}
 use Rattle.sedck_commands.specs.Items.{label}
 use Rattle.sedck_commands.proofs.ResultLemmas.{if_err_always}
 use Rattle.sedck_commands.proofs.VerbCases.{no_definition_at, no_definition_end, defines_known}

@@ -1,6 +1,5 @@
-use Rattle.std.proofs.Common.{ap}
+use Rattle.sedck_commands.proofs.Common.{ap, text_byte}
 use Rattle.sedck_commands.specs.Items.{append, change, insert}
-use Rattle.sedck_commands.specs.Private.Forms.{text_byte}
 use Rattle.sedck_commands.proofs.FormLemmas.{text_known}
 use Rattle.sedck_commands.proofs.PlaceLemmas.{unread_before}
 use Rattle.sedck_commands.proofs.VerbCases.{no_text}

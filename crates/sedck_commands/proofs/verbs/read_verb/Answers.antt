@@ -1,6 +1,5 @@
-use Rattle.std.proofs.Common.{subst}
+use Rattle.sedck_commands.proofs.Common.{subst, IsForm}
 use Rattle.sedck_commands.specs.Items.{opening}
-use Rattle.sedck_commands.specs.Private.Forms.{IsForm}
 use Rattle.sedck_commands.proofs.verbs.read_verb.Goals as goal
 
 pub returns-in-Block-clause-read : goal.returns-in-Block-clause-read
