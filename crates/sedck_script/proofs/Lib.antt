@@ -1,3 +1,4 @@
+mod Common
 pub mod UniqueCommands
 pub mod FirstIsWhole
 pub mod ExampleProofs

@@ -1,11 +1,7 @@
 -- Items that resolve to commands close each block; and their labels are at their commands.
-use Rattle.std.proofs.Common.{◌≡◌, ◌↔◌, ℕ, Bool, true, false, cond, zero, suc, List, [], ◌∷◌, ◌++◌, length, Some, refl, ap, sym, ◌∙◌, arith}
-use Rattle.sedck_commands.specs.Program.{NoAddress, Label, Branch, Test, Command}
-use Rattle.sedck_commands.specs.Items.{Known, Item, Written, Closing}
-use Rattle.sedck_script.specs.Resolution.{Defines, AreLabelsDistinct, Resolves, done, known, jump, opening, closing, ResolvesIn}
-use Rattle.sedck_commands.specs.Labels.{IsLabelOf, AreLabelsOnce, commands_among}
-use Rattle.sedck_commands.specs.Blocks.{Turn, Opens, Closes, Stays, Jumps, turn_of, Turned, Nests}
-use Rattle.sedck_commands.specs.Narrowings.{Narrowings}
+use Rattle.sedck_script.proofs.Common.{◌≡◌, ◌↔◌, ℕ, Bool, true, false, cond, zero, suc, List, [], ◌∷◌, ◌++◌, length, Some, refl, ap, sym, ◌∙◌, arith, NoAddress, Label, Branch, Test, Command, Known, Item, Written, Closing, Defines, AreLabelsDistinct, Resolves, done, known, jump, opening, closing, ResolvesIn, commands_among, Turned, Nests, Narrowings}
+use Rattle.sedck_commands.specs.Labels.{IsLabelOf, AreLabelsOnce}
+use Rattle.sedck_commands.specs.Blocks.{Turn, Opens, Closes, Stays, Jumps, turn_of}
 
 pub resolves_nests : {A cs : List Command} {blocks : List ℕ} {place : ℕ} {items : List Item} → Resolves A blocks place items cs → Nests items (length blocks)
 resolves_nests done = refl

@@ -1,26 +1,13 @@
 -- Which programs a text spells, by its items.
-use Rattle.std.proofs.Common.{◌≡◌, ◌≢◌, ℕ, zero, suc, ◌<◌, ◌≤◌, true, false, List, [], ◌∷◌, ◌++◌, length, map, get_or, Option, Some, None, Contains, refl, ap, sym, ◌∙◌, subst, inl, inr, arith}
-use Rattle.std.specs.Prelude.{Any, slice_get}
-use Rattle.std.proofs.lemmas.Bool.{false≢true}
-use Rattle.std.proofs.lemmas.List.{get_or-map, length-map}
-use Rattle.std.specs.Borrow.{Bor}
-use Rattle.std.specs.HashMap.{HashMap}
+use Rattle.sedck_script.proofs.Common.{◌≡◌, ℕ, zero, suc, ◌<◌, ◌≤◌, true, false, List, [], ◌∷◌, ◌++◌, length, map, get_or, Option, Some, None, Contains, refl, ap, sym, ◌∙◌, subst, inl, inr, arith, Any, false≢true, length-map, Bor, HashMap, Tree, Pattern, Previous, Expression, NoAddress, Label, Command, Program, address_patterns, verb_patterns, patterns, expressions, Known, Item, Written, Closing, Items, Defines, AreLabelsDistinct, LeadsTo, Resolves, done, known, jump, opening, closing, Spells, AreCommands, label_place, HasLabels, commands_among, item_of, item_label, IsLostLabel, has_previous, item_patterns, has_some, WrittenItem, items_one}
+use Rattle.std.proofs.Common.{◌≢◌}
+use Rattle.std.specs.Prelude.{slice_get}
+use Rattle.std.proofs.lemmas.List.{get_or-map}
 use Rattle.sedck_text.specs.Text.{one_of}
-use Rattle.sedck_expressions.specs.Tree.{Tree}
-use Rattle.sedck_commands.specs.Program.{Pattern, Previous, Expression, NoAddress, Label, Command, Program, address_patterns, verb_patterns, patterns, expressions}
-use Rattle.sedck_commands.specs.Items.{Known, Item, Written, Closing, Items}
-use Rattle.sedck_script.specs.Resolution.{Defines, AreLabelsDistinct, LeadsTo, Resolves, done, known, jump, opening, closing}
-use Rattle.sedck_script.specs.Spelling.{Spells, AreCommands}
 use Rattle.sedck_commands.specs.Faults.{IsLabelBehind, IsUndefinedLabel}
-use Rattle.sedck_commands.specs.Labels.{label_place, HasLabels, commands_among}
-use Rattle.sedck_commands.specs.ItemView.{item_of}
-use Rattle.sedck_script.specs.Private.Resolving.{item_label, IsLostLabel}
-use Rattle.sedck_commands.specs.ReadItems.{has_previous, HasNoItems, item_patterns}
-use Rattle.sedck_script.specs.Private.ExpressionReading.{has_some}
-use Rattle.sedck_commands.specs.declared.items.WrittenItem.{WrittenItem}
+use Rattle.sedck_commands.specs.ReadItems.{HasNoItems}
 use Rattle.sedck_script.proofs.Nesting.{resolves_nests, resolves_length, label_written, labels_once}
 use Rattle.sedck_script.proofs.SortedNames.{Contains-cons_cases, Contains-cons_more}
-use Rattle.sedck_commands.proofs.UniqueItems.{items_one}
 use Rattle.sedck_script.proofs.UniqueCommands.{commands_one}
 
 -- a text without items spells no program

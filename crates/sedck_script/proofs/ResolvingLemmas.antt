@@ -1,20 +1,13 @@
 -- How far the items have been resolved, from the back.
-use Rattle.std.proofs.Common.{◌≡◌, ℕ, suc, ◌+◌, ◌<◌, List, [], ◌∷◌, ◌++◌, length, map, reverse, Bool, Option, Some, None, refl, ap, sym, ◌∙◌, subst, append-nil, append_assoc, length-append, arith}
-use Rattle.std.proofs.lemmas.List.{length-reverse, reverse-append, map_push, length-map, nil_from_length}
+use Rattle.sedck_script.proofs.Common.{◌≡◌, ℕ, suc, ◌+◌, ◌<◌, List, [], ◌∷◌, ◌++◌, length, map, reverse, Bool, Option, Some, None, refl, ap, sym, ◌∙◌, subst, append-nil, length-append, arith, map_push, length-map, All, Bor, HashMap, Address, Command, WrittenVerb, Known, Item, Written, Closing, Defines, LeadsTo, Resolves, done, known, jump, opening, closing, label_place, HasLabels, commands_among, Turned, Nests, IsKnownLabel, item_label, item_of, WrittenItem}
+use Rattle.std.proofs.Common.{append_assoc}
+use Rattle.std.proofs.lemmas.List.{length-reverse, reverse-append, nil_from_length}
 use Rattle.std.proofs.Math.ListN.{get_or-append}
 use Rattle.std.proofs.Math.Seq.{get_or-append_seam}
-use Rattle.std.specs.Prelude.{All}
-use Rattle.std.specs.Borrow.{Bor}
-use Rattle.std.specs.HashMap.{HashMap}
-use Rattle.sedck_commands.specs.Program.{Address, Command}
-use Rattle.sedck_commands.specs.Items.{WrittenVerb, Known, JumpTo, Opening, Item, Written, Closing}
+use Rattle.sedck_commands.specs.Items.{JumpTo, Opening}
 use Rattle.sedck_commands.specs.ReadAlike.{MayBeBraced}
-use Rattle.sedck_script.specs.Resolution.{Defines, LeadsTo, Resolves, done, known, jump, opening, closing}
-use Rattle.sedck_commands.specs.Labels.{label_place, HasLabels, commands_among}
-use Rattle.sedck_commands.specs.Blocks.{verb_turn, Turned, Nests}
-use Rattle.sedck_script.specs.Private.Resolving.{IsKnownLabel, label_of, item_label, target_of, resolved_verb, TakesTarget}
-use Rattle.sedck_commands.specs.ItemView.{item_of}
-use Rattle.sedck_commands.specs.declared.items.WrittenItem.{WrittenItem}
+use Rattle.sedck_commands.specs.Blocks.{verb_turn}
+use Rattle.sedck_script.specs.Private.Resolving.{label_of, target_of, resolved_verb, TakesTarget}
 use Rattle.sedck_commands.proofs.StateLemmas.{among_append, among_closing}
 use Rattle.sedck_script.proofs.Nesting.{resolves_nests, resolves_length, nests_one, nests_behind, label_defined, plain_commands, plain_length, plain_label}
 

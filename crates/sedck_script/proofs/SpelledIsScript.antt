@@ -1,22 +1,10 @@
 -- A script that is spelled keeps the invariant of scripts.
-use Rattle.std.proofs.Common.{◌≡◌, ℕ, ◌+◌, ◌≤◌, Bool, true, false, List, [], ◌∷◌, ◌++◌, length, Contains, refl, length-append, arith}
-use Rattle.std.specs.Prelude.{flat_map, sum_by}
-use Rattle.std.specs.List.{AllByRecursion}
-use Rattle.std.specs.declared.cmp.Ordering.{Ordering}
-use Rattle.std.specs.declared.cmp.Ordering.TheVariants.{Less, Equal, Greater}
-use Rattle.std.specs.Ordering.{nat_cmp}
-use Rattle.std.specs.Cmp.Lexicographic.{slice_cmp}
-use Rattle.std.proofs.lemmas.List.Elements.{All-from_recursion}
+use Rattle.sedck_script.proofs.Common.{◌≡◌, ℕ, ◌+◌, ◌≤◌, Bool, true, false, List, [], ◌∷◌, ◌++◌, length, Contains, refl, length-append, arith, flat_map, AllByRecursion, Ordering, Less, Equal, Greater, nat_cmp, slice_cmp, All-from_recursion, Address, Verb, Command, Program, WrittenVerb, Known, Item, Written, Items, Resolves, done, known, jump, opening, closing, Spells, IsName, names_size, read_names, write_names, placed, with_name, sorted_names, IsReplacement, EndsIn, tail_cut, tail_tail, tail_behind, tail_length, ends_tail, verb_text_tail}
+use Rattle.std.specs.Prelude.{sum_by}
 use Rattle.std.proofs.lemmas.List.Sums.{sum_by-cons, sum_by-append}
-use Rattle.sedck_commands.specs.Program.{Address, Verb, Command, Program}
-use Rattle.sedck_commands.specs.Items.{WrittenVerb, Known, Item, Written, Items}
 use Rattle.sedck_commands.specs.Items as w
-use Rattle.sedck_script.specs.Resolution.{Resolves, done, known, jump, opening, closing}
-use Rattle.sedck_script.specs.Spelling.{Spells}
-use Rattle.sedck_script.specs.Names.{IsName, AreNames, names_size, read_names, write_names, placed, with_name, sorted_names}
-use Rattle.sedck_script.specs.Invariant.{IsReplacement, IsScript}
-use Rattle.sedck_commands.specs.Private.Reading.{EndsIn}
-use Rattle.sedck_commands.proofs.OffsetLemmas.{tail_cut, tail_tail, tail_behind, tail_length, ends_tail, verb_text_tail}
+use Rattle.sedck_script.specs.Names.{AreNames}
+use Rattle.sedck_script.specs.Invariant.{IsScript}
 use Rattle.sedck_commands.proofs.CommandLemmas.{address_tail}
 use Rattle.sedck_script.proofs.SpelledIsSound.{spelled_targets, spelled_formed, spelled_transliterations}
 use Rattle.sedck_script.proofs.SortedNames.{all_weaker, all_append, sorted_names-rise, with_all}

@@ -1,10 +1,6 @@
 -- A text spells one program at most.
-use Rattle.std.proofs.Common.{◌≡◌, Bool, true, false, ℕ, List, refl, sym}
-use Rattle.sedck_commands.specs.Program.{Program}
-use Rattle.sedck_script.specs.Spelling.{Spells, SpellsIn}
-use Rattle.sedck_commands.proofs.UniqueItems.{items_one}
+use Rattle.sedck_script.proofs.Common.{◌≡◌, Bool, true, false, ℕ, List, refl, sym, Program, Spells, SpellsIn, items_one, Narrowings}
 use Rattle.sedck_script.proofs.UniqueCommands.{commands_one}
-use Rattle.sedck_commands.specs.Narrowings.{Narrowings}
 
 same_tests : (a b : Bool) → (a ≡ true → b ≡ true) → (b ≡ true → a ≡ true) → a ≡ b
 same_tests true b f g = sym (f refl)

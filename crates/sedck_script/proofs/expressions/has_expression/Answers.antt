@@ -1,6 +1,4 @@
-use Rattle.std.proofs.Common.{map, ◌∙◌}
-use Rattle.sedck_commands.specs.Program.{expressions}
-use Rattle.sedck_script.specs.View.{command_of}
+use Rattle.sedck_script.proofs.Common.{map, ◌∙◌, expressions, command_of}
 use Rattle.sedck_script.proofs.ShortestLemmas.{some_has_least}
 use Rattle.sedck_script.proofs.expressions.has_expression.Goals as goal
 

@@ -1,7 +1,4 @@
-use Rattle.std.proofs.Common.{map, take}
-use Rattle.sedck_commands.specs.Program.{expressions}
-use Rattle.sedck_script.specs.View.{command_of}
-use Rattle.sedck_script.specs.Private.ExpressionReading.{IsLeastOf}
+use Rattle.sedck_script.proofs.Common.{map, take, expressions, command_of, IsLeastOf}
 use Rattle.sedck_script.proofs.expressions.least_of.Given as goal
 
 -- what was found so far is the least of the commands so far

@@ -1,4 +1,4 @@
-use Rattle.std.proofs.Common.{[], ap, refl, None}
+use Rattle.sedck_script.proofs.Common.{[], ap, refl, None}
 use Rattle.sedck_script.proofs.ShortestLemmas.{trees_of, no_patterns, least_of_same}
 use Rattle.sedck_script.proofs.expressions.least_of_verb.Goals as goal
 

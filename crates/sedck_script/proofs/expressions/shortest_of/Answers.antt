@@ -1,8 +1,4 @@
-use Rattle.std.proofs.Common.{map, subst, sym}
-use Rattle.sedck_bre.specs.Lengths.{IsLeastSize}
-use Rattle.sedck_commands.specs.Program.{expressions}
-use Rattle.sedck_script.specs.View.{command_of}
-use Rattle.sedck_script.specs.Shortest.{SomeHasLength}
+use Rattle.sedck_script.proofs.Common.{map, subst, sym, IsLeastSize, expressions, command_of, SomeHasLength}
 use Rattle.sedck_script.proofs.ShortestLemmas.{least_or_cap}
 use Rattle.sedck_script.proofs.expressions.shortest_of.Goals as goal
 

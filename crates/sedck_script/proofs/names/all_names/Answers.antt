@@ -1,4 +1,4 @@
-use Rattle.std.proofs.Common.{◌++◌, ◌∙◌, ap₂}
+use Rattle.sedck_script.proofs.Common.{◌++◌, ◌∙◌, ap₂}
 use Rattle.sedck_script.proofs.NameLemmas.{names_more}
 use Rattle.sedck_script.proofs.names.all_names.Goals as goal
 

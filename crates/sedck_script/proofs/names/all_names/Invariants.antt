@@ -1,6 +1,4 @@
-use Rattle.std.proofs.Common.{◌≡◌, map, take}
-use Rattle.sedck_script.specs.View.{command_of}
-use Rattle.sedck_script.specs.Private.NameReading.{all_accessed}
+use Rattle.sedck_script.proofs.Common.{◌≡◌, map, take, command_of, all_accessed}
 use Rattle.sedck_script.proofs.names.all_names.Given as goal
 
 -- the names of the commands so far

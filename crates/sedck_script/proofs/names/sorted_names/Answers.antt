@@ -1,4 +1,4 @@
-use Rattle.std.proofs.Common.{map, ap, ◌∙◌}
+use Rattle.sedck_script.proofs.Common.{map, ap, ◌∙◌}
 use Rattle.std.proofs.lemmas.List.Filters.{dedup_is}
 use Rattle.sedck_script.proofs.NameLemmas.{sorted_once}
 use Rattle.sedck_script.proofs.names.sorted_names.Goals as goal

@@ -1,13 +1,8 @@
-use Rattle.std.proofs.Common.{refl, inl, inr, ◌≡◌, ◌∙◌, ℕ, List, Option, Some, None, true, map, sym, subst, ap, arith}
+use Rattle.sedck_script.proofs.Common.{refl, inl, inr, ◌≡◌, ◌∙◌, ℕ, List, Option, Some, None, true, map, sym, subst, ap, arith, item_of, if_err_from, Pattern, expressions, command_of, has_previous, item_patterns, has_some}
 use Rattle.std.proofs.lemmas.Bool.{both_ways}
 use Rattle.sedck_commands.specs.Faults.{IsPlaced}
-use Rattle.sedck_commands.specs.ItemView.{item_of}
-use Rattle.sedck_commands.proofs.ResultLemmas.{if_err_from}
 use Rattle.sedck_script.proofs.ProgramLemmas.{undefined_label, no_target, no_expression, are_commands}
-use Rattle.sedck_commands.specs.Program.{Pattern, expressions}
-use Rattle.sedck_script.specs.View.{command_of}
-use Rattle.sedck_commands.specs.ReadItems.{has_previous, IsEmptyAt, item_patterns}
-use Rattle.sedck_script.specs.Private.ExpressionReading.{has_some}
+use Rattle.sedck_commands.specs.ReadItems.{IsEmptyAt}
 use Rattle.sedck_script.proofs.parsing.commands.Goals as goal
 
 pub returns-in_err-commands-clause-refused : goal.returns-in_err-commands-clause-refused

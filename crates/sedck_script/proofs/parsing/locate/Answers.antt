@@ -1,9 +1,8 @@
-use Rattle.std.proofs.Common.{◌∙◌, ap, sym, length, arith, subst}
+use Rattle.sedck_script.proofs.Common.{◌∙◌, ap, sym, length, arith, subst, if_err_from}
 use Rattle.sedck_commands.specs.Locations.{AreInOrder}
 use Rattle.sedck_commands.specs.ItemView.{locations_in}
 use Rattle.sedck_script.proofs.Nesting.{resolves_length}
 use Rattle.sedck_commands.proofs.LocationLemmas.{located_count, located_order}
-use Rattle.sedck_commands.proofs.ResultLemmas.{if_err_from}
 use Rattle.sedck_script.proofs.parsing.locate.Goals as goal
 
 pub returns-in_err-script-clause-refused : goal.returns-in_err-script-clause-refused

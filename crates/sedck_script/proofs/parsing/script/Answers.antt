@@ -1,12 +1,6 @@
-use Rattle.std.proofs.Common.{◌∙◌, ◌↔◌, ℕ, List, map, sym, subst, ap}
-use Rattle.std.specs.Prelude.{IsTrue}
-use Rattle.sedck_commands.specs.Program.{Program}
-use Rattle.sedck_commands.specs.Items.{Item, Items}
-use Rattle.sedck_script.specs.Names.{sorted_names}
-use Rattle.sedck_script.specs.Private.NameReading.{all_accessed}
-use Rattle.sedck_script.specs.View.{command_of}
+use Rattle.sedck_script.proofs.Common.{◌∙◌, ◌↔◌, ℕ, List, map, sym, subst, ap, IsTrue, Program, Item, Items, sorted_names, all_accessed, command_of, IsQuiet, AreCommands, Spells}
 use Rattle.sedck_script.specs.Private.Fields.{program_from}
-use Rattle.sedck_script.specs.Spelling.{IsQuiet, AreCommands, IsScriptText, Spells}
+use Rattle.sedck_script.specs.Spelling.{IsScriptText}
 use Rattle.sedck_commands.specs.declared.names.Access.TheVariants.{Read, Write}
 use Rattle.sedck_script.proofs.UniqueScripts.{whole_one}
 use Rattle.sedck_script.proofs.SpelledIsScript.{spelled_script}

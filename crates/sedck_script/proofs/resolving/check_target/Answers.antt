@@ -1,4 +1,4 @@
-use Rattle.std.proofs.Common.{refl, sym, ◌∙◌}
+use Rattle.sedck_script.proofs.Common.{refl, sym, ◌∙◌}
 use Rattle.sedck_commands.proofs.FlagLemmas.{none_of}
 use Rattle.sedck_script.proofs.resolving.check_target.Goals as goal
 

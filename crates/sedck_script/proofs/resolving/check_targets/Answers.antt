@@ -1,6 +1,5 @@
-use Rattle.std.proofs.Common.{sym, subst}
+use Rattle.sedck_script.proofs.Common.{sym, subst, if_err_from}
 use Rattle.sedck_commands.specs.ReadItems.{IsItemAt}
-use Rattle.sedck_commands.proofs.ResultLemmas.{if_err_from}
 use Rattle.sedck_script.proofs.resolving.check_targets.Goals as goal
 
 pub returns-in_err-check_target-clause-placed : goal.returns-in_err-check_target-clause-placed

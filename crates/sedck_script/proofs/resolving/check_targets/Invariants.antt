@@ -1,7 +1,4 @@
-use Rattle.std.proofs.Common.{◌<◌, ℕ, get_or}
-use Rattle.sedck_commands.specs.declared.items.WrittenItem.{WrittenItem}
-use Rattle.sedck_script.specs.Private.Resolving.{IsKnownLabel, item_label}
-use Rattle.sedck_commands.specs.ItemView.{item_of}
+use Rattle.sedck_script.proofs.Common.{◌<◌, ℕ, get_or, WrittenItem, IsKnownLabel, item_label, item_of}
 use Rattle.sedck_script.proofs.resolving.check_targets.Given as goal
 
 abbrev pub invariant-loop-item : goal.invariant-loop-item

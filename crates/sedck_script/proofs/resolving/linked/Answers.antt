@@ -1,8 +1,4 @@
-use Rattle.std.proofs.Common.{inl, inr, subst}
-use Rattle.std.specs.Prelude.{Any}
-use Rattle.sedck_commands.specs.ItemView.{item_of}
-use Rattle.sedck_script.specs.Private.Resolving.{item_label, IsLostLabel}
-use Rattle.sedck_commands.proofs.ResultLemmas.{if_err_from, if_err_more}
+use Rattle.sedck_script.proofs.Common.{inl, inr, subst, Any, item_of, item_label, IsLostLabel, if_err_from, if_err_more}
 use Rattle.sedck_script.proofs.resolving.linked.Goals as goal
 
 pub resolve-requires-clause-known : goal.resolve-requires-clause-known

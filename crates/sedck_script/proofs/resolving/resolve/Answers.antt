@@ -1,8 +1,5 @@
-use Rattle.std.proofs.Common.{◌∙◌, ◌∷◌, ◌++◌, [], map, ap, arith}
-use Rattle.std.proofs.lemmas.List.{map_push}
+use Rattle.sedck_script.proofs.Common.{◌∙◌, ◌∷◌, ◌++◌, [], map, ap, arith, map_push, command_of, item_of}
 use Rattle.indexmap.proofs.ReorderLemmas.{map-reverse}
-use Rattle.sedck_script.specs.View.{command_of}
-use Rattle.sedck_commands.specs.ItemView.{item_of}
 use Rattle.sedck_script.proofs.ResolvingLemmas.{back_start, back_command, back_closing, back_done, reverse_push, reverse_map_push, known_front, known_last, none_left, made_length}
 use Rattle.sedck_script.proofs.resolving.resolve.Goals as goal
 

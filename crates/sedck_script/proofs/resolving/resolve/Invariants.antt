@@ -1,8 +1,4 @@
-use Rattle.std.proofs.Common.{length, map, reverse}
-use Rattle.std.specs.Prelude.{All}
-use Rattle.sedck_script.specs.View.{command_of}
-use Rattle.sedck_commands.specs.ItemView.{item_of}
-use Rattle.sedck_script.specs.Private.Resolving.{IsKnownLabel, item_label}
+use Rattle.sedck_script.proofs.Common.{length, map, reverse, All, command_of, item_of, IsKnownLabel, item_label}
 use Rattle.sedck_script.proofs.ResolvingLemmas.{IsBack}
 use Rattle.sedck_script.proofs.resolving.resolve.Given as goal
 
