@@ -1,11 +1,6 @@
 -- `é*` matches `éé` by characters, and not by bytes.
-use Rattle.std.proofs.Common.{◌≡◌, ℕ, zero, suc, ◌==◌, Bool, false, List, [], ◌∷◌, ◌++◌, refl, ap, sym, ◌∙◌, arith, append-nil}
-use Rattle.std.specs.List.{list_any}
-use Rattle.std.proofs.lemmas.Bool.{false≢true}
-use Rattle.sedck_expressions.specs.Tree.{Byte}
-use Rattle.sedck_bre.specs.Match.{Groups, no_groups, Times}
-use Rattle.sedck_bre.specs.WideMatch.{WideMatch}
-use Rattle.sedck_flow.specs.Characters.{CharacterMatch}
+use Rattle.sedck_flow.proofs.Common.{◌≡◌, ℕ, zero, suc, ◌==◌, Bool, false, List, [], ◌∷◌, ◌++◌, refl, ap, sym, ◌∙◌, arith, list_any, false≢true, Byte, Groups, no_groups, Times, WideMatch, CharacterMatch}
+use Rattle.std.proofs.Common.{append-nil}
 use Rattle.sedck_flow.specs.Laws.{accents, two_accents}
 
 abbrev has_first : List ℕ → Bool

@@ -1,13 +1,12 @@
 -- A match by characters of an expression that splits none is a wide match.
-use Rattle.std.proofs.Common.{◌≡◌, ◌≢◌, inl, inr, ℕ, zero, suc, ◌-◌, ◌==◌, Bool, true, false, List, [], ◌∷◌, ◌++◌, length, refl, ap, sym, ◌∙◌, subst, arith, append_assoc, nat_lt}
-use Rattle.std.specs.Prelude.{◌||◌, ◌&&◌, MatchBool, if◌then◌else◌}
-use Rattle.std.proofs.lemmas.Bool.{false≢true, and_from}
-use Rattle.std.proofs.lemmas.Bool.Decides.{nat_tests}
-use Rattle.sedck_expressions.specs.Tree.{Tree, Trees, Byte, Any, Set, Group, Seq, Repeat, Nil, Then}
-use Rattle.sedck_bre.specs.Match.{Groups, Times}
-use Rattle.sedck_bre.specs.WideMatch.{WideMatch, WideMatchAll}
-use Rattle.sedck_script.specs.ByteSafe.{is_high, goes_on, bytes_due, splits_character, one_splits}
-use Rattle.sedck_flow.specs.Characters.{is_tail, is_character, IsOne, MatchesCharacter, CharacterMatch, CharacterMatchAll}
+use Rattle.sedck_flow.proofs.Common.{◌≡◌, ◌≢◌, inl, inr, ℕ, zero, suc, ◌==◌, Bool, true, false, List, [], ◌∷◌, ◌++◌, length, refl, ap, sym, ◌∙◌, subst, arith, ◌||◌, MatchBool, if◌then◌else◌, false≢true, nat_tests, Tree, Byte, Any, Seq, Nil, Then, Groups, Times, WideMatch, is_high, splits_character, CharacterMatch}
+use Rattle.std.proofs.Common.{◌-◌, append_assoc, nat_lt}
+use Rattle.std.specs.Prelude.{◌&&◌}
+use Rattle.std.proofs.lemmas.Bool.{and_from}
+use Rattle.sedck_expressions.specs.Tree.{Trees, Set, Group, Repeat}
+use Rattle.sedck_bre.specs.WideMatch.{WideMatchAll}
+use Rattle.sedck_script.specs.ByteSafe.{goes_on, bytes_due, one_splits}
+use Rattle.sedck_flow.specs.Characters.{is_tail, is_character, IsOne, MatchesCharacter, CharacterMatchAll}
 
 -- ---- Choices
 

@@ -1,8 +1,5 @@
 -- The order of edges.
-use Rattle.std.proofs.Common.{◌≡◌, arith}
-use Rattle.sedck_flow.specs.Flow.{kind_index, IsEarlier}
-use Rattle.sedck_flow.specs.declared.graph.Edge.{Edge}
-use Rattle.sedck_flow.specs.declared.graph.Kind.{Kind}
+use Rattle.sedck_flow.proofs.Common.{◌≡◌, arith, kind_index, IsEarlier, Edge, Kind}
 
 pub kind_same : (k l : Kind) → kind_index k ≡ kind_index l → k ≡ l
 kind_same k l e = grind arith

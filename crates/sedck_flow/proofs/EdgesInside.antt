@@ -1,15 +1,5 @@
 -- Edges lead to commands or to the script's end.
-use Rattle.std.proofs.Common.{◌≡◌, ℕ, zero, suc, ◌<◌, ◌≤◌, List, [], ◌∷◌, length, refl, sym, ap, inl, inr, arith}
-use Rattle.std.specs.Prelude.{Option, Some, None, MatchOption, slice_get}
-use Rattle.std.proofs.lemmas.List.Elements.{All-contains}
-use Rattle.std.proofs.lemmas.Option.{get_or_from_slice_get, slice_get_within, none-some}
-use Rattle.sedck_script.specs.Invariant.{IsTargetWithin, AreTargetsWithin}
-use Rattle.sedck_commands.specs.Program.{Address, Two, Verb, Block, Change, Quit, Command, Program}
-use Rattle.sedck_flow.specs.Nodes.{start}
-use Rattle.sedck_flow.specs.Flow.{ReadsLine, VerbEdge, node_past, CommandEdge, Flow}
-use Rattle.sedck_flow.specs.declared.graph.Node.{Node}
-use Rattle.sedck_flow.specs.declared.graph.Edge.{Edge}
-use Rattle.sedck_flow.specs.declared.graph.Kind.{Kind}
+use Rattle.sedck_flow.proofs.Common.{◌≡◌, ℕ, zero, suc, ◌<◌, ◌≤◌, List, [], ◌∷◌, length, refl, sym, ap, inl, inr, arith, Option, Some, None, MatchOption, slice_get, All-contains, get_or_from_slice_get, slice_get_within, none-some, IsTargetWithin, AreTargetsWithin, Address, Two, Verb, Block, Change, Quit, Command, Program, start, ReadsLine, VerbEdge, node_past, CommandEdge, Flow, Node, Edge, Kind}
 
 -- where there is no command, the place isn't below the length
 pub slice_get-none : {A : Type 0} (xs : List A) (i : ℕ) → slice_get xs i ≡ None → length xs ≤ i

@@ -1,15 +1,7 @@
 -- The kind of a substitution is its kind by literal parts alone, or that one is Grow.
-use Rattle.std.proofs.Common.{◌≡◌, ◌⊎◌, ◌↔◌, IsTrue, List, [], ◌∷◌, refl, sym, ap, subst, inl, inr, arith}
-use Rattle.std.proofs.lemmas.Bool.{false≢true}
-use Rattle.sedck_bre.specs.Match.{Groups}
-use Rattle.sedck_bre.specs.Rests.{texts_length}
-use Rattle.sedck_commands.specs.Program.{Part, Whole, Group, Substitution, Program}
-use Rattle.sedck_commands.specs.References.{HasNoWhole, named_groups, AreDistinct, AreTopGroups, KeepsGroups}
-use Rattle.sedck_flow.specs.Flow.{IsWholeAlone, Shortens, NeverLengthens, HasKind}
+use Rattle.sedck_flow.proofs.Common.{◌≡◌, ◌⊎◌, ◌↔◌, IsTrue, List, [], ◌∷◌, refl, sym, ap, subst, inl, inr, arith, false≢true, Groups, texts_length, Part, Whole, Group, Substitution, Program, HasNoWhole, named_groups, AreDistinct, AreTopGroups, KeepsGroups, IsWholeAlone, Shortens, NeverLengthens, HasKind, Kind, Consume, Shorten, Keep, Grow}
 use Rattle.sedck_flow.specs.LiteralKinds.{is_literal, LiteralShortens, LiteralNeverLengthens, HasLiteralKind}
 use Rattle.sedck_flow.proofs.VerbLemmas.{one_kind}
-use Rattle.sedck_flow.specs.declared.graph.Kind.{Kind}
-use Rattle.sedck_flow.specs.declared.graph.Kind.TheVariants.{Consume, Shorten, Keep, Grow}
 
 -- a literal replacement names no group and has no `&`
 literal_names : (parts : List Part) → IsTrue (is_literal parts) → named_groups parts ≡ []

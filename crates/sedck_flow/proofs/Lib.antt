@@ -1,3 +1,4 @@
+mod Common
 pub mod States
 pub mod ExpressionPatterns
 pub mod Conditional

@@ -1,8 +1,6 @@
 -- Nodes, their order, and their index in it.
-use Rattle.std.proofs.Common.{◌≡◌, ℕ, ◌<◌, ◌≤◌, arith}
-use Rattle.std.proofs.lemmas.Bool.Decides.{nat_tests}
+use Rattle.sedck_flow.proofs.Common.{◌≡◌, ℕ, ◌<◌, ◌≤◌, arith, nat_tests, Node}
 use Rattle.sedck_flow.specs.Nodes.{IsBefore, node_index, nth_node, node_count}
-use Rattle.sedck_flow.specs.declared.graph.Node.{Node}
 
 -- ---- The index follows the order
 

@@ -1,16 +1,9 @@
 -- Whether a replacement keeps groups is decided by cases; the length of what it makes.
-use Rattle.std.proofs.Common.{◌≡◌, ◌⊎◌, ℕ, ◌+◌, Bool, IsTrue, List, [], ◌∷◌, length, refl, ◌∙◌, inl, inr, arith, length-append}
+use Rattle.sedck_flow.proofs.Common.{◌≡◌, ◌⊎◌, ℕ, ◌+◌, Bool, IsTrue, List, [], ◌∷◌, length, refl, ◌∙◌, inl, inr, arith, length-append, cases_eq, Tree, text_of, texts_length, AreDifferentTopGroups, HasNoWhole, named_groups, AreDistinct, AreTopGroups, KeepsGroups, Pattern, Previous, Expression, Part, Text, Whole, Group, literal_length, IsWholeAlone, Occurrence, replacement}
 use Rattle.std.specs.Prelude.{◌≢◌}
-use Rattle.std.proofs.lemmas.Bool.{cases_eq}
-use Rattle.sedck_expressions.specs.Tree.{Tree}
-use Rattle.sedck_bre.specs.Match.{text_of}
-use Rattle.sedck_bre.specs.Rests.{is_top_group, texts_length}
-use Rattle.sedck_bre.proofs.DifferentGroups.{AreDifferentTopGroups}
+use Rattle.sedck_bre.specs.Rests.{is_top_group}
 use Rattle.sedck_commands.proofs.ReferenceLemmas.{not_in}
-use Rattle.sedck_commands.specs.References.{HasNoWhole, named_groups, IsNotIn, AreDistinct, AreTopGroups, KeepsGroups}
-use Rattle.sedck_commands.specs.Program.{Pattern, Previous, Expression, Part, Text, Whole, Group, literal_length}
-use Rattle.sedck_flow.specs.Flow.{IsWholeAlone}
-use Rattle.sedck_flow.specs.Substitutes.{Occurrence, replacement}
+use Rattle.sedck_commands.specs.References.{IsNotIn}
 
 -- holds or fails
 abbrev pub Decided : Type 0 → Type 0

@@ -1,10 +1,5 @@
 -- States of a run are distinguished, and are the same only where their machines are; what is read where a cycle begins.
-use Rattle.std.proofs.Common.{◌≡◌, ℕ, ◌≤◌, List, [], ◌∷◌, ◌++◌, length, sym, ap, subst, inl, inr, arith}
-use Rattle.sedck_flow.specs.Run.{Files, Machine, At, Done, begin_file, BeginsFile, NextCycle}
-use Rattle.sedck_flow.specs.WideRun.{all_lines}
-use Rattle.sedck_flow.specs.Private.Fits.{lines_left}
-use Rattle.sedck_flow.specs.Nodes.{start}
-use Rattle.sedck_flow.specs.Laws.{is_last, node_of, BeginsNextFile}
+use Rattle.sedck_flow.proofs.Common.{◌≡◌, ℕ, ◌≤◌, List, [], ◌∷◌, ◌++◌, length, sym, ap, subst, inl, inr, arith, Files, Machine, At, Done, begin_file, BeginsFile, NextCycle, all_lines, lines_left, start, is_last, node_of, BeginsNextFile}
 
 pub at_inj : {m n : Machine} → At m ≡ At n → m ≡ n
 at_inj e = cc

@@ -1,20 +1,13 @@
 -- The least rest of a match, from what a script and its substitutions know.
-use Rattle.std.proofs.Common.{◌≡◌, ℕ, ◌<◌, length, refl, sym, ap, subst, inl, inr, arith}
+use Rattle.sedck_flow.proofs.Common.{◌≡◌, ℕ, ◌<◌, length, refl, sym, ap, subst, inl, inr, arith, Option, Some, None, Tree, Groups, no_groups, Match, texts_length, IsLeastRest, IsWellFormed, least_rest_of, Pattern, Previous, Expression, Substitution, Program, expressions, named_groups, AreTopGroups, KeepsGroups, StandsFor, AreRestsAtLeast, IsFormed}
 use Rattle.std.proofs.Math.Logic.{∥∥₁_elim}
 use Rattle.std.proofs.Math.Bridge.{le_prop}
-use Rattle.std.specs.Prelude.{Option, Some, None}
-use Rattle.sedck_expressions.specs.Tree.{Tree}
-use Rattle.sedck_bre.specs.Match.{Groups, no_groups, Match}
 use Rattle.sedck_bre.specs.Lengths.{IsLeastSize}
-use Rattle.sedck_bre.specs.Rests.{texts_length, HasRest, IsLeastRest}
-use Rattle.sedck_expressions.specs.WellFormed.{IsWellFormed}
-use Rattle.sedck_bre.proofs.DifferentGroups.{least_rest_of}
-use Rattle.sedck_commands.specs.Program.{Pattern, Previous, Expression, Substitution, Program, expressions}
-use Rattle.sedck_commands.specs.References.{named_groups, AreTopGroups, KeepsGroups, IsLeastOutside, IsOutside}
+use Rattle.sedck_bre.specs.Rests.{HasRest}
+use Rattle.sedck_commands.specs.References.{IsLeastOutside, IsOutside}
 use Rattle.sedck_script.specs.Shortest.{SomeHasLength}
-use Rattle.sedck_flow.specs.Patterns.{StandsFor}
-use Rattle.sedck_flow.specs.Flow.{AreRestsAbove, AreRestsAtLeast}
-use Rattle.sedck_flow.specs.Private.Least.{IsFormed, IsLeastOfRests}
+use Rattle.sedck_flow.specs.Flow.{AreRestsAbove}
+use Rattle.sedck_flow.specs.Private.Least.{IsLeastOfRests}
 use Rattle.sedck_flow.proofs.ExpressionPatterns.{expressions_are_patterns}
 use Rattle.sedck_flow.proofs.References.{keeps_groups_or_not, different_groups, no_groups_of_previous}
 

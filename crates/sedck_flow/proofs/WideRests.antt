@@ -1,17 +1,6 @@
 -- What no match has less than as its rest, no wide match has less than.
-use Rattle.std.proofs.Common.{ℕ, ◌+◌, ◌≤◌, List, length, Contains, sym, subst, arith}
-use Rattle.std.proofs.lemmas.List.Elements.{All-contains}
-use Rattle.sedck_bre.proofs.DifferentGroups.{AreDifferentTopGroups, wide_rest_of}
-use Rattle.sedck_expressions.specs.WellFormed.{IsWellFormed}
-use Rattle.sedck_bre.specs.Rests.{texts_length}
-use Rattle.sedck_expressions.specs.Tree.{Tree}
-use Rattle.sedck_bre.specs.Match.{Groups, no_groups}
-use Rattle.sedck_bre.specs.WideMatch.{WideMatch}
-use Rattle.sedck_script.specs.Invariant.{AreWellFormed}
-use Rattle.sedck_commands.specs.Program.{Pattern, Previous, Expression, Substitution, Program, expressions}
-use Rattle.sedck_commands.specs.References.{named_groups, AreDistinct, AreTopGroups, KeepsGroups}
-use Rattle.sedck_flow.specs.Patterns.{StandsFor}
-use Rattle.sedck_flow.specs.Flow.{AreRestsAtLeast}
+use Rattle.sedck_flow.proofs.Common.{ℕ, ◌+◌, ◌≤◌, List, length, Contains, sym, subst, arith, All-contains, AreDifferentTopGroups, IsWellFormed, texts_length, Tree, Groups, no_groups, WideMatch, AreWellFormed, Pattern, Previous, Expression, Substitution, Program, expressions, named_groups, AreDistinct, AreTopGroups, KeepsGroups, StandsFor, AreRestsAtLeast}
+use Rattle.sedck_bre.proofs.DifferentGroups.{wide_rest_of}
 use Rattle.sedck_flow.proofs.References.{different_groups, no_groups_of_previous}
 
 different : (p : Program) (pattern : Pattern) (tree : Tree) (ks : List ℕ) → StandsFor p pattern tree → AreDistinct ks → AreTopGroups pattern ks

@@ -1,15 +1,6 @@
 -- A step in one locale is a step in another one that allows all that the first one does with the script. So a run of POSIX is a wide run.
-use Rattle.std.proofs.Common.{◌≡◌, ◌⊎◌, ℕ, Bool, true, false, List, [], ◌∷◌, ◌++◌, refl, inl, inr}
-use Rattle.std.specs.Prelude.{Option, Some, None, MatchOption, MatchBool, slice_get}
-use Rattle.sedck_text.specs.Bytes.{newline}
-use Rattle.sedck_expressions.specs.Tree.{Tree}
-use Rattle.sedck_bre.specs.Match.{Groups, no_groups}
+use Rattle.sedck_flow.proofs.Common.{◌≡◌, ◌⊎◌, ℕ, Bool, true, false, List, [], ◌∷◌, ◌++◌, refl, inl, inr, Option, Some, None, MatchOption, MatchBool, slice_get, newline, Tree, Groups, no_groups, Pattern, Context, Address, One, Substitution, Verb, Substitute, Transliterate, Command, Program, StandsFor, Occurrence, AreMatchesIn, SubstitutesIn, Locale, Machine, State, Start, At, Done, Event, IsPartner, MayBecome, Transliterates, Does, MaySelect, MayNotSelect, StepPast, StepAt, StepIn, StepsIn, state_after, posix, WideTransliterates, any_locale}
 use Rattle.sedck_bre.proofs.MatchIsWide.{widens}
-use Rattle.sedck_commands.specs.Program.{Pattern, Context, Address, One, Substitution, Verb, Substitute, Transliterate, Command, Program}
-use Rattle.sedck_flow.specs.Patterns.{StandsFor}
-use Rattle.sedck_flow.specs.Substitutes.{Occurrence, AreMatchesIn, SubstitutesIn}
-use Rattle.sedck_flow.specs.Run.{Locale, Machine, State, Start, At, Done, Event, IsPartner, MayBecome, Transliterates, Does, MaySelect, MayNotSelect, StepPast, StepAt, StepIn, StepsIn, state_after, posix}
-use Rattle.sedck_flow.specs.WideRun.{WideTransliterates, any_locale}
 
 -- what the verb may do in the first locale it may do in the second one
 abbrev pub VerbWidens : Program → Locale → Locale → Verb → Type 0

@@ -1,6 +1,5 @@
-use Rattle.std.proofs.Common.{◌≡◌, length, get_or, ap, ◌∙◌, arith}
+use Rattle.sedck_flow.proofs.Common.{◌≡◌, length, get_or, ap, ◌∙◌, arith, number}
 use Rattle.std.proofs.lemmas.List.{get_or_default}
-use Rattle.sedck_flow.specs.Private.EdgeList.{number}
 use Rattle.sedck_flow.proofs.EdgeListLemmas.{adds}
 use Rattle.sedck_flow.proofs.edge_list.place_of.Goals as goal
 

@@ -1,5 +1,4 @@
-use Rattle.std.proofs.Common.{◌<◌, ℕ, get_or}
-use Rattle.sedck_flow.specs.Private.EdgeList.{number}
+use Rattle.sedck_flow.proofs.Common.{◌<◌, ℕ, get_or, number}
 use Rattle.sedck_flow.proofs.edge_list.place_of.Given as goal
 
 -- those so far are before the new one

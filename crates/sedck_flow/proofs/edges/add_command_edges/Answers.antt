@@ -1,6 +1,4 @@
-use Rattle.std.proofs.Common.{arith}
-use Rattle.sedck_script.specs.View.{command_of}
-use Rattle.sedck_flow.specs.Private.EdgeList.{Adds}
+use Rattle.sedck_flow.proofs.Common.{arith, command_of, Adds}
 use Rattle.sedck_flow.proofs.EdgesLemmas.{Applied, adds_skip}
 use Rattle.sedck_flow.proofs.edges.add_command_edges.Goals.{then-may_apply, else-may_apply}
 use Rattle.sedck_flow.proofs.edges.add_command_edges.Goals as goal

@@ -1,6 +1,4 @@
-use Rattle.std.proofs.Common.{ap, length, arith}
-use Rattle.std.proofs.lemmas.List.{length-map}
-use Rattle.sedck_script.specs.View.{command_of}
+use Rattle.sedck_flow.proofs.Common.{ap, length, arith, length-map, command_of}
 use Rattle.sedck_flow.proofs.EdgesLemmas.{at_command, at_end, has_target, has_formed, has_replacement, read_command, read_none}
 use Rattle.sedck_flow.proofs.edges.edges_of.Goals.{in-Some, in-None}
 use Rattle.sedck_flow.proofs.edges.edges_of.Goals as goal

@@ -1,5 +1,5 @@
-use Rattle.std.proofs.Common.{inl, inr}
-use Rattle.sedck_script.specs.View.{address_of, substitution_of}
+use Rattle.sedck_flow.proofs.Common.{inl, inr, substitution_of}
+use Rattle.sedck_script.specs.View.{address_of}
 use Rattle.sedck_flow.proofs.VerbLemmas.{drops, reads, substitutes, other_verb}
 use Rattle.sedck_flow.proofs.verbs.add_verb_edges.Goals as goal
 

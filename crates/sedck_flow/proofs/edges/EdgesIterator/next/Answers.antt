@@ -1,5 +1,5 @@
-use Rattle.std.proofs.Common.{map, add-one, sym, ap, ◌∙◌}
-use Rattle.sedck_flow.specs.Private.EdgeList.{edge_to}
+use Rattle.sedck_flow.proofs.Common.{map, sym, ap, ◌∙◌, edge_to}
+use Rattle.std.proofs.Common.{add-one}
 use Rattle.sedck_flow.proofs.EdgesLemmas.{drop_next}
 use Rattle.sedck_flow.proofs.edges.EdgesIterator.next.Goals as goal
 
