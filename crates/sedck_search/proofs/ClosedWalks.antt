@@ -1,26 +1,8 @@
 -- A closing edge, known by two counts that are the same, and the obstacle that begins with it.
-use Rattle.std.proofs.Common.{◌≡◌, ℕ, ◌<◌, ◌≤◌, List, [], ◌∷◌, ◌++◌, length, refl, sym, ap, ◌∙◌, subst, inl, inr, arith}
-use Rattle.std.specs.Prelude.{Some, slice_get}
-use Rattle.std.proofs.lemmas.Bool.{cases_lt}
-use Rattle.std.proofs.lemmas.Option.{slice_get_within, same_Some}
-use Rattle.sedck_script.specs.Invariant.{IsScript}
-use Rattle.sedck_commands.specs.Program.{Program}
-use Rattle.sedck_flow.specs.Nodes.{start, node_index}
-use Rattle.sedck_flow.specs.declared.graph.Node.{Node}
-use Rattle.sedck_flow.specs.declared.graph.Edge.{Edge}
-use Rattle.sedck_flow.specs.declared.graph.Kind.{Kind}
-use Rattle.sedck_flow.specs.declared.graph.Kind.TheVariants.{Consume, Keep, Grow}
-use Rattle.sedck_flow.proofs.NodeLemmas.{node_same, index-before}
-use Rattle.sedck_search.specs.Obstacle.{IsPath, IsReachable, IsObstacle, IsSought, HasForm, HasNone, HasOnly, BeginsGrowing, IsFirst, HasNoIdle, IsChosen}
+use Rattle.sedck_search.proofs.Common.{◌≡◌, ℕ, ◌<◌, ◌≤◌, List, [], ◌∷◌, ◌++◌, length, refl, sym, ap, ◌∙◌, subst, inl, inr, arith, Some, slice_get, cases_lt, slice_get_within, same_Some, IsScript, Program, start, node_index, Node, Edge, Kind, Consume, Keep, Grow, node_same, IsPath, IsReachable, IsObstacle, HasForm, HasNone, HasOnly, IsFollowed, AreFollowed, Reaches, FollowedEdge, IsReachCount, HasCount, AreCounted, closing_kind, back_filter, Closes, IsFirstClosing, IsBegun, IsClosing, IsShortestLoop, EdgeFilter, Unread, Kept, Form, Idle, Growing, Walk}
+use Rattle.sedck_flow.proofs.NodeLemmas.{index-before}
+use Rattle.sedck_search.specs.Obstacle.{IsSought, BeginsGrowing, IsFirst, HasNoIdle, IsChosen}
 use Rattle.sedck_search.specs.Found.{IsLoop}
-use Rattle.sedck_search.specs.Private.Reaching.{IsFollowed, AreFollowed, Reaches, FollowedEdge, IsReachCount, HasCount, AreCounted}
-use Rattle.sedck_search.specs.Private.Closing.{closing_kind, back_filter, Closes, IsFirstClosing}
-use Rattle.sedck_search.specs.Private.ShortestLoop.{IsBegun, IsClosing, IsShortestLoop}
-use Rattle.sedck_search.specs.declared.filter.EdgeFilter.{EdgeFilter}
-use Rattle.sedck_search.specs.declared.filter.EdgeFilter.TheVariants.{Unread, Kept}
-use Rattle.sedck_search.specs.declared.answer.Form.{Form}
-use Rattle.sedck_search.specs.declared.answer.Form.TheVariants.{Idle, Growing}
-use Rattle.sedck_search.specs.declared.answer.Walk.{Walk}
 use Rattle.sedck_search.proofs.Paths.{path-append, path_inside, reaches_edge}
 use Rattle.sedck_search.proofs.Counts.{count_falls, same_count}
 use Rattle.sedck_search.proofs.RuledOut.{ruled_out}

@@ -1,21 +1,9 @@
 -- What the counts of two nodes say of the paths between them.
-use Rattle.std.proofs.Common.{◌≡◌, ◌≢◌, ◌⊎◌, ℕ, ◌<◌, ◌≤◌, true, List, length, refl, sym, ◌∙◌, subst, inl, inr, arith}
-use Rattle.std.specs.Prelude.{Some, slice_get, set}
-use Rattle.std.proofs.lemmas.Bool.{cases_eq}
-use Rattle.std.proofs.lemmas.List.{length-set}
+use Rattle.sedck_search.proofs.Common.{◌≡◌, ◌≢◌, ◌⊎◌, ℕ, ◌<◌, ◌≤◌, true, List, length, refl, sym, ◌∙◌, subst, inl, inr, arith, Some, slice_get, set, cases_eq, length-set, slice_get_within, same_Some, Program, node_index, Node, IsNodeSet, IsClosed, Reaches, IsIn, IsReachCount, HasCount, HasNoCount, ArePartlyCounted, IsReachOf, IsKeptFor, AreKept, AreCounts, bit_count, IsReachable, EdgeFilter, node_same, node_at}
 use Rattle.std.proofs.lemmas.List.Elements.{All-contains}
-use Rattle.std.proofs.lemmas.Option.{slice_get_within, same_Some}
-use Rattle.sedck_commands.specs.Program.{Program}
-use Rattle.sedck_flow.specs.Nodes.{node_index}
-use Rattle.sedck_flow.specs.declared.graph.Node.{Node}
-use Rattle.sedck_search.specs.Private.NodeSet.{has, IsNodeSet}
-use Rattle.sedck_search.specs.Private.Reaching.{IsClosed, Reaches, IsIn, IsReachCount, HasCount, HasNoCount, IsUncounted, ArePartlyCounted, IsReachOf}
-use Rattle.sedck_search.specs.Private.KeptSets.{IsKeptFor, AreKept, AreCounts}
-use Rattle.sedck_search.specs.Rows.{bit_count}
-use Rattle.sedck_search.specs.Obstacle.{IsReachable}
-use Rattle.sedck_search.specs.declared.filter.EdgeFilter.{EdgeFilter}
+use Rattle.sedck_search.specs.Private.NodeSet.{has}
+use Rattle.sedck_search.specs.Private.Reaching.{IsUncounted}
 use Rattle.sedck_search.proofs.NodeSets.{fewer_or_same, same_nodes, counts_node, count_within}
-use Rattle.sedck_flow.proofs.NodeLemmas.{node_same, node_at}
 use Rattle.sedck_search.proofs.Scans.{set_same, set_other}
 use Rattle.sedck_search.proofs.Paths.{reaches_self, reaches-trans, closed_reaches}
 

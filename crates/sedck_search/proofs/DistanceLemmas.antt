@@ -1,27 +1,11 @@
 -- Ways are as long as shortest paths.
-use Rattle.std.proofs.Common.{◌≡◌, ◌≢◌, ℕ, zero, suc, ◌+◌, ◌<◌, ◌≤◌, List, [], ◌∷◌, ◌++◌, length, get_or, Contains, refl, sym, ap, ◌∙◌, subst, subst₂, inl, inr, arith}
-use Rattle.std.specs.Prelude.{Some, slice_get, set, eqb, if◌then◌else◌, true}
-use Rattle.std.proofs.lemmas.List.{length-set}
+use Rattle.sedck_search.proofs.Common.{◌≡◌, ◌≢◌, ℕ, zero, suc, ◌+◌, ◌<◌, ◌≤◌, List, [], ◌∷◌, ◌++◌, length, get_or, Contains, refl, sym, ap, ◌∙◌, subst, subst₂, inl, inr, arith, Some, slice_get, set, eqb, if◌then◌else◌, length-set, cases_eq, nat_tests, slice_get-get_or, slice_get_within, get_or_from_slice_get, same_Some, IsScript, Program, node_index, node_count, Node, Edge, Kind, inside, node_same, index_below, IsPath, AreFollowed, FollowedEdge, IsIn, HasDistance, HasNeighborWithin, ArePathLengths, AreDistances, EdgeFilter}
+use Rattle.std.specs.Prelude.{true}
 use Rattle.std.specs.List.{remove}
 use Rattle.std.proofs.lemmas.List.Edits.{length-remove}
 use Rattle.std.proofs.lemmas.List.Sorted.{IsPermutation-remove, Contains-permutation}
-use Rattle.std.proofs.lemmas.Bool.{cases_eq}
-use Rattle.std.proofs.lemmas.Bool.Decides.{nat_tests}
-use Rattle.std.proofs.lemmas.Option.{slice_get-get_or, slice_get_within, get_or_from_slice_get, same_Some}
-use Rattle.sedck_script.specs.Invariant.{IsScript}
-use Rattle.sedck_commands.specs.Program.{Program}
 use Rattle.sedck_script.proofs.SortedNames.{Contains-cons_cases}
-use Rattle.sedck_flow.specs.Nodes.{node_index, node_count}
-use Rattle.sedck_flow.specs.declared.graph.Node.{Node}
-use Rattle.sedck_flow.specs.declared.graph.Edge.{Edge}
-use Rattle.sedck_flow.specs.declared.graph.Kind.{Kind}
-use Rattle.sedck_flow.proofs.EdgesInside.{inside}
-use Rattle.sedck_flow.proofs.NodeLemmas.{node_same, index_below}
 use Rattle.sedck_search.proofs.Scans.{set_same, set_other, entries_push as push_entry}
-use Rattle.sedck_search.specs.Obstacle.{IsPath}
-use Rattle.sedck_search.specs.Private.Reaching.{AreFollowed, FollowedEdge, IsIn}
-use Rattle.sedck_search.specs.Private.Distances.{HasDistance, HasNeighborWithin, ArePathLengths, AreDistances}
-use Rattle.sedck_search.specs.declared.filter.EdgeFilter.{EdgeFilter}
 
 -- ---- A list with all numbers up to one is longer than it
 

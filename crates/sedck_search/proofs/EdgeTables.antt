@@ -1,17 +1,8 @@
 -- A table of edges, to which those of one node more are added.
-use Rattle.std.proofs.Common.{◌≡◌, ℕ, suc, ◌+◌, ◌-◌, ◌<◌, ◌≤◌, List, [], ◌∷◌, ◌++◌, length, take, drop, sym, ap, ap₂, ◌∙◌, subst, subst₂, inl, inr, length-append, arith}
-use Rattle.std.specs.Prelude.{slice_index}
+use Rattle.sedck_search.proofs.Common.{◌≡◌, ℕ, suc, ◌+◌, ◌-◌, ◌<◌, ◌≤◌, List, [], ◌∷◌, ◌++◌, length, take, drop, sym, ap, ap₂, ◌∙◌, subst, subst₂, inl, inr, length-append, arith, slice_index, cases_lt, length-drop, take-append-le, take_all, Program, node_index, FlowFrom, ListsEdges, Node, Edge, node_same, ListsNodes}
 use Rattle.std.specs.List.{slice_range}
 use Rattle.std.proofs.Math.Seq.{drop-append_seam}
-use Rattle.std.proofs.lemmas.Bool.{cases_lt}
-use Rattle.std.proofs.lemmas.List.{length_push, length-drop, get_or_append_left, get_or_push, take-append-le, drop-append-le, take_all}
-use Rattle.sedck_commands.specs.Program.{Program}
-use Rattle.sedck_flow.specs.Nodes.{node_index}
-use Rattle.sedck_flow.specs.Flow.{FlowFrom, ListsEdges}
-use Rattle.sedck_flow.specs.declared.graph.Node.{Node}
-use Rattle.sedck_flow.specs.declared.graph.Edge.{Edge}
-use Rattle.sedck_flow.proofs.NodeLemmas.{node_same}
-use Rattle.sedck_search.specs.Private.EdgeTable.{ListsNodes}
+use Rattle.std.proofs.lemmas.List.{length_push, get_or_append_left, get_or_push, drop-append-le}
 
 -- a part of a list is the same part of a longer one
 range_kept : {A : Type 0} (xs more : List A) (start end : ℕ) → start ≤ end → end ≤ length xs → slice_range (xs ++ more) start end ≡ slice_range xs start end

@@ -1,17 +1,7 @@
 -- How sets of reached nodes grow.
-use Rattle.std.proofs.Common.{◌≡◌, ◌⊎◌, ℕ, ◌+◌, ◌-◌, ◌*◌, ◌<◌, ◌≤◌, true, false, List, refl, sym, ap, subst, inl, inr, arith}
-use Rattle.std.proofs.lemmas.Bool.{cases_eq}
-use Rattle.sedck_commands.specs.Program.{Program}
-use Rattle.sedck_flow.specs.Nodes.{node_index}
-use Rattle.sedck_flow.specs.declared.graph.Node.{Node}
-use Rattle.sedck_flow.specs.declared.graph.Edge.{Edge}
-use Rattle.sedck_search.specs.Rows.{bit_count}
-use Rattle.sedck_search.specs.Private.NodeSet.{has, IsNodeSet, HasChanged, IsEmpty, IsUnion}
-use Rattle.sedck_search.specs.Private.Reaching.{IsIn, IsClosed, Reaches, FollowedEdge}
-use Rattle.sedck_search.specs.Private.Frontier.{AddsNode, AddsReached, AddsTargets, AreSearchSets}
-use Rattle.sedck_search.specs.declared.filter.EdgeFilter.{EdgeFilter}
+use Rattle.sedck_search.proofs.Common.{◌≡◌, ◌⊎◌, ℕ, ◌+◌, ◌-◌, ◌*◌, ◌<◌, ◌≤◌, true, false, List, refl, sym, ap, subst, inl, inr, arith, cases_eq, Program, node_index, Node, Edge, bit_count, IsNodeSet, HasChanged, IsEmpty, IsUnion, IsIn, IsClosed, Reaches, FollowedEdge, AddsNode, AddsReached, AddsTargets, AreSearchSets, EdgeFilter, node_same, node_at}
+use Rattle.sedck_search.specs.Private.NodeSet.{has}
 use Rattle.sedck_search.proofs.NodeSets.{inserted_count, removed_count, count_within, fewer_or_same, not_both}
-use Rattle.sedck_flow.proofs.NodeLemmas.{node_same, node_at}
 use Rattle.sedck_search.proofs.Paths.{reaches_self, reaches-trans}
 
 -- ---- Nodes put into a set

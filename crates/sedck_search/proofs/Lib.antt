@@ -1,3 +1,4 @@
+mod Common
 pub mod NodeSets
 mod EdgeTables
 mod Totals

@@ -1,15 +1,6 @@
 -- Links of nodes in the depth-first search, and what members of a component count.
-use Rattle.std.proofs.Common.{◌≡◌, ℕ, ◌<◌, ◌≤◌, List, length, sym, ap, ◌∙◌, subst, arith}
-use Rattle.std.specs.Prelude.{Some, slice_get, set}
-use Rattle.sedck_commands.specs.Program.{Program}
-use Rattle.sedck_flow.specs.Nodes.{node_index, node_count}
-use Rattle.sedck_flow.specs.declared.graph.Node.{Node}
-use Rattle.sedck_flow.proofs.NodeLemmas.{node_same}
-use Rattle.sedck_search.specs.Rows.{bit_count}
-use Rattle.sedck_search.specs.Private.NodeSet.{IsNodeSet}
-use Rattle.sedck_search.specs.Private.Reaching.{ArePartlyCounted, IsClosed, Reaches}
-use Rattle.sedck_search.specs.Private.Components.{AreLinks, IsMember, IsOrder, IsOrderOf}
-use Rattle.sedck_search.specs.declared.filter.EdgeFilter.{EdgeFilter}
+use Rattle.sedck_search.proofs.Common.{◌≡◌, ℕ, ◌<◌, ◌≤◌, List, length, sym, ap, ◌∙◌, subst, arith, Some, slice_get, set, Program, node_index, node_count, Node, node_same, bit_count, IsNodeSet, ArePartlyCounted, IsClosed, Reaches, IsMember, IsOrderOf, EdgeFilter}
+use Rattle.sedck_search.specs.Private.Components.{AreLinks, IsOrder}
 use Rattle.sedck_search.specs.declared.order.Order.{Order}
 use Rattle.sedck_search.proofs.NodeSets.{counts_node, count_within}
 use Rattle.sedck_search.proofs.Scans.{set_same, set_other}

@@ -1,11 +1,8 @@
 -- The first node of a set from a node on, in the word of its lowest bit.
-use Rattle.std.proofs.Common.{◌≡◌, ◌≢◌, ℕ, ◌+◌, ◌-◌, ◌*◌, ◌/◌, ◌%◌, ◌^◌, ◌<◌, ◌≤◌, min, true, false, List, inl, inr, refl, sym, ap, ◌∙◌, subst, arith}
-use Rattle.std.specs.Prelude.{slice_index, bit_and}
-use Rattle.std.specs.Int.{bit_at, w64, trailing_zeros}
-use Rattle.std.proofs.lemmas.Bool.{cases_lt}
-use Rattle.std.proofs.lemmas.Nat.{and_le_l}
-use Rattle.std.proofs.lemmas.Nat.Bits.{bit_at-lt, bit_at-zero, bit_at_and, bit_at_mask_inside, bit_at_mask_below, ones_shl, bit_at-trailing_zeros}
-use Rattle.sedck_search.specs.Private.NodeSet.{has, IsNodeSet, IsNext}
+use Rattle.sedck_search.proofs.Common.{◌≡◌, ◌≢◌, ℕ, ◌+◌, ◌-◌, ◌*◌, ◌/◌, ◌%◌, ◌^◌, ◌<◌, ◌≤◌, min, true, false, List, inl, inr, refl, sym, ap, ◌∙◌, subst, arith, slice_index, bit_and, bit_at, cases_lt, and_le_l, bit_at-lt, bit_at-zero, IsNodeSet}
+use Rattle.std.specs.Int.{w64, trailing_zeros}
+use Rattle.std.proofs.lemmas.Nat.Bits.{bit_at_and, bit_at_mask_inside, bit_at_mask_below, ones_shl, bit_at-trailing_zeros}
+use Rattle.sedck_search.specs.Private.NodeSet.{has, IsNext}
 use Rattle.sedck_search.proofs.NodeBits.{has_at, word_below, none_behind}
 
 -- The word has the bits of word j of the set whose nodes aren't before the given one, and no other; and no node lies between that one and word j.

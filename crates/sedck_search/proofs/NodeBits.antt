@@ -1,16 +1,13 @@
 -- A node of a set as a bit of a word.
-use Rattle.std.proofs.Common.{◌≡◌, ◌≢◌, ◌⊎◌, ℕ, zero, suc, ◌+◌, ◌-◌, ◌*◌, ◌/◌, ◌%◌, ◌^◌, ◌<◌, ◌≤◌, Bool, true, false, cond, List, length, set, replicate, inl, inr, subst, max, refl, sym, ap, ◌∙◌, arith, get_or-set_other, get_or-set_same, length-set}
+use Rattle.sedck_search.proofs.Common.{◌≡◌, ◌≢◌, ◌⊎◌, ℕ, zero, suc, ◌+◌, ◌-◌, ◌*◌, ◌/◌, ◌%◌, ◌^◌, ◌<◌, ◌≤◌, Bool, true, false, List, length, replicate, inl, inr, subst, refl, sym, ap, ◌∙◌, arith, slice_index, bit_and, bit_or, ◌==◌, bit_at, cases_eq, nat_tests, bit_at-lt, bit_at-zero, and_le_l, bit_count, AreZeroBefore, IsNodeSet, IsEmpty, HasChanged, IsUnion}
+use Rattle.std.proofs.Common.{cond, set, max, get_or-set_other, get_or-set_same, length-set}
 use lib.Count.{ones}
-use Rattle.std.specs.Prelude.{slice_index, bit_and, bit_or, ◌==◌}
-use Rattle.std.specs.Int.{bit_at, w64}
-use Rattle.std.proofs.lemmas.Bool.{cases_eq}
-use Rattle.std.proofs.lemmas.Bool.Decides.{nat_tests}
-use Rattle.std.proofs.lemmas.Nat.Bits.{bit_at-lt, bit_at-zero, bit_at_set_same, bit_at_set_other, bit_at_clear_same, bit_at_clear_other, bit_at_or}
-use Rattle.std.proofs.lemmas.Nat.{or_lt, and_le_l}
+use Rattle.std.specs.Int.{w64}
+use Rattle.std.proofs.lemmas.Nat.Bits.{bit_at_set_same, bit_at_set_other, bit_at_clear_same, bit_at_clear_other, bit_at_or}
+use Rattle.std.proofs.lemmas.Nat.{or_lt}
 use Rattle.std.proofs.lemmas.List.{get_or_past}
 use Rattle.std.proofs.lemmas.List.Elements.{All-get_or, All-set, All-replicate, All-from_get_or}
-use Rattle.sedck_search.specs.Rows.{bit_count}
-use Rattle.sedck_search.specs.Private.NodeSet.{has, AreZeroBefore, IsNodeSet, IsEmpty, HasChanged, IsUnion, AreWordsOfBoth}
+use Rattle.sedck_search.specs.Private.NodeSet.{has, AreWordsOfBoth}
 
 abbrev pub bit_of : Bool → ℕ
 bit_of b = cond b 1 0

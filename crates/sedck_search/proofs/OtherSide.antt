@@ -1,18 +1,10 @@
 -- Where no command asks for the last line, edges on which no line is read lead alike before it and on it.
-use Rattle.std.proofs.Common.{◌≡◌, ◌≢◌, ℕ, Bool, true, false, List, [], ◌∷◌, length, refl, ap, inl, inr}
-use Rattle.std.specs.Prelude.{Option, Some, None, MatchOption, MatchBool, slice_get, if◌then◌else◌}
-use Rattle.sedck_commands.specs.Program.{Last, Address, One, Two, Verb, Block, Change, Delete, DeleteFirstLine, Next, NextAppend, Quit, Substitute, Test, Command, Program}
-use Rattle.sedck_flow.specs.Nodes.{start, moved_to, next, with_flag}
-use Rattle.sedck_flow.specs.Flow.{MaySelectAt, MayNotSelectAt, ReadsLine, VerbEdge, node_past, CommandEdge, Flow}
-use Rattle.sedck_flow.specs.declared.graph.Node.{Node}
-use Rattle.sedck_flow.specs.declared.graph.Edge.{Edge}
-use Rattle.sedck_flow.specs.declared.graph.Kind.{Kind}
-use Rattle.sedck_flow.specs.declared.graph.Kind.TheVariants.{Consume, Keep}
-use Rattle.sedck_search.specs.Obstacle.{IsPath}
-use Rattle.sedck_search.specs.Private.OtherSide.{turned, turned_edge, IsLastAlone, AsksNotForLast}
-use Rattle.sedck_search.specs.Private.Reaching.{IsFollowed, AreFollowed, Reaches}
-use Rattle.sedck_search.specs.declared.filter.EdgeFilter.{EdgeFilter}
-use Rattle.sedck_search.specs.declared.filter.EdgeFilter.TheVariants.{Every, Unread, Kept}
+use Rattle.sedck_search.proofs.Common.{◌≡◌, ◌≢◌, ℕ, Bool, true, false, List, [], ◌∷◌, length, refl, ap, inl, inr, Some, None, MatchOption, slice_get, if◌then◌else◌, Command, Program, start, Flow, Node, Edge, Kind, Consume, Keep, IsPath, turned, IsLastAlone, AsksNotForLast, IsFollowed, AreFollowed, Reaches, EdgeFilter, Every, Unread, Kept}
+use Rattle.std.specs.Prelude.{Option, MatchBool}
+use Rattle.sedck_commands.specs.Program.{Last, Address, One, Two, Verb, Block, Change, Delete, DeleteFirstLine, Next, NextAppend, Quit, Substitute, Test}
+use Rattle.sedck_flow.specs.Nodes.{moved_to, next, with_flag}
+use Rattle.sedck_flow.specs.Flow.{MaySelectAt, MayNotSelectAt, ReadsLine, VerbEdge, node_past, CommandEdge}
+use Rattle.sedck_search.specs.Private.OtherSide.{turned_edge}
 
 -- ---- What is selected
 

@@ -1,18 +1,7 @@
 -- Paths over followed edges, and sets that no followed edge leaves.
-use Rattle.std.proofs.Common.{ℕ, ◌<◌, ◌≤◌, List, [], ◌∷◌, ◌++◌, length, refl, sym, subst, arith}
-use Rattle.sedck_script.specs.Invariant.{AreTargetsWithin, IsScript}
-use Rattle.sedck_commands.specs.Program.{Program}
-use Rattle.sedck_flow.specs.Nodes.{node_index}
-use Rattle.sedck_flow.specs.Flow.{FlowFrom}
-use Rattle.sedck_flow.specs.declared.graph.Node.{Node}
-use Rattle.sedck_flow.specs.declared.graph.Edge.{Edge}
-use Rattle.sedck_flow.specs.declared.graph.Kind.{Kind}
-use Rattle.sedck_flow.proofs.EdgesInside.{inside}
+use Rattle.sedck_search.proofs.Common.{ℕ, ◌<◌, ◌≤◌, List, [], ◌∷◌, ◌++◌, length, refl, sym, subst, arith, IsScript, Program, node_index, FlowFrom, Node, Edge, Kind, inside, IsPath, IsFollowed, AreFollowed, Reaches, FollowedEdge, IsIn, IsClosed, EdgeFilter, Every}
+use Rattle.sedck_script.specs.Invariant.{AreTargetsWithin}
 use Rattle.sedck_flow.proofs.NodeLemmas as nodes
-use Rattle.sedck_search.specs.Obstacle.{IsPath}
-use Rattle.sedck_search.specs.Private.Reaching.{IsFollowed, AreFollowed, Reaches, FollowedEdge, IsIn, IsClosed}
-use Rattle.sedck_search.specs.declared.filter.EdgeFilter.{EdgeFilter}
-use Rattle.sedck_search.specs.declared.filter.EdgeFilter.TheVariants.{Every}
 
 -- ---- Nodes and their places among all nodes
 

@@ -1,16 +1,9 @@
 -- A walk between nodes that know the last line, without what they say of it.
-use Rattle.std.proofs.Common.{◌≡◌, ◌≢◌, ◌<◌, List, [], ◌∷◌, length, ap, inl, inr, arith}
-use Rattle.sedck_commands.specs.Program.{Program}
+use Rattle.sedck_search.proofs.Common.{◌≡◌, ◌≢◌, ◌<◌, List, [], ◌∷◌, length, ap, inl, inr, arith, Program, Node, Kind, Consume, Keep, Grow, IsPath, HasNone, HasSome, HasOnly, HasForm, IsObstacle, Form, Idle, Growing}
 use Rattle.sedck_flow.specs.Flow.{HasKind}
 use Rattle.sedck_flow.specs.VersionOne.{plain_node}
-use Rattle.sedck_flow.specs.declared.graph.Node.{Node}
-use Rattle.sedck_flow.specs.declared.graph.Kind.{Kind}
-use Rattle.sedck_flow.specs.declared.graph.Kind.TheVariants.{Consume, Keep, Grow}
 use Rattle.sedck_flow.proofs.PlainEdges.{plain}
-use Rattle.sedck_search.specs.Obstacle.{IsPath, HasNone, HasSome, HasOnly, HasForm, IsObstacle}
 use Rattle.sedck_search.specs.VersionOne.{IsPathOne, AllAre, SomeIs, HasFormOne, IsObstacleOne, plain_walk}
-use Rattle.sedck_search.specs.declared.answer.Form.{Form}
-use Rattle.sedck_search.specs.declared.answer.Form.TheVariants.{Idle, Growing}
 
 path_plain : (p : Program) (from : Node) (path : List (Kind × Node)) (to : Node) → IsPath p from path to
     → IsPathOne (HasKind p) p (plain_node from) (plain_walk path) (plain_node to)

@@ -1,30 +1,14 @@
 -- Counts are ranks where no edge closes a walk.
-use Rattle.std.proofs.Common.{◌≡◌, ◌⊎◌, ℕ, zero, suc, ◌+◌, ◌<◌, ◌≤◌, Bool, List, [], ◌∷◌, ◌++◌, length, get_or, refl, sym, ap, ◌∙◌, subst, subst₂, inl, inr, arith}
-use Rattle.std.specs.Prelude.{Some, None, slice_get, All}
+use Rattle.sedck_search.proofs.Common.{◌≡◌, ◌⊎◌, ℕ, zero, suc, ◌+◌, ◌<◌, ◌≤◌, Bool, List, [], ◌∷◌, ◌++◌, length, get_or, refl, sym, ap, ◌∙◌, subst, subst₂, inl, inr, arith, Some, None, slice_get, All, cases_lt, same_Some, IsScript, Program, inside, start, node_index, node_count, Flow, Node, Edge, Kind, Consume, Keep, Grow, Certificate, ranks_at, Lowers, IsRanked, Accepts, IsReachable, HasCount, HasNoCount, AreCounted, Closes, ranks_of_counts, ranks_from, Unread, Kept}
 use Rattle.std.specs.Option.{option_flatten}
-use Rattle.std.proofs.lemmas.Bool.{cases_lt}
-use Rattle.std.proofs.lemmas.Option.{same_Some}
-use Rattle.sedck_script.specs.Invariant.{IsScript}
-use Rattle.sedck_commands.specs.Program.{Program}
 use Rattle.sedck_script.specs.Names.{AreNames, names_size, reads, writes}
 use Rattle.sedck_flow.specs.Run.{NamesForReading, NamesForWriting}
-use Rattle.sedck_flow.proofs.EdgesInside.{inside}
 use Rattle.sedck_cert.proofs.NamesListed.{reads_listed, writes_listed}
 use Rattle.std.proofs.lemmas.List.Elements.{All-nil, All-cons}
-use Rattle.sedck_flow.specs.Nodes.{start, node_index, node_count}
-use Rattle.sedck_flow.specs.Flow.{Flow}
-use Rattle.sedck_flow.specs.declared.graph.Node.{Node}
-use Rattle.sedck_flow.specs.declared.graph.Edge.{Edge}
-use Rattle.sedck_flow.specs.declared.graph.Kind.{Kind}
-use Rattle.sedck_flow.specs.declared.graph.Kind.TheVariants.{Consume, Shorten, Keep, Grow}
+use Rattle.sedck_flow.specs.declared.graph.Kind.TheVariants.{Shorten}
 use Rattle.sedck_cert.specs.declared.versions.Version.TheVariants.{Two}
-use Rattle.sedck_cert.specs.Certificate.{Certificate, IsCertificate, AreWithin}
-use Rattle.sedck_cert.specs.Ranked.{ranks_at, Lowers, ListsNames, IsRanked, Accepts}
-use Rattle.sedck_search.specs.Obstacle.{IsReachable}
-use Rattle.sedck_search.specs.Private.Reaching.{HasCount, HasNoCount, AreCounted}
-use Rattle.sedck_search.specs.Private.Closing.{Closes}
-use Rattle.sedck_search.specs.Private.Ranking.{ranks_of_counts, ranks_from}
-use Rattle.sedck_search.specs.declared.filter.EdgeFilter.TheVariants.{Unread, Kept}
+use Rattle.sedck_cert.specs.Certificate.{IsCertificate, AreWithin}
+use Rattle.sedck_cert.specs.Ranked.{ListsNames}
 use Rattle.sedck_search.proofs.Paths.{reaches_edge}
 use Rattle.sedck_search.proofs.Counts.{count_falls}
 use Rattle.sedck_search.proofs.DistanceLemmas.{distance_at}

@@ -1,16 +1,7 @@
 -- Where the pattern space is kept whenever no line is read, a node reaches the same nodes over the edges of either filter.
-use Rattle.std.proofs.Common.{◌≡◌, ℕ, List, [], ◌∷◌, inl, inr}
+use Rattle.sedck_search.proofs.Common.{◌≡◌, ℕ, List, [], ◌∷◌, inl, inr, Program, Node, Edge, Kind, Consume, Keep, Grow, IsPath, IsReachable, AreFollowed, Reaches, IsReachOf, HasCount, HasNoCount, AreCounted, Closes, Unread, Kept}
 use Rattle.std.specs.Prelude.{◌⊎◌}
-use Rattle.sedck_commands.specs.Program.{Program}
-use Rattle.sedck_flow.specs.declared.graph.Node.{Node}
-use Rattle.sedck_flow.specs.declared.graph.Edge.{Edge}
-use Rattle.sedck_flow.specs.declared.graph.Kind.{Kind}
-use Rattle.sedck_flow.specs.declared.graph.Kind.TheVariants.{Consume, Keep, Grow}
-use Rattle.sedck_search.specs.Obstacle.{IsPath, IsReachable}
-use Rattle.sedck_search.specs.Private.Reaching.{AreFollowed, Reaches, IsReachOf, HasCount, HasNoCount, AreCounted}
-use Rattle.sedck_search.specs.Private.Closing.{Closes}
 use Rattle.sedck_search.specs.Private.SameRanks.{KeepsSpace}
-use Rattle.sedck_search.specs.declared.filter.EdgeFilter.TheVariants.{Unread, Kept}
 
 module _ (p : Program) (keeps : KeepsSpace p) where
   kept_path : (path : List (Kind × Node)) (from to : Node) → IsPath p from path to → AreFollowed Unread path → AreFollowed Kept path

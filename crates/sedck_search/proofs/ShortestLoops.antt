@@ -1,21 +1,7 @@
 -- Walks, written edge by edge.
-use Rattle.std.proofs.Common.{◌≡◌, ℕ, suc, ◌+◌, ◌<◌, ◌≤◌, List, [], ◌∷◌, ◌++◌, length, refl, sym, ap, ◌∙◌, subst, arith}
+use Rattle.sedck_search.proofs.Common.{◌≡◌, ℕ, suc, ◌+◌, ◌<◌, ◌≤◌, List, [], ◌∷◌, ◌++◌, length, refl, sym, ap, ◌∙◌, subst, arith, IsScript, Program, Flow, Node, Edge, Kind, inside, IsPath, AreFollowed, FollowedEdge, IsIn, HasDistance, AreDistances, back_filter, closing_kind, IsBegun, IsClosing, IsNearest, IsShortestLoop, EdgeFilter, Form, Walk}
 use Rattle.std.proofs.lemmas.List.{length-append}
-use Rattle.sedck_script.specs.Invariant.{IsScript}
-use Rattle.sedck_commands.specs.Program.{Program}
-use Rattle.sedck_flow.specs.Flow.{Flow}
-use Rattle.sedck_flow.specs.declared.graph.Node.{Node}
-use Rattle.sedck_flow.specs.declared.graph.Edge.{Edge}
-use Rattle.sedck_flow.specs.declared.graph.Kind.{Kind}
-use Rattle.sedck_flow.proofs.EdgesInside.{inside}
-use Rattle.sedck_search.specs.Obstacle.{IsPath, IsWalk, walk_edges}
-use Rattle.sedck_search.specs.Private.Reaching.{AreFollowed, FollowedEdge, IsIn}
-use Rattle.sedck_search.specs.Private.Distances.{HasDistance, AreDistances}
-use Rattle.sedck_search.specs.Private.Closing.{back_filter, closing_kind}
-use Rattle.sedck_search.specs.Private.ShortestLoop.{IsBegun, IsClosing, IsNearest, IsShortestLoop}
-use Rattle.sedck_search.specs.declared.filter.EdgeFilter.{EdgeFilter}
-use Rattle.sedck_search.specs.declared.answer.Form.{Form}
-use Rattle.sedck_search.specs.declared.answer.Walk.{Walk}
+use Rattle.sedck_search.specs.Obstacle.{IsWalk, walk_edges}
 use Rattle.sedck_search.proofs.ClosedWalks.{closing_follows}
 use Rattle.sedck_search.proofs.Paths.{path-append, followed-append}
 use Rattle.sedck_search.proofs.DistanceLemmas.{distance_least}

@@ -1,15 +1,11 @@
 -- Sums of a function over the numbers below a limit: with them bits are counted one by one.
-use Rattle.std.proofs.Common.{◌≡◌, ◌≢◌, ℕ, zero, suc, ◌+◌, ◌-◌, ◌*◌, ◌<◌, ◌≤◌, ◌^◌, ◌/◌, List, [], ◌∷◌, ◌++◌, length, take, drop, Fits, w64, refl, sym, ap, ◌∙◌, arith, zero-add, add-zero, add_assoc}
-use Rattle.std.specs.Prelude.{slice_index, count_ones}
-use Rattle.std.specs.Int.{bit_at}
+use Rattle.sedck_search.proofs.Common.{◌≡◌, ◌≢◌, ℕ, zero, suc, ◌+◌, ◌-◌, ◌*◌, ◌<◌, ◌≤◌, ◌^◌, ◌/◌, List, [], ◌∷◌, ◌++◌, length, take, drop, Fits, w64, refl, sym, ap, ◌∙◌, arith, slice_index, count_ones, bit_at, take-append-drop, take_all, length-drop, ones-le, bit_count, AreZeroBefore}
+use Rattle.std.proofs.Common.{zero-add, add-zero, add_assoc}
 use Rattle.std.specs.Int.Count.{ones_step}
 use Rattle.std.proofs.Math.Nat.{pow-suc}
 use Rattle.std.proofs.Math.Facts.{Fits-lt-pow}
-use Rattle.std.proofs.lemmas.List.{take-append-drop, take_more, take_all, length-drop}
-use Rattle.std.proofs.lemmas.Nat.{ones-le}
+use Rattle.std.proofs.lemmas.List.{take_more}
 use Rattle.std.proofs.lemmas.Nat.Bits.{bit_at_lowest, bit_at-suc}
-use Rattle.sedck_search.specs.Rows.{bit_count}
-use Rattle.sedck_search.specs.Private.NodeSet.{AreZeroBefore}
 
 pub total : (ℕ → ℕ) → ℕ → ℕ
 total f zero = zero

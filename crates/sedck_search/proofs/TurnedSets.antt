@@ -1,17 +1,8 @@
 -- A set of nodes, each turned to the other side of the last line, has as many nodes.
-use Rattle.std.proofs.Common.{◌≡◌, ◌≢◌, ℕ, zero, suc, ◌+◌, ◌*◌, ◌/◌, ◌<◌, ◌≤◌, Bool, true, false, List, replicate, set, refl, sym, ap, ◌∙◌, subst, arith}
+use Rattle.sedck_search.proofs.Common.{◌≡◌, ◌≢◌, ℕ, zero, suc, ◌+◌, ◌*◌, ◌/◌, ◌<◌, ◌≤◌, Bool, true, false, List, replicate, refl, sym, ap, ◌∙◌, subst, arith, nat_tests, Program, node_index, nth_node, Node, node_same, index-nth, bit_count, IsNodeSet, HasChanged, turned, AsksNotForLast, IsIn, Reaches, IsReachCount, EdgeFilter, Every}
+use Rattle.std.proofs.Common.{set}
 use Rattle.std.specs.Prelude.{◌%◌}
-use Rattle.std.proofs.lemmas.Bool.Decides.{nat_tests}
-use Rattle.sedck_commands.specs.Program.{Program}
-use Rattle.sedck_flow.specs.Nodes.{node_index, nth_node}
-use Rattle.sedck_flow.specs.declared.graph.Node.{Node}
-use Rattle.sedck_flow.proofs.NodeLemmas.{node_same, index-nth}
-use Rattle.sedck_search.specs.Rows.{bit_count}
-use Rattle.sedck_search.specs.Private.NodeSet.{has, IsNodeSet, HasChanged}
-use Rattle.sedck_search.specs.Private.OtherSide.{turned, AsksNotForLast}
-use Rattle.sedck_search.specs.Private.Reaching.{IsIn, Reaches, IsReachCount}
-use Rattle.sedck_search.specs.declared.filter.EdgeFilter.{EdgeFilter}
-use Rattle.sedck_search.specs.declared.filter.EdgeFilter.TheVariants.{Every}
+use Rattle.sedck_search.specs.Private.NodeSet.{has}
 use Rattle.sedck_search.proofs.NodeBits.{inserted, inserted_set, with_bit, bit_of, empty_set, empty_nodes, empty_count}
 use Rattle.sedck_search.proofs.NodeSets.{fewer_or_same, inserted_count, node_inside, not_both}
 use Rattle.sedck_search.proofs.OtherSide.{reaches_turned}

@@ -1,6 +1,4 @@
-use Rattle.std.proofs.Common.{◌<◌, length}
-use Rattle.sedck_search.specs.Private.Components.{AreSets, IsOrderOf}
-use Rattle.sedck_search.specs.Private.Reaching.{ArePartlyCounted}
+use Rattle.sedck_search.proofs.Common.{◌<◌, length, AreSets, IsOrderOf, ArePartlyCounted}
 use Rattle.sedck_search.proofs.components.count_from.Given as goal
 
 abbrev pub invariant-loop : goal.invariant-loop

@@ -1,4 +1,4 @@
-use Rattle.std.proofs.Common.{arith}
+use Rattle.sedck_search.proofs.Common.{arith}
 use Rattle.sedck_search.proofs.Links.{linked_order}
 use Rattle.sedck_search.proofs.components.finish.Goals as goal
 

@@ -1,7 +1,4 @@
-use Rattle.std.proofs.Common.{sym, ap, ◌∙◌, arith}
-use Rattle.std.specs.Prelude.{Some}
-use Rattle.sedck_flow.specs.Nodes.{node_index}
-use Rattle.sedck_flow.specs.declared.graph.Edge.{Edge}
+use Rattle.sedck_search.proofs.Common.{sym, ap, ◌∙◌, arith, Some, node_index, Edge}
 use Rattle.sedck_search.proofs.Paths.{reaches-trans, reaches_from}
 use Rattle.sedck_search.proofs.Scans.{scan_next, scan_more, edge_coming, target_coming, place_in, entry_is}
 use Rattle.sedck_search.proofs.components.lowest_link.Goals as goal

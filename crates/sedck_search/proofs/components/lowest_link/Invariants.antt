@@ -1,7 +1,4 @@
-use Rattle.std.proofs.Common.{◌≡◌, ◌<◌, length}
-use Rattle.sedck_flow.specs.Nodes.{node_index}
-use Rattle.sedck_flow.specs.declared.graph.Node.{Node}
-use Rattle.sedck_search.specs.Private.Reaching.{Reaches}
+use Rattle.sedck_search.proofs.Common.{◌≡◌, ◌<◌, length, node_index, Node, Reaches}
 use Rattle.sedck_search.proofs.Scans.{AreScanned}
 use Rattle.sedck_search.proofs.components.lowest_link.Given as goal
 

@@ -1,4 +1,4 @@
-use Rattle.std.proofs.Common.{arith}
+use Rattle.sedck_search.proofs.Common.{arith}
 use Rattle.sedck_search.proofs.Scans.{scan_next, target_coming, place_in}
 use Rattle.sedck_search.proofs.components.next_unvisited.Goals as goal
 

@@ -1,9 +1,4 @@
-use Rattle.std.proofs.Common.{◌≡◌, ◌≤◌, sym, ◌∙◌, subst₂, arith}
-use Rattle.std.specs.Prelude.{set}
-use Rattle.std.proofs.lemmas.Option.{get_or_from_slice_get, same_Some}
-use Rattle.sedck_flow.specs.Nodes.{node_index}
-use Rattle.sedck_search.specs.Rows.{bit_count}
-use Rattle.sedck_search.specs.Private.Reaching.{ArePartlyCounted}
+use Rattle.sedck_search.proofs.Common.{◌≡◌, ◌≤◌, sym, ◌∙◌, subst₂, arith, set, get_or_from_slice_get, same_Some, node_index, bit_count, ArePartlyCounted}
 use Rattle.sedck_search.proofs.NodeSets.{counts_node, count_within}
 use Rattle.sedck_search.proofs.Paths.{reaches_self}
 use Rattle.sedck_search.proofs.Scans.{entry_is, set_same, set_other}

@@ -1,7 +1,4 @@
-use Rattle.std.proofs.Common.{◌≢◌, ℕ, ◌<◌}
-use Rattle.std.specs.Prelude.{Some, slice_get}
-use Rattle.sedck_search.specs.Private.Components.{AreSets}
-use Rattle.sedck_search.specs.Private.Reaching.{ArePartlyCounted}
+use Rattle.sedck_search.proofs.Common.{◌≢◌, ℕ, ◌<◌, Some, slice_get, AreSets, ArePartlyCounted}
 use Rattle.sedck_search.proofs.counting.count_rest.Given as goal
 
 -- the nodes so far are counted

@@ -1,5 +1,4 @@
-use Rattle.sedck_search.specs.Private.Components.{AreSets, IsOrderOf}
-use Rattle.sedck_search.specs.Private.Reaching.{ArePartlyCounted}
+use Rattle.sedck_search.proofs.Common.{AreSets, IsOrderOf, ArePartlyCounted}
 use Rattle.sedck_search.proofs.counting.count_side.Given as goal
 
 abbrev pub invariant-loop-step : goal.invariant-loop-step

@@ -1,7 +1,4 @@
-use Rattle.std.proofs.Common.{◌≡◌, ◌∙◌, length, drop, subst, sym, arith}
-use Rattle.std.proofs.lemmas.List.{take-append-le, take_all}
-use Rattle.sedck_flow.proofs.NodeLemmas.{node_same}
-use Rattle.sedck_search.specs.Private.Reaching.{AreCounted, Reaches}
+use Rattle.sedck_search.proofs.Common.{◌≡◌, ◌∙◌, length, drop, subst, sym, arith, take-append-le, take_all, node_same, AreCounted, Reaches}
 use Rattle.sedck_search.proofs.Paths.{reaches_self}
 use Rattle.sedck_search.proofs.counting.counts_of.Goals as goal
 

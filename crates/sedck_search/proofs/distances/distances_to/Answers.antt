@@ -1,10 +1,6 @@
-use Rattle.std.proofs.Common.{◌≡◌, ◌+◌, [], ◌∷◌, length, sym, ap, ◌∙◌, subst, arith}
-use Rattle.std.specs.Prelude.{slice_get, eqb, if◌then◌else◌}
+use Rattle.sedck_search.proofs.Common.{◌≡◌, ◌+◌, [], ◌∷◌, length, sym, ap, ◌∙◌, subst, arith, slice_get, eqb, if◌then◌else◌, length-map, command_of, node_index, node_count, ArePathLengths}
 use Rattle.std.proofs.lemmas.Bool.{ne_eqb}
-use Rattle.std.proofs.lemmas.List.{length-map, length-append}
-use Rattle.sedck_script.specs.View.{command_of}
-use Rattle.sedck_flow.specs.Nodes.{node_index, node_count}
-use Rattle.sedck_search.specs.Private.Distances.{ArePathLengths}
+use Rattle.std.proofs.lemmas.List.{length-append}
 use Rattle.sedck_search.proofs.DistanceLemmas.{first_distance, some_distances, entries_push, eqb_same}
 use Rattle.sedck_search.proofs.distances.distances_to.Goals.{then-index, else-index}
 use Rattle.sedck_search.proofs.distances.distances_to.Goals as goal

@@ -1,6 +1,4 @@
-use Rattle.std.proofs.Common.{◌≡◌, ℕ, ◌<◌, length}
-use Rattle.std.specs.Prelude.{Some, slice_get}
-use Rattle.sedck_flow.specs.Nodes.{node_index}
+use Rattle.sedck_search.proofs.Common.{◌≡◌, ℕ, ◌<◌, length, Some, slice_get, node_index}
 use Rattle.sedck_search.proofs.DistanceLemmas.{first_distance}
 use Rattle.sedck_search.proofs.distances.distances_to.Given as goal
 

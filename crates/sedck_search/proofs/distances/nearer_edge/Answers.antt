@@ -1,5 +1,4 @@
-use Rattle.std.proofs.Common.{◌<◌, length, sym, ◌∙◌, arith}
-use Rattle.std.proofs.lemmas.Bool.{true≢false}
+use Rattle.sedck_search.proofs.Common.{◌<◌, length, sym, ◌∙◌, arith, true≢false}
 use Rattle.sedck_search.proofs.Scans.{scan_next, scan_more, scan_end, edge_coming, target_coming, place_in, entry_is, entry_of}
 use Rattle.sedck_search.proofs.distances.nearer_edge.Goals.{else-follows-via-then-follows+else-distances-index, else-follows-via-else-follows}
 use Rattle.sedck_search.proofs.distances.nearer_edge.Goals as goal

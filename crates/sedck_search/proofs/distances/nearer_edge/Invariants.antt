@@ -1,5 +1,4 @@
-use Rattle.sedck_search.specs.Private.Reaching.{IsFollowed}
-use Rattle.sedck_search.specs.Private.Distances.{HasDistance}
+use Rattle.sedck_search.proofs.Common.{IsFollowed, HasDistance}
 use Rattle.sedck_search.proofs.Scans.{AreScanned}
 use Rattle.sedck_search.proofs.distances.nearer_edge.Given as goal
 

@@ -1,7 +1,5 @@
-use Rattle.std.proofs.Common.{◌≡◌, ◌<◌, ◌≤◌, ◌+◌, ℕ, List, Bool, true, false, length, sym, ap, ◌∙◌, subst, inl, inr, arith}
-use Rattle.std.proofs.lemmas.Bool.{cases_lt, true≢false}
-use Rattle.sedck_flow.specs.Nodes.{node_index}
-use Rattle.sedck_search.specs.Private.Distances.{IsSettled, total}
+use Rattle.sedck_search.proofs.Common.{◌≡◌, ◌<◌, ◌≤◌, ◌+◌, ℕ, List, Bool, true, false, length, sym, ap, ◌∙◌, subst, inl, inr, arith, cases_lt, true≢false, node_index, IsSettled}
+use Rattle.sedck_search.specs.Private.Distances.{total}
 use Rattle.sedck_search.proofs.distances.relax_all.Goals as goal
 use Rattle.sedck_search.proofs.distances.relax_all.Goals.{then-relax_at, else-relax_at}
 

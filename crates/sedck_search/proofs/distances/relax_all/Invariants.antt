@@ -1,8 +1,5 @@
-use Rattle.std.proofs.Common.{◌≡◌, ◌+◌, ◌<◌, ◌≤◌, true, false, length}
-use Rattle.sedck_flow.specs.Nodes.{node_index}
-use Rattle.sedck_flow.specs.declared.graph.Node.{Node}
-use Rattle.sedck_search.specs.Private.Reaching.{IsIn}
-use Rattle.sedck_search.specs.Private.Distances.{ArePathLengths, IsSettled, total}
+use Rattle.sedck_search.proofs.Common.{◌≡◌, ◌+◌, ◌<◌, ◌≤◌, true, false, length, node_index, Node, IsIn, ArePathLengths, IsSettled}
+use Rattle.sedck_search.specs.Private.Distances.{total}
 use Rattle.sedck_search.proofs.distances.relax_all.Given as goal
 
 -- as long as no distance is shorter, the nodes so far, from the last on, are settled

@@ -1,7 +1,4 @@
-use Rattle.std.proofs.Common.{◌≡◌, ◌<◌, ◌≤◌, ℕ, suc, length, get_or, refl, sym, ◌∙◌, subst, arith}
-use Rattle.std.specs.Prelude.{set}
-use Rattle.sedck_flow.proofs.NodeLemmas.{node_same}
-use Rattle.sedck_search.specs.Private.Distances.{ArePathLengths}
+use Rattle.sedck_search.proofs.Common.{◌≡◌, ◌<◌, ◌≤◌, ℕ, suc, length, get_or, refl, sym, ◌∙◌, subst, arith, set, node_same, ArePathLengths}
 use Rattle.sedck_search.proofs.Scans.{entry_is, entry_of}
 use Rattle.sedck_search.proofs.DistanceLemmas.{distances_set}
 use Rattle.sedck_search.proofs.distances.relax_at.Goals as goal

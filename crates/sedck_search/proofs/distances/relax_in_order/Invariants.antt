@@ -1,4 +1,4 @@
-use Rattle.sedck_search.specs.Private.Distances.{ArePathLengths}
+use Rattle.sedck_search.proofs.Common.{ArePathLengths}
 use Rattle.sedck_search.proofs.distances.relax_in_order.Given as goal
 
 abbrev pub invariant-loop-index : goal.invariant-loop-index

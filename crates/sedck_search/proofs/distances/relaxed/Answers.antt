@@ -1,6 +1,4 @@
-use Rattle.std.proofs.Common.{◌≡◌, ◌<◌, ◌≤◌, ℕ, length, suc, get_or, sym, ◌∙◌, arith, inl, inr, refl}
-use Rattle.std.proofs.lemmas.Bool.{true≢false, cases_lt}
-use Rattle.sedck_search.specs.Private.Distances.{HasDistance}
+use Rattle.sedck_search.proofs.Common.{◌≡◌, ◌<◌, ◌≤◌, ℕ, length, suc, get_or, sym, ◌∙◌, arith, inl, inr, refl, true≢false, cases_lt, HasDistance}
 use Rattle.sedck_search.proofs.Scans.{scan_next, scan_more, scan_end, edge_coming, target_coming, place_in, entry_is, entry_of}
 use Rattle.sedck_search.proofs.distances.relaxed.Goals as goal
 

@@ -1,6 +1,4 @@
-use Rattle.std.proofs.Common.{◌≡◌, ℕ, suc, ◌<◌, ◌≤◌}
-use Rattle.sedck_search.specs.Private.Reaching.{IsFollowed}
-use Rattle.sedck_search.specs.Private.Distances.{HasDistance, HasNeighborWithin}
+use Rattle.sedck_search.proofs.Common.{◌≡◌, ℕ, suc, ◌<◌, ◌≤◌, IsFollowed, HasDistance, HasNeighborWithin}
 use Rattle.sedck_search.proofs.Scans.{AreScanned}
 use Rattle.sedck_search.proofs.distances.relaxed.Given as goal
 

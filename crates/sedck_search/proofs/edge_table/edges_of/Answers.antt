@@ -1,6 +1,4 @@
-use Rattle.std.proofs.Common.{length}
-use Rattle.sedck_flow.specs.Nodes.{node_count}
-use Rattle.sedck_flow.proofs.NodeLemmas.{index_below}
+use Rattle.sedck_search.proofs.Common.{length, node_count, index_below}
 use Rattle.sedck_search.proofs.EdgeTables.{edges_listed}
 use Rattle.sedck_search.proofs.edge_table.edges_of.Goals as goal
 

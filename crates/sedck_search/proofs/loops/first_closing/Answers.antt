@@ -1,14 +1,7 @@
-use Rattle.std.proofs.Common.{◌≡◌, ◌<◌, ℕ, List, Option, Some, None, true, false, inl, inr, sym, ap, ◌∙◌, arith}
-use Rattle.std.specs.Prelude.{MatchOption, is_some, ◌≢◌}
-use Rattle.std.proofs.lemmas.Bool.{cases_lt}
-use Rattle.sedck_commands.specs.Program.{Program}
-use Rattle.sedck_flow.specs.Nodes.{node_index}
-use Rattle.sedck_flow.specs.declared.graph.Node.{Node}
-use Rattle.sedck_flow.specs.declared.graph.Edge.{Edge}
-use Rattle.sedck_flow.specs.declared.graph.Kind.{Kind}
-use Rattle.sedck_flow.proofs.NodeLemmas.{node_same}
+use Rattle.sedck_search.proofs.Common.{◌≡◌, ◌<◌, ℕ, List, true, false, inl, inr, sym, ap, ◌∙◌, arith, MatchOption, cases_lt, Program, node_index, Node, Edge, Kind, node_same, Closes, IsFirstClosing}
+use Rattle.std.proofs.Common.{Option, Some, None}
+use Rattle.std.specs.Prelude.{is_some, ◌≢◌}
 use Rattle.sedck_cert.proofs.CheckingLemmas.{leaves_below}
-use Rattle.sedck_search.specs.Private.Closing.{Closes, IsFirstClosing}
 use Rattle.sedck_search.proofs.loops.first_closing.Goals as goal
 
 pub nth-requires : goal.nth-requires

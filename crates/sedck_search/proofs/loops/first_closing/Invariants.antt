@@ -1,7 +1,4 @@
-use Rattle.std.proofs.Common.{◌<◌}
-use Rattle.sedck_flow.specs.Nodes.{node_index}
-use Rattle.sedck_flow.specs.declared.graph.Edge.{Edge}
-use Rattle.sedck_search.specs.Private.Closing.{Closes}
+use Rattle.sedck_search.proofs.Common.{◌<◌, node_index, Edge, Closes}
 use Rattle.sedck_search.proofs.loops.first_closing.Given as goal
 
 -- no edge from the nodes so far closes a walk

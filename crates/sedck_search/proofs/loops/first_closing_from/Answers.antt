@@ -1,6 +1,4 @@
-use Rattle.std.proofs.Common.{◌≡◌, ◌<◌, ℕ, length, get_or, refl, sym, ap, ◌∙◌, arith}
-use Rattle.std.proofs.lemmas.Bool.{true≢false}
-use Rattle.sedck_flow.specs.Nodes.{node_index}
+use Rattle.sedck_search.proofs.Common.{◌≡◌, ◌<◌, ℕ, length, get_or, refl, sym, ap, ◌∙◌, arith, true≢false, node_index}
 use Rattle.sedck_search.proofs.Scans.{scan_next, scan_more, scan_end, edge_coming, target_coming, place_in, entry_is, entry_of}
 use Rattle.sedck_search.proofs.loops.first_closing_from.Goals.{else-is_of-via-then-is_of+else-counts-index, else-is_of-via-else-is_of}
 use Rattle.sedck_search.proofs.loops.first_closing_from.Goals as goal

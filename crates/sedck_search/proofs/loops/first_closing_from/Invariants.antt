@@ -1,4 +1,4 @@
-use Rattle.sedck_search.specs.Private.Closing.{Closes}
+use Rattle.sedck_search.proofs.Common.{Closes}
 use Rattle.sedck_search.proofs.Scans.{AreScanned}
 use Rattle.sedck_search.proofs.loops.first_closing_from.Given as goal
 

@@ -1,13 +1,5 @@
-use Rattle.std.proofs.Common.{◌≡◌, ◌<◌, ◌+◌, ◌-◌, ℕ, suc, [], ◌∷◌, ◌++◌, length, refl, sym, ap, ◌∙◌, subst, subst₂, arith}
-use Rattle.std.specs.Prelude.{slice_get}
-use Rattle.std.proofs.lemmas.Option.{get_or_from_slice_get}
-use Rattle.sedck_flow.specs.declared.graph.Edge.{Edge}
-use Rattle.sedck_flow.proofs.EdgesInside.{inside}
-use Rattle.sedck_search.specs.Private.Distances.{HasDistance, AreDistances}
-use Rattle.sedck_search.specs.Private.Reaching.{AreFollowed, FollowedEdge}
-use Rattle.sedck_search.specs.Private.Closing.{back_filter}
+use Rattle.sedck_search.proofs.Common.{◌≡◌, ◌<◌, ◌+◌, ◌-◌, ℕ, suc, [], ◌∷◌, ◌++◌, length, refl, sym, ap, ◌∙◌, subst, subst₂, arith, slice_get, get_or_from_slice_get, Edge, inside, HasDistance, AreDistances, AreFollowed, FollowedEdge, back_filter, IsNearest}
 use Rattle.sedck_search.proofs.Paths.{closed_reaches}
-use Rattle.sedck_search.specs.Private.ShortestLoop.{IsNearest}
 use Rattle.sedck_search.proofs.DistanceLemmas.{next_distance}
 use Rattle.sedck_search.proofs.Scans.{place_in}
 use Rattle.sedck_search.proofs.ShortestLoops.{IsWalking, walking_begins, walking_goes_on, near_small, begin_reached, shortest_loop}

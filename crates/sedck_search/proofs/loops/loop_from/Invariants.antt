@@ -1,6 +1,4 @@
-use Rattle.std.proofs.Common.{◌≡◌, ◌-◌}
-use Rattle.sedck_flow.specs.declared.graph.Edge.{Edge}
-use Rattle.sedck_search.specs.Private.ShortestLoop.{IsNearest}
+use Rattle.sedck_search.proofs.Common.{◌≡◌, ◌-◌, Edge, IsNearest}
 use Rattle.sedck_search.proofs.ShortestLoops.{IsWalking}
 use Rattle.sedck_search.proofs.loops.loop_from.Given as goal
 

@@ -1,11 +1,4 @@
-use Rattle.std.proofs.Common.{◌≡◌, ◌<◌, ℕ, List, length, get_or, refl, sym, ◌∙◌, subst, arith}
-use Rattle.std.proofs.lemmas.Bool.{true≢false}
-use Rattle.sedck_script.specs.Invariant.{IsScript}
-use Rattle.sedck_commands.specs.Program.{Program}
-use Rattle.sedck_flow.specs.Nodes.{node_index, node_count}
-use Rattle.sedck_flow.specs.Flow.{Flow, FlowFrom, ListsEdges}
-use Rattle.sedck_flow.specs.declared.graph.Edge.{Edge}
-use Rattle.sedck_flow.proofs.EdgesInside.{inside}
+use Rattle.sedck_search.proofs.Common.{◌≡◌, ◌<◌, ℕ, List, length, get_or, refl, sym, ◌∙◌, subst, arith, true≢false, IsScript, Program, node_index, node_count, Flow, FlowFrom, ListsEdges, Edge, inside}
 use Rattle.sedck_search.proofs.Paths.{index_below}
 use Rattle.sedck_search.proofs.DistanceLemmas.{distance_at}
 use Rattle.sedck_search.proofs.Scans.{scan_none, scan_next, scan_more, scan_end, edge_coming, target_coming, place_in, entry_is, entry_of}

@@ -1,6 +1,4 @@
-use Rattle.std.proofs.Common.{◌≡◌, ℕ, ◌≤◌}
-use Rattle.sedck_flow.specs.Flow.{Flow}
-use Rattle.sedck_search.specs.Private.Distances.{HasDistance}
+use Rattle.sedck_search.proofs.Common.{◌≡◌, ℕ, ◌≤◌, Flow, HasDistance}
 use Rattle.sedck_search.proofs.Scans.{AreScanned}
 use Rattle.sedck_search.proofs.loops.nearest.Given as goal
 

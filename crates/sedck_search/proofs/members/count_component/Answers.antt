@@ -1,11 +1,4 @@
-use Rattle.std.proofs.Common.{◌≡◌, ◌≤◌, length, sym, ap, ◌∙◌, subst₂, arith}
-use Rattle.std.specs.Prelude.{Some, slice_get, set}
-use Rattle.std.proofs.lemmas.List.{length-set}
-use Rattle.sedck_flow.specs.Nodes.{node_count}
-use Rattle.sedck_flow.proofs.NodeLemmas.{node_at, inside_below}
-use Rattle.sedck_search.specs.Rows.{bit_count}
-use Rattle.sedck_search.specs.Private.Reaching.{ArePartlyCounted}
-use Rattle.sedck_search.specs.Private.Components.{IsMember}
+use Rattle.sedck_search.proofs.Common.{◌≡◌, ◌≤◌, length, sym, ap, ◌∙◌, subst₂, arith, Some, slice_get, set, length-set, node_count, node_at, inside_below, bit_count, ArePartlyCounted, IsMember}
 use Rattle.sedck_search.proofs.NodeSets.{count_within}
 use Rattle.sedck_search.proofs.Scans.{entry_is}
 use Rattle.sedck_search.proofs.Links.{member_counted}

@@ -1,6 +1,4 @@
-use Rattle.std.proofs.Common.{◌≡◌}
-use Rattle.sedck_search.specs.Private.Components.{AreSets}
-use Rattle.sedck_search.specs.Private.Reaching.{ArePartlyCounted}
+use Rattle.sedck_search.proofs.Common.{◌≡◌, AreSets, ArePartlyCounted}
 use Rattle.sedck_search.proofs.members.count_component.Given as goal
 
 abbrev pub invariant-loop-position : goal.invariant-loop-position

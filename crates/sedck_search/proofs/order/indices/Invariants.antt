@@ -1,4 +1,4 @@
-use Rattle.std.proofs.Common.{◌≡◌, length}
+use Rattle.sedck_search.proofs.Common.{◌≡◌, length}
 use Rattle.sedck_search.specs.Private.Components.{AreIndices}
 use Rattle.sedck_search.proofs.order.indices.Given as goal
 

@@ -1,11 +1,6 @@
-use Rattle.std.proofs.Common.{◌≡◌, length, sym, ap, ◌∙◌, subst, inl, inr, arith}
-use Rattle.std.proofs.lemmas.Bool.{cases_lt}
-use Rattle.std.proofs.lemmas.List.{length-map}
-use Rattle.std.proofs.lemmas.Option.{same_Some, none-some, slice_get_past}
-use Rattle.sedck_commands.specs.Program.{Command}
-use Rattle.sedck_script.specs.View.{command_of}
+use Rattle.sedck_search.proofs.Common.{◌≡◌, length, sym, ap, ◌∙◌, subst, inl, inr, arith, cases_lt, length-map, same_Some, slice_get_past, Command, command_of, IsLastAlone}
+use Rattle.std.proofs.lemmas.Option.{none-some}
 use Rattle.sedck_flow.proofs.EdgesLemmas.{read_command}
-use Rattle.sedck_search.specs.Private.OtherSide.{IsLastAlone}
 use Rattle.sedck_search.proofs.other_side.asks_for_last.Goals as goal
 
 pub loop-command-preserved : goal.loop-command-preserved

@@ -1,7 +1,4 @@
-use Rattle.std.proofs.Common.{◌≡◌, ◌<◌, ℕ}
-use Rattle.std.specs.Prelude.{Some, slice_get}
-use Rattle.sedck_commands.specs.Program.{Command}
-use Rattle.sedck_search.specs.Private.OtherSide.{IsLastAlone}
+use Rattle.sedck_search.proofs.Common.{◌≡◌, ◌<◌, ℕ, Some, slice_get, Command, IsLastAlone}
 use Rattle.sedck_search.proofs.other_side.asks_for_last.Given as goal
 
 -- none of the commands so far

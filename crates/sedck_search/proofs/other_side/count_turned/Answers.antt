@@ -1,10 +1,4 @@
-use Rattle.std.proofs.Common.{◌≡◌, ◌<◌, ◌≤◌, ◌+◌, ◌*◌, ℕ, length, get_or, refl, sym, subst, arith}
-use Rattle.std.specs.Prelude.{set}
-use Rattle.sedck_flow.specs.Nodes.{node_index, nth_node}
-use Rattle.sedck_flow.specs.declared.graph.Node.{Node}
-use Rattle.sedck_flow.proofs.NodeLemmas.{index-nth, inside_below}
-use Rattle.sedck_search.specs.Private.OtherSide.{turned}
-use Rattle.sedck_search.specs.Private.Reaching.{ArePartlyCounted}
+use Rattle.sedck_search.proofs.Common.{◌≡◌, ◌<◌, ◌≤◌, ◌+◌, ◌*◌, ℕ, length, get_or, refl, sym, subst, arith, set, node_index, nth_node, Node, index-nth, inside_below, turned, ArePartlyCounted}
 use Rattle.sedck_search.proofs.NodeSets.{count_within}
 use Rattle.sedck_search.proofs.Scans.{entry_is}
 use Rattle.sedck_search.proofs.Counts.{counted_is, counted_set}

@@ -1,4 +1,4 @@
-use Rattle.sedck_search.specs.Private.Reaching.{ArePartlyCounted}
+use Rattle.sedck_search.proofs.Common.{ArePartlyCounted}
 use Rattle.sedck_search.proofs.other_side.count_turned.Given as goal
 
 abbrev pub invariant-loop-step : goal.invariant-loop-step

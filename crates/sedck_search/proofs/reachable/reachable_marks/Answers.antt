@@ -1,11 +1,4 @@
-use Rattle.std.proofs.Common.{◌≡◌, ◌<◌, ◌+◌, ℕ, List, [], ◌∷◌, length, length-append, get_or, Bool, true, false, sym, ap, subst, ◌∙◌, inl, inr, arith}
-use Rattle.std.specs.Prelude.{Some, slice_get, if◌then◌else◌}
-use Rattle.std.proofs.lemmas.Option.{get_or_from_slice_get}
-use Rattle.sedck_commands.specs.Program.{Program}
-use Rattle.sedck_flow.specs.Nodes.{node_index}
-use Rattle.sedck_search.specs.declared.filter.EdgeFilter.{EdgeFilter}
-use Rattle.sedck_search.specs.Obstacle.{MarkReachable}
-use Rattle.sedck_search.specs.Private.Reaching.{ArePartlyCounted}
+use Rattle.sedck_search.proofs.Common.{◌≡◌, ◌<◌, ◌+◌, ℕ, List, [], ◌∷◌, length, length-append, get_or, Bool, true, false, sym, ap, subst, ◌∙◌, inl, inr, arith, Some, slice_get, if◌then◌else◌, get_or_from_slice_get, Program, node_index, EdgeFilter, MarkReachable, ArePartlyCounted}
 use Rattle.sedck_search.proofs.Scans.{place_in, entries_push}
 use Rattle.sedck_search.proofs.reachable.reachable_marks.Goals.{then-is_reachable, else-is_reachable}
 use Rattle.sedck_search.proofs.reachable.reachable_marks.Goals as goal

@@ -1,5 +1,4 @@
-use Rattle.std.proofs.Common.{◌≡◌, ℕ, ◌<◌, length, get_or, false}
-use Rattle.std.specs.Prelude.{Some, slice_get, if◌then◌else◌}
+use Rattle.sedck_search.proofs.Common.{◌≡◌, ℕ, ◌<◌, length, get_or, false, Some, slice_get, if◌then◌else◌}
 use Rattle.sedck_search.proofs.reachable.reachable_marks.Given as goal
 
 -- the marks so far

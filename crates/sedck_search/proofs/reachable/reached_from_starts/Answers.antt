@@ -1,16 +1,5 @@
-use Rattle.std.proofs.Common.{◌≡◌, ◌≤◌, ◌<◌, ◌+◌, ◌⊎◌, ℕ, List, [], ◌∷◌, length, length-append, Bool, true, false, refl, sym, ap, ◌∙◌, inl, inr, arith}
-use Rattle.std.specs.Prelude.{Some, slice_get}
-use Rattle.std.proofs.lemmas.Bool.{true≢false}
-use Rattle.std.proofs.lemmas.List.{length-map}
-use Rattle.sedck_commands.specs.Program.{Program}
-use Rattle.sedck_script.specs.View.{command_of}
-use Rattle.sedck_flow.specs.Nodes.{start, node_index, node_count}
-use Rattle.sedck_flow.specs.declared.graph.Node.{Node}
-use Rattle.sedck_search.specs.declared.filter.EdgeFilter.TheVariants.{Every}
-use Rattle.sedck_search.specs.Obstacle.{IsReachable, MarkReachable}
-use Rattle.sedck_search.specs.Private.NodeSet.{has, IsEmpty}
-use Rattle.sedck_search.specs.Private.Reaching.{IsClosed, IsIn}
-use Rattle.sedck_search.specs.Private.Frontier.{AddsReached}
+use Rattle.sedck_search.proofs.Common.{◌≡◌, ◌≤◌, ◌<◌, ◌+◌, ◌⊎◌, ℕ, List, [], ◌∷◌, length, length-append, Bool, true, false, refl, sym, ap, ◌∙◌, inl, inr, arith, Some, slice_get, true≢false, length-map, Program, command_of, start, node_index, node_count, Node, Every, IsReachable, MarkReachable, IsEmpty, IsClosed, IsIn, AddsReached}
+use Rattle.sedck_search.specs.Private.NodeSet.{has}
 use Rattle.sedck_search.proofs.Paths.{closed_reaches, all_followed}
 use Rattle.sedck_search.proofs.Scans.{place_in, entries_push}
 use Rattle.sedck_search.proofs.reachable.reached_from_starts.Goals as goal

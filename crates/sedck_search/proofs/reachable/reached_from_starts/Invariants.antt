@@ -1,5 +1,4 @@
-use Rattle.std.proofs.Common.{◌≡◌, ℕ, ◌<◌, length}
-use Rattle.std.specs.Prelude.{Some, slice_get}
+use Rattle.sedck_search.proofs.Common.{◌≡◌, ℕ, ◌<◌, length, Some, slice_get}
 use Rattle.sedck_search.specs.Private.NodeSet.{has}
 use Rattle.sedck_search.proofs.reachable.reached_from_starts.Given as goal
 

@@ -1,8 +1,6 @@
 use Rattle.std.specs.Prelude.{not}
-use Rattle.std.proofs.Common.{◌≡◌, Bool, true, false, sym, ap, ◌∙◌, subst, arith}
-use Rattle.sedck_flow.specs.Nodes.{node_index}
-use Rattle.sedck_search.specs.Private.NodeSet.{has, HasChanged}
-use Rattle.sedck_search.specs.Private.Frontier.{AddsNode}
+use Rattle.sedck_search.proofs.Common.{◌≡◌, Bool, true, false, sym, ap, ◌∙◌, subst, arith, node_index, HasChanged, AddsNode}
+use Rattle.sedck_search.specs.Private.NodeSet.{has}
 use Rattle.sedck_search.proofs.Frontiers.{added_none, added_new, sets_new}
 use Rattle.sedck_search.proofs.reaching.add_node.Goals as goal
 

@@ -1,9 +1,5 @@
-use Rattle.std.proofs.Common.{◌≡◌, false, sym, ap, ◌∙◌, subst, arith}
-use Rattle.sedck_flow.specs.Nodes.{node_index}
-use Rattle.sedck_search.specs.Private.NodeSet.{has, HasChanged}
-use Rattle.sedck_search.specs.Private.Frontier.{AddsTargets}
-use Rattle.sedck_search.specs.Private.Reaching.{IsIn}
-use Rattle.std.proofs.lemmas.Bool.{true≢false}
+use Rattle.sedck_search.proofs.Common.{◌≡◌, false, sym, ap, ◌∙◌, subst, arith, node_index, HasChanged, AddsTargets, IsIn, true≢false}
+use Rattle.sedck_search.specs.Private.NodeSet.{has}
 use Rattle.sedck_search.proofs.Paths.{index_below, reaches_inside}
 use Rattle.sedck_search.proofs.Frontiers.{removed_was, search_begins, search_goes_on, search_shrinks, search_ends, frontier_empty}
 use Rattle.sedck_search.proofs.reaching.add_reached.Goals as goal

@@ -1,5 +1,4 @@
-use Rattle.std.proofs.Common.{◌+◌, ◌-◌, ◌*◌}
-use Rattle.sedck_search.specs.Rows.{bit_count}
+use Rattle.sedck_search.proofs.Common.{◌+◌, ◌-◌, ◌*◌, bit_count}
 use Rattle.sedck_search.proofs.Frontiers.{IsSearch}
 use Rattle.sedck_search.proofs.reaching.add_reached.Given as goal
 

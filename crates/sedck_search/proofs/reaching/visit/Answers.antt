@@ -1,12 +1,5 @@
-use Rattle.std.proofs.Common.{◌≤◌, ℕ, List, length, sym, subst, inl, inr}
-use Rattle.sedck_commands.specs.Program.{Program}
-use Rattle.sedck_flow.specs.declared.graph.Node.{Node}
-use Rattle.sedck_flow.specs.declared.graph.Edge.{Edge}
-use Rattle.sedck_flow.proofs.EdgesInside.{inside}
-use Rattle.sedck_search.specs.declared.filter.EdgeFilter.{EdgeFilter}
-use Rattle.sedck_search.specs.Private.Reaching.{Reaches}
-use Rattle.sedck_search.specs.Private.KeptSets.{AreCounts, AreKept}
-use Rattle.sedck_search.specs.Private.Frontier.{AddsTarget, AddsTargets, AreSearchSets}
+use Rattle.sedck_search.proofs.Common.{◌≤◌, ℕ, List, length, sym, subst, inl, inr, Program, Node, Edge, inside, EdgeFilter, Reaches, AreCounts, AreKept, AddsTargets, AreSearchSets}
+use Rattle.sedck_search.specs.Private.Frontier.{AddsTarget}
 use Rattle.sedck_search.proofs.Counts.{kept_reached}
 use Rattle.sedck_search.proofs.Paths.{index_below, reaches_from}
 use Rattle.sedck_search.proofs.Scans.{scan_next, edge_coming, scan_more}

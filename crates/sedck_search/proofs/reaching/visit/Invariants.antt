@@ -1,5 +1,4 @@
-use Rattle.sedck_search.specs.Private.Reaching.{IsFollowed, IsIn}
-use Rattle.sedck_search.specs.Private.Frontier.{AddsTargets, AreSearchSets}
+use Rattle.sedck_search.proofs.Common.{IsFollowed, IsIn, AddsTargets, AreSearchSets}
 use Rattle.sedck_search.proofs.Scans.{AreScanned}
 use Rattle.sedck_search.proofs.reaching.visit.Given as goal
 

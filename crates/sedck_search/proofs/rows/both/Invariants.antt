@@ -1,5 +1,4 @@
-use Rattle.std.proofs.Common.{◌≡◌, ℕ, ◌<◌, ◌≤◌, length}
-use Rattle.std.specs.Prelude.{slice_index, bit_or}
+use Rattle.sedck_search.proofs.Common.{◌≡◌, ℕ, ◌<◌, ◌≤◌, length, slice_index, bit_or}
 use Rattle.sedck_search.proofs.rows.both.Given as goal
 
 -- the words so far have the bits of both, and the others are as they were

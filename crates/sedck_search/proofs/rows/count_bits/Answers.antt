@@ -1,4 +1,4 @@
-use Rattle.std.proofs.Common.{arith}
+use Rattle.sedck_search.proofs.Common.{arith}
 use Rattle.sedck_search.proofs.LaneCounts.{next_fits, next_are_sums, last_fits, whole_count, whole_fits}
 use Rattle.sedck_search.proofs.rows.count_bits.Goals as goal
 

@@ -1,4 +1,4 @@
-use Rattle.std.proofs.Common.{◌-◌, length}
+use Rattle.sedck_search.proofs.Common.{◌-◌, length}
 use Rattle.sedck_search.proofs.LaneCounts.{AreSums}
 use Rattle.sedck_search.proofs.rows.count_bits.Given as goal
 

@@ -1,4 +1,4 @@
-use Rattle.std.proofs.Common.{◌+◌, arith}
+use Rattle.sedck_search.proofs.Common.{◌+◌, arith}
 use Rattle.sedck_search.proofs.Totals.{bit_count-within, bit_count-more, bit_count-take}
 use Rattle.sedck_search.proofs.rows.count_each.Goals as goal
 

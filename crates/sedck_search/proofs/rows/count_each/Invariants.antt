@@ -1,5 +1,4 @@
-use Rattle.std.proofs.Common.{◌≡◌, take}
-use Rattle.sedck_search.specs.Rows.{bit_count}
+use Rattle.sedck_search.proofs.Common.{◌≡◌, take, bit_count}
 use Rattle.sedck_search.proofs.rows.count_each.Given as goal
 
 abbrev pub invariant-loop-word : goal.invariant-loop-word

@@ -1,8 +1,4 @@
-use Rattle.std.proofs.Common.{◌<◌}
-use Rattle.sedck_flow.specs.Nodes.{node_index}
-use Rattle.sedck_flow.specs.Flow.{Flow}
-use Rattle.sedck_flow.specs.declared.graph.Edge.{Edge}
-use Rattle.sedck_search.specs.Private.SameRanks.{KeepsOrReads}
+use Rattle.sedck_search.proofs.Common.{◌<◌, node_index, Flow, Edge, KeepsOrReads}
 use Rattle.sedck_search.proofs.same_ranks.keeps_space.Given as goal
 
 -- each edge from the nodes so far

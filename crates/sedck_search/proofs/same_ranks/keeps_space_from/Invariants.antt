@@ -1,4 +1,4 @@
-use Rattle.sedck_search.specs.Private.SameRanks.{KeepsOrReads}
+use Rattle.sedck_search.proofs.Common.{KeepsOrReads}
 use Rattle.sedck_search.proofs.Scans.{AreScanned}
 use Rattle.sedck_search.proofs.same_ranks.keeps_space_from.Given as goal
 

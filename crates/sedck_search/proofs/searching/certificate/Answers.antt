@@ -1,8 +1,4 @@
-use Rattle.std.proofs.Common.{◌≡◌, length, sym, ap, ◌∙◌, subst, arith}
-use Rattle.std.proofs.lemmas.Bool.{true≢false}
-use Rattle.std.proofs.lemmas.List.{length-map}
-use Rattle.sedck_script.specs.View.{command_of}
-use Rattle.sedck_cert.specs.Ranked.{Accepts}
+use Rattle.sedck_search.proofs.Common.{◌≡◌, length, sym, ap, ◌∙◌, subst, arith, true≢false, length-map, command_of, Accepts}
 use Rattle.sedck_cert.specs.View.{certificate_of}
 use Rattle.sedck_search.proofs.Ranks.{counts_certificate, counts_accepted}
 use Rattle.sedck_search.proofs.searching.certificate.Goals as goal

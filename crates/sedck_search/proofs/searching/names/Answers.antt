@@ -1,6 +1,6 @@
-use Rattle.std.proofs.Common.{◌≡◌, length, ap, ◌∙◌, arith}
+use Rattle.sedck_search.proofs.Common.{◌≡◌, length, ap, ◌∙◌, arith, map}
 use Rattle.std.proofs.Math.Seq.{take-length}
-use Rattle.std.specs.Prelude.{map, take}
+use Rattle.std.specs.Prelude.{take}
 use Rattle.sedck_search.proofs.searching.names.Goals as goal
 
 pub returns : goal.returns

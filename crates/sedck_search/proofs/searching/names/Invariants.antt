@@ -1,5 +1,5 @@
-use Rattle.std.proofs.Common.{◌≡◌}
-use Rattle.std.specs.Prelude.{map, take}
+use Rattle.sedck_search.proofs.Common.{◌≡◌, map}
+use Rattle.std.specs.Prelude.{take}
 use Rattle.sedck_cert.specs.View.{names_of}
 use Rattle.sedck_search.proofs.searching.names.Given as goal
 

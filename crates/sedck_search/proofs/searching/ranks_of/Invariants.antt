@@ -1,6 +1,5 @@
-use Rattle.std.proofs.Common.{◌≡◌}
+use Rattle.sedck_search.proofs.Common.{◌≡◌, ranks_from}
 use Rattle.std.specs.Prelude.{take}
-use Rattle.sedck_search.specs.Private.Ranking.{ranks_from}
 use Rattle.sedck_search.proofs.searching.ranks_of.Given as goal
 
 -- the ranks so far

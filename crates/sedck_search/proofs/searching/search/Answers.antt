@@ -1,10 +1,4 @@
-use Rattle.std.proofs.Common.{sym, ◌∙◌, subst}
-use Rattle.sedck_flow.specs.declared.graph.Edge.{Edge}
-use Rattle.sedck_flow.specs.declared.graph.Kind.TheVariants.{Keep, Grow}
-use Rattle.sedck_search.specs.Private.Reaching.{AreCounted, ArePartlyCounted}
-use Rattle.sedck_search.specs.declared.filter.EdgeFilter.TheVariants.{Kept, Unread}
-use Rattle.sedck_search.specs.Private.Closing.{Closes, IsFirstClosing}
-use Rattle.sedck_search.specs.declared.answer.Form.TheVariants.{Idle, Growing}
+use Rattle.sedck_search.proofs.Common.{sym, ◌∙◌, subst, Edge, Keep, Grow, AreCounted, ArePartlyCounted, Kept, Unread, Closes, IsFirstClosing, Idle, Growing}
 use Rattle.sedck_search.proofs.ClosedWalks.{closes_back, idle_loop, growing_loop}
 use Rattle.sedck_search.proofs.SameRanks.{same_counts, none_grows}
 use Rattle.sedck_search.proofs.searching.search.Goals as goal

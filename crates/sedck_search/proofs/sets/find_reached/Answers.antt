@@ -1,4 +1,4 @@
-use Rattle.std.proofs.Common.{inl, inr}
+use Rattle.sedck_search.proofs.Common.{inl, inr}
 use Rattle.sedck_search.proofs.Counts.{closed_reach}
 use Rattle.sedck_search.proofs.sets.find_reached.Goals as goal
 

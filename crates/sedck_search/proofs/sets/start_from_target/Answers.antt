@@ -1,7 +1,4 @@
-use Rattle.std.proofs.Common.{◌<◌, sym, subst}
-use Rattle.sedck_flow.specs.declared.graph.Edge.{Edge}
-use Rattle.sedck_search.specs.Private.Reaching.{IsClosed, IsIn}
-use Rattle.sedck_search.specs.Private.KeptSets.{IsKeptFor}
+use Rattle.sedck_search.proofs.Common.{◌<◌, sym, subst, Edge, IsClosed, IsIn, IsKeptFor}
 use Rattle.sedck_search.proofs.Counts.{kept_reached}
 use Rattle.sedck_search.proofs.Paths.{index_below, reaches-trans, reaches_from}
 use Rattle.sedck_search.proofs.Scans.{scan_next, scan_more, edge_coming, target_coming}

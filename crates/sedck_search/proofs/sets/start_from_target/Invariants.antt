@@ -1,7 +1,4 @@
-use Rattle.std.proofs.Common.{◌<◌}
-use Rattle.sedck_flow.specs.declared.graph.Node.{Node}
-use Rattle.sedck_search.specs.Private.NodeSet.{IsNodeSet}
-use Rattle.sedck_search.specs.Private.Reaching.{IsClosed, IsIn, Reaches}
+use Rattle.sedck_search.proofs.Common.{◌<◌, Node, IsNodeSet, IsClosed, IsIn, Reaches}
 use Rattle.sedck_search.proofs.Scans.{AreScanned}
 use Rattle.sedck_search.proofs.sets.start_from_target.Given as goal
 

@@ -1,8 +1,4 @@
-use Rattle.std.proofs.Common.{◌≡◌, ◌++◌, [], ◌∷◌, suc, List, length, sym, ap, ap₂, ◌∙◌, subst, subst₂, append_assoc, append-nil}
-use Rattle.sedck_flow.specs.Nodes.{node_index}
-use Rattle.sedck_flow.specs.Flow.{FlowFrom, ListsEdges}
-use Rattle.sedck_flow.specs.declared.graph.Edge.{Edge}
-use Rattle.sedck_search.specs.Private.EdgeTable.{ListsNodes}
+use Rattle.sedck_search.proofs.Common.{◌≡◌, ◌++◌, [], ◌∷◌, suc, List, length, sym, ap, ap₂, ◌∙◌, subst, subst₂, append_assoc, append-nil, node_index, FlowFrom, ListsEdges, Edge, ListsNodes}
 use Rattle.sedck_search.proofs.EdgeTables.{one_node_more}
 use Rattle.sedck_search.proofs.Scans.{scan_next, scan_more}
 use Rattle.sedck_search.proofs.edge_table.EdgeTable.add.Goals as goal

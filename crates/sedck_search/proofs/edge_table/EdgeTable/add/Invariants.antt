@@ -1,4 +1,4 @@
-use Rattle.std.proofs.Common.{◌≡◌, ◌++◌}
+use Rattle.sedck_search.proofs.Common.{◌≡◌, ◌++◌}
 use Rattle.sedck_search.proofs.Scans.{AreScanned}
 use Rattle.sedck_search.proofs.edge_table.EdgeTable.add.Given as goal
 

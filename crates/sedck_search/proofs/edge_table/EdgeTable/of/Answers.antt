@@ -1,9 +1,4 @@
-use Rattle.std.proofs.Common.{◌≡◌, ◌+◌, suc, ◌∙◌, ap, sym, length, subst, arith}
-use Rattle.std.proofs.lemmas.List.{length-map}
-use Rattle.sedck_script.specs.View.{command_of}
-use Rattle.sedck_flow.specs.Nodes.{node_index, node_count}
-use Rattle.sedck_flow.proofs.NodeLemmas.{inside_below}
-use Rattle.sedck_search.specs.Private.EdgeTable.{ListsNodes}
+use Rattle.sedck_search.proofs.Common.{◌≡◌, ◌+◌, suc, ◌∙◌, ap, sym, length, subst, arith, length-map, command_of, node_index, node_count, inside_below, ListsNodes}
 use Rattle.sedck_search.proofs.edge_table.EdgeTable.of.Goals as goal
 
 pub add-requires-clause-listed : goal.add-requires-clause-listed

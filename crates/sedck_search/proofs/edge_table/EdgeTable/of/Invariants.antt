@@ -1,4 +1,4 @@
-use Rattle.sedck_search.specs.Private.EdgeTable.{ListsNodes}
+use Rattle.sedck_search.proofs.Common.{ListsNodes}
 use Rattle.sedck_search.proofs.edge_table.EdgeTable.of.Given as goal
 
 -- the nodes so far

@@ -1,5 +1,4 @@
-use Rattle.std.specs.Prelude.{All}
-use Rattle.sedck_search.specs.Private.NodeSet.{IsEmpty}
+use Rattle.sedck_search.proofs.Common.{All, IsEmpty}
 use Rattle.sedck_search.proofs.kept_sets.KeptSets.new.Given as goal
 
 -- the sets so far are empty

@@ -1,5 +1,4 @@
-use Rattle.std.proofs.Common.{subst, ◌∙◌, arith}
-use Rattle.sedck_search.specs.Private.NodeSet.{IsUnion}
+use Rattle.sedck_search.proofs.Common.{subst, ◌∙◌, arith, IsUnion}
 use Rattle.sedck_search.proofs.NodeBits.{both_set, both_union, both_before}
 use Rattle.sedck_search.proofs.Totals.{bit_count-rest}
 use Rattle.sedck_search.proofs.node_set.NodeSet.add_all.Goals as goal

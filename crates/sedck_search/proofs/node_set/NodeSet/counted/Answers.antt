@@ -1,5 +1,4 @@
-use Rattle.std.proofs.Common.{ap, ◌∙◌}
-use Rattle.sedck_search.specs.Rows.{bit_count}
+use Rattle.sedck_search.proofs.Common.{ap, ◌∙◌, bit_count}
 use Rattle.sedck_search.proofs.Totals.{bit_count-rest}
 use Rattle.sedck_search.proofs.node_set.NodeSet.counted.Goals as goal
 

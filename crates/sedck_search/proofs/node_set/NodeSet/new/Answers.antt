@@ -1,4 +1,4 @@
-use Rattle.std.proofs.Common.{sym, arith}
+use Rattle.sedck_search.proofs.Common.{sym, arith}
 use Rattle.sedck_search.proofs.NodeBits.{empty_set, empty_nodes, empty_count, none_before}
 use Rattle.sedck_search.proofs.node_set.NodeSet.new.Goals as goal
 

@@ -1,7 +1,6 @@
-use Rattle.std.proofs.Common.{◌≡◌, ◌*◌, false, sym, ◌∙◌, subst, inl, inr, arith}
+use Rattle.sedck_search.proofs.Common.{◌≡◌, ◌*◌, false, sym, ◌∙◌, subst, inl, inr, arith, cases_lt}
 use Rattle.sedck_search.specs.Private.NodeSet.{has}
 use Rattle.sedck_search.proofs.NodeSets.{count_none}
-use Rattle.std.proofs.lemmas.Bool.{cases_lt}
 use Rattle.sedck_search.proofs.NextNode.{first_next, first_none, later_next, later_none, last_none}
 use Rattle.sedck_search.proofs.node_set.NodeSet.next_from.Goals as goal
 
