@@ -1,25 +1,10 @@
 -- The bound of a steady script: its numbers, its limit, and the edges that don't grow.
-use Rattle.std.proofs.Common.{◌≡◌, ◌≢◌, ℕ, ◌+◌, ◌<◌, List, [], ◌∷◌, ◌++◌, length, take, get_or, refl, sym, ap, ◌∙◌, arith}
-use Rattle.std.specs.Prelude.{false, Option, Some, None, is_some, max, MatchOption}
-use Rattle.std.specs.List.{AllByRecursion}
-use Rattle.std.specs.Ordering.{nat_cmp, ord_max}
-use Rattle.std.proofs.lemmas.Grind.{common_steps}
-use Rattle.std.proofs.lemmas.List.{take_more}
-use Rattle.std.proofs.lemmas.List.Elements.{Contains-append_right}
-use Rattle.sedck_script.specs.Invariant.{AreWellFormed}
-use Rattle.sedck_commands.specs.Program.{Program}
-use Rattle.sedck_flow.specs.Flow.{ListsEdges, Flow, FlowFrom}
-use Rattle.sedck_flow.specs.declared.graph.Node.{Node}
-use Rattle.sedck_flow.specs.declared.graph.Edge.{Edge}
-use Rattle.sedck_flow.specs.declared.graph.Kind.TheVariants.{Grow}
-use Rattle.sedck_flow.specs.WideRun.{WideRun}
-use Rattle.sedck_flow.proofs.CharacterRuns.{character_run_wide}
-use Rattle.sedck_cert.specs.Certificate.{Certificate}
-use Rattle.sedck_cert.specs.Ranked.{ranks_at, IsSteady, NeverGrows, IsGrowth, IsFirstGrowth}
+use Rattle.sedck_cert.proofs.Common.{◌≡◌, ◌≢◌, ℕ, ◌+◌, ◌<◌, List, [], ◌∷◌, ◌++◌, length, take, get_or, refl, sym, ap, ◌∙◌, arith, is_some, MatchOption, AllByRecursion, nat_cmp, common_steps, take_more, Contains-append_right, AreWellFormed, Program, ListsEdges, Flow, FlowFrom, Node, Edge, Grow, WideRun, character_run_wide, Certificate, ranks_at, IsSteady, NeverGrows, IsFirstGrowth, BoundsRuns, BoundsAllRuns, BoundsEverywhere, Bound}
+use Rattle.std.specs.Prelude.{false, Option, Some, None, max}
+use Rattle.std.specs.Ordering.{ord_max}
+use Rattle.sedck_cert.specs.Ranked.{IsGrowth}
 use Rattle.sedck_cert.specs.StepLimit.{greatest}
-use Rattle.sedck_cert.specs.Bounds.{IsBoundOf, BoundsRuns}
-use Rattle.sedck_cert.specs.Everywhere.{BoundsAllRuns, BoundsEverywhere}
-use Rattle.sedck_cert.specs.declared.limits.Bound.{Bound}
+use Rattle.sedck_cert.specs.Bounds.{IsBoundOf}
 use Rattle.sedck_cert.proofs.SteadyRunsCounted.{steady_counted, wide_steady_counted}
 
 -- the edges are these, of which none so far grows

@@ -1,17 +1,8 @@
 -- The lines of the nodes and of the names, one more at a time.
-use Rattle.std.proofs.Common.{◌≡◌, ℕ, suc, ◌+◌, List, [], ◌∷◌, ◌++◌, length, Option, sym, ◌∙◌, ap, subst, subst₂, arith, ◌≤◌, decimal, Vec}
-use Rattle.sedck_cert.specs.Certificate.{AreWithin}
-use Rattle.sedck_cert.specs.Private.Cuts.{IsCut}
-use Rattle.sedck_cert.specs.Text.{node_text, node_texts}
-use Rattle.sedck_cert.specs.declared.versions.Version.{Version}
-use Rattle.sedck_cert.specs.Faults.{Due, Node, nodes_due, IsWrong, Name, list_word, ComesAfter, after_list, names_due}
-use Rattle.sedck_cert.specs.Private.Reading.{Leads, list_texts}
-use Rattle.sedck_cert.specs.declared.reading.lines.Lines.{Lines}
+use Rattle.sedck_cert.proofs.Common.{◌≡◌, ℕ, suc, ◌+◌, List, [], ◌∷◌, ◌++◌, length, Option, sym, ◌∙◌, ap, subst, subst₂, arith, ◌≤◌, decimal, Vec, AreWithin, IsCut, node_text, node_texts, Version, Due, nodes_due, IsWrong, Name, list_word, ComesAfter, after_list, names_due, Leads, list_texts, Lines, Global, length-map, IsName, names_of}
+use Rattle.sedck_cert.specs.Faults.{Node}
 use Rattle.sedck_cert.proofs.LineLemmas.{leads_on, wrong_cuts, wrong_line}
-use Rattle.std.specs.declared.alloc.Global.{Global}
-use Rattle.std.proofs.lemmas.List.{map_push, length-map}
-use Rattle.sedck_script.specs.Names.{IsName}
-use Rattle.sedck_cert.specs.View.{names_of}
+use Rattle.std.proofs.lemmas.List.{map_push}
 use Rattle.sedck_cert.specs.declared.reading.names.Files.{Files}
 
 -- ---- Nodes

@@ -1,17 +1,9 @@
 -- Texts of either version: one certificate at most, and none where the version that the text names has none.
-use Rattle.std.proofs.Common.{◌≡◌, ◌⊎◌, inl, inr, ℕ, List, get_or, Bool, true, false, Result, Ok, Err, IfOk, IfErr, arith, sym, ◌∙◌, ap, refl}
-use Rattle.sedck_cert.specs.Certificate.{Certificate}
-use Rattle.sedck_cert.specs.Text.{header, IsTextOf}
-use Rattle.sedck_cert.specs.VersionOne.{upgraded}
-use Rattle.sedck_cert.specs.Versions.{SpellsCertificate, SaysVersionOne, IsFaultIn}
-use Rattle.std.specs.Bool.{OnTrue, OnFalse}
-use Rattle.std.specs.Prelude.{IsTrue, ◌↔◌}
-use Rattle.sedck_cert.specs.Private.Cuts.{IsCut}
-use Rattle.sedck_cert.specs.Private.Reading.{IsNext}
-use Rattle.sedck_cert.specs.declared.reading.lines.Lines.{Lines}
-use Rattle.sedck_cert.specs.declared.versions.Version.TheVariants.{One, Two}
-use Rattle.sedck_cert.specs.declared.reading.CertFault.{CertFault}
-use Rattle.sedck_cert.specs.declared.reading.CertFault.TheVariants.{OutOfMemory}
+use Rattle.sedck_cert.proofs.Common.{◌≡◌, ◌⊎◌, inl, inr, ℕ, List, get_or, Bool, true, false, Result, Ok, Err, IfErr, arith, sym, ◌∙◌, ap, refl, Certificate, header, IsTextOf, upgraded, SpellsCertificate, IsFaultIn, OnFalse, ◌↔◌, IsCut, IsNext, Lines, One, Two, CertFault, OutOfMemory}
+use Rattle.std.proofs.Common.{IfOk}
+use Rattle.sedck_cert.specs.Versions.{SaysVersionOne}
+use Rattle.std.specs.Bool.{OnTrue}
+use Rattle.std.specs.Prelude.{IsTrue}
 use Rattle.sedck_cert.proofs.LineLemmas.{line-behind}
 use Rattle.sedck_cert.proofs.LinesAreText.{header-one_line}
 use Rattle.sedck_cert.proofs.Pieces.{header_first}

@@ -1,20 +1,8 @@
 -- A certificate's text ends with its lists of files, and with no others.
-use Rattle.std.proofs.Common.{◌≡◌, inl, inr, ℕ, suc, ◌+◌, ◌<◌, ◌≤◌, ◌^◌, List, [], ◌∷◌, ◌++◌, length, Contains, decimal, codes, Option, length-append, refl, sym, ◌∙◌, ap, subst, arith, true, false}
-use Rattle.std.specs.Prelude.{◌/◌, flat_map}
-use Rattle.std.specs.List.{AllByRecursion}
-use Rattle.std.proofs.lemmas.Bool.{false≢true}
-use Rattle.std.proofs.lemmas.List.Elements.{All-from_recursion, recursion_from_All}
-use Rattle.std.proofs.lemmas.Fmt.{decimal_injective}
-use Rattle.std.proofs.lemmas.List.{append_cancel_left}
-use Rattle.sedck_text.specs.Bytes.{newline}
+use Rattle.sedck_cert.proofs.Common.{◌≡◌, inl, inr, ℕ, suc, ◌+◌, ◌<◌, ◌≤◌, ◌^◌, List, [], ◌∷◌, ◌++◌, length, Contains, decimal, codes, Option, length-append, refl, sym, ◌∙◌, ap, subst, arith, true, false, ◌/◌, flat_map, AllByRecursion, false≢true, All-from_recursion, recursion_from_All, decimal_injective, append_cancel_left, newline, AreNames, IsName, all_append, Certificate, AreWithin, header, words_in, node_text, node_texts, joined_lines, IsOneLine, IsTextOf, FileLists, file_lists, SpellsCertificate, Version, One, Two}
 use Rattle.sedck_text.specs.Text.{one_of, begins}
-use Rattle.sedck_script.specs.Names.{AreNames, IsName}
-use Rattle.sedck_script.proofs.SortedNames.{all_weaker, all_append}
-use Rattle.sedck_cert.specs.Certificate.{Certificate, AreWithin}
-use Rattle.sedck_cert.specs.Text.{header, words_in, node_text, node_texts, joined_lines, IsOneLine, IsTextOf, FileLists, last_lines, EndsWithLists, file_lists}
-use Rattle.sedck_cert.specs.Versions.{SpellsCertificate}
-use Rattle.sedck_cert.specs.declared.versions.Version.{Version}
-use Rattle.sedck_cert.specs.declared.versions.Version.TheVariants.{One, Two}
+use Rattle.sedck_script.proofs.SortedNames.{all_weaker}
+use Rattle.sedck_cert.specs.Text.{last_lines, EndsWithLists}
 use Rattle.sedck_cert.proofs.CutLemmas.{decimal-in_range}
 use Rattle.sedck_cert.proofs.LinesAreText.{above-one_line, decimal-one_line, node_text-one_line, header-one_line, nodes_in-small, certificate_lines-joined}
 use Rattle.sedck_cert.proofs.UniqueTexts.{lines_one, no_line, append_split}

@@ -1,20 +1,7 @@
 -- The limit of a falling script: its numbers, and the edges that lower the first rank.
-use Rattle.std.proofs.Common.{◌≡◌, ℕ, List, [], ◌∷◌, ◌++◌, Contains, refl, arith, append_assoc}
+use Rattle.sedck_cert.proofs.Common.{◌≡◌, ℕ, List, [], ◌∷◌, ◌++◌, Contains, refl, arith, append_assoc, All-from_recursion, All-contains, Contains-append_right, AllByRecursion, all_append, AreWellFormed, Program, ListsEdges, Edge, WideRun, character_run_wide, Certificate, LowersFirst, AllLowerFirst, IsFalling, BoundsRuns, BoundsAllRuns, BoundsEverywhere, Bound}
 use Rattle.std.proofs.lemmas.List.{append-nil}
-use Rattle.std.proofs.lemmas.List.Elements.{All-from_recursion, All-contains, Contains-append_right}
-use Rattle.std.specs.List.{AllByRecursion}
-use Rattle.sedck_script.proofs.SortedNames.{all_append}
-use Rattle.sedck_script.specs.Invariant.{AreWellFormed}
-use Rattle.sedck_commands.specs.Program.{Program}
-use Rattle.sedck_flow.specs.Flow.{ListsEdges}
-use Rattle.sedck_flow.specs.declared.graph.Edge.{Edge}
-use Rattle.sedck_flow.specs.WideRun.{WideRun}
-use Rattle.sedck_flow.proofs.CharacterRuns.{character_run_wide}
-use Rattle.sedck_cert.specs.Certificate.{Certificate}
-use Rattle.sedck_cert.specs.Ranked.{LowersFirst, AllLowerFirst, IsFalling}
-use Rattle.sedck_cert.specs.Bounds.{IsBoundByLines, BoundsRuns}
-use Rattle.sedck_cert.specs.Everywhere.{BoundsAllRuns, BoundsEverywhere}
-use Rattle.sedck_cert.specs.declared.limits.Bound.{Bound}
+use Rattle.sedck_cert.specs.Bounds.{IsBoundByLines}
 use Rattle.sedck_cert.proofs.FallingRunsCounted.{falling_counted, wide_falling_counted}
 
 -- the edges are these, of which those so far lower the first rank

@@ -1,24 +1,7 @@
 -- The steps of a falling script: each line that is read allows one more step than the greatest first rank.
-use Rattle.std.proofs.Common.{◌≡◌, ◌≢◌, ℕ, suc, ◌+◌, ◌*◌, ◌<◌, ◌≤◌, List, [], ◌∷◌, length, ap, ◌∙◌, inl, inr, arith}
-use Rattle.sedck_script.specs.Invariant.{AreWellFormed}
-use Rattle.sedck_commands.specs.Program.{Program}
-use Rattle.sedck_flow.specs.Run.{Files, Machine, State, Start, At, Done, Event, StepIn, StepsIn, Run}
-use Rattle.sedck_flow.specs.WideRun.{any_locale, all_lines}
-use Rattle.sedck_text.specs.Bytes.{newline}
-use Rattle.sedck_flow.specs.Private.Fits.{lines_left}
-use Rattle.sedck_flow.specs.Nodes.{start, node_index}
-use Rattle.sedck_flow.specs.Laws.{is_last, node_of, IsTruthful}
-use Rattle.sedck_flow.specs.declared.graph.Kind.{Kind}
-use Rattle.sedck_flow.specs.declared.graph.Kind.TheVariants.{Consume, Shorten, Keep, Grow}
-use Rattle.sedck_flow.proofs.StepsFollowEdges.{wide_follows}
-use Rattle.sedck_flow.proofs.Widening.{run_is_wide}
-use Rattle.sedck_flow.proofs.NotStart.{step_begun, done_ends}
-use Rattle.sedck_cert.specs.Certificate.{Certificate}
-use Rattle.sedck_cert.specs.Ranked.{IsFalling}
-use Rattle.sedck_cert.specs.StepLimit.{greatest_first, greatest_second}
+use Rattle.sedck_cert.proofs.Common.{◌≡◌, ◌≢◌, ℕ, suc, ◌+◌, ◌*◌, ◌<◌, ◌≤◌, List, [], ◌∷◌, length, ap, ◌∙◌, inl, inr, arith, AreWellFormed, Program, Files, Machine, State, Start, At, Done, Event, StepIn, StepsIn, Run, any_locale, all_lines, newline, lines_left, start, node_index, is_last, node_of, IsTruthful, Kind, Consume, Shorten, Keep, Grow, wide_follows, run_is_wide, step_begun, done_ends, Certificate, IsFalling, greatest_first, greatest_second, file_begins, next_file_begins}
 use Rattle.sedck_cert.specs.Laws.{falling_limit}
 use Rattle.sedck_cert.proofs.RanksBoundRuns.{AtMost, HasRanks, greatest_at, same_left, fewer_left, starts_ranked, one_file}
-use Rattle.sedck_flow.proofs.States.{file_begins, next_file_begins}
 
 -- the steps that a machine has left: its first rank, and for each line one more than the greatest
 abbrev left : ℕ → Machine → ℕ × ℕ → ℕ

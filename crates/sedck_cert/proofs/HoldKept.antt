@@ -1,11 +1,9 @@
 -- A step of a script without `H` leaves the hold space within a length that both spaces had.
-use Rattle.std.proofs.Common.{◌≡◌, ◌≢◌, ℕ, suc, ◌≤◌, Bool, true, false, List, [], ◌∷◌, ◌++◌, length, refl, ap, inl, inr, arith}
-use Rattle.std.specs.Prelude.{Option, Some, None, MatchOption, slice_get, if◌then◌else◌}
-use Rattle.sedck_commands.specs.Program.{Address, Two, Substitution, Verb, Block, Branch, Change, Delete, DeleteFirstLine, Exchange, Get, GetAppend, Hold, HoldAppend, Next, NextAppend, Quit, Substitute, Test, Transliterate, Command, Program}
-use Rattle.sedck_flow.specs.Run.{Machine, At, Event, NextCycle, onward, skip, TakesLine, after_end, DropsFirstLine, ChangesText, SubstituteStep, Does, StepPast, StepAt, StepIn}
-use Rattle.sedck_flow.specs.WideRun.{any_locale, all_lines}
-use Rattle.sedck_flow.proofs.States.{at_inj, at-done, BeginsWith, next_begins, cycle_begins}
-use Rattle.sedck_cert.specs.SpaceLimit.{AppendsToHold, AreSpacesWithin}
+use Rattle.sedck_cert.proofs.Common.{◌≡◌, ◌≢◌, ℕ, suc, ◌≤◌, Bool, true, false, List, [], ◌∷◌, ◌++◌, length, refl, ap, inl, inr, arith, MatchOption, slice_get, if◌then◌else◌, Address, Substitution, Verb, HoldAppend, Substitute, Command, Program, Machine, At, Event, StepIn, any_locale, all_lines, at_inj, at-done, BeginsWith, AppendsToHold, AreSpacesWithin}
+use Rattle.std.specs.Prelude.{Option, Some, None}
+use Rattle.sedck_commands.specs.Program.{Two, Block, Branch, Change, Delete, DeleteFirstLine, Exchange, Get, GetAppend, Hold, Next, NextAppend, Quit, Test, Transliterate}
+use Rattle.sedck_flow.specs.Run.{NextCycle, onward, skip, TakesLine, after_end, DropsFirstLine, ChangesText, SubstituteStep, Does, StepPast, StepAt}
+use Rattle.sedck_flow.proofs.States.{next_begins, cycle_begins}
 
 module _ (p : Program) (d size : ℕ) (m : Machine) (fits : AreSpacesWithin size m) where
   abbrev Within : Machine → Type 0

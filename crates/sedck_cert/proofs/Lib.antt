@@ -1,3 +1,4 @@
+mod Common
 pub mod Decimals
 pub mod Pieces
 pub mod Written

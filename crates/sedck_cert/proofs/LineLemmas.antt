@@ -1,13 +1,7 @@
 -- How one line is read or refused, and lines after lines.
-use Rattle.std.proofs.Common.{◌≡◌, ℕ, ◌+◌, List, [], ◌∷◌, ◌++◌, Contains, ◌≤◌, decimal, Option, Some, None, MatchOption, IfErr, append_assoc, append-nil, refl, sym, ◌∙◌, ap, subst, arith, length-append}
+use Rattle.sedck_cert.proofs.Common.{◌≡◌, ℕ, ◌+◌, List, [], ◌∷◌, ◌++◌, Contains, ◌≤◌, decimal, Option, Some, None, IfErr, append_assoc, append-nil, refl, sym, ◌∙◌, ap, subst, arith, length-append, line, joined_lines, Version, Due, IsDue, AreDue, IsWrong, IsRefused, fault_at, IsCut, IsNext, Leads, Stops, Lines, CertFault}
+use Rattle.std.proofs.Common.{MatchOption}
 use Rattle.std.specs.Option.{ok_or}
-use Rattle.sedck_cert.specs.Text.{line, joined_lines}
-use Rattle.sedck_cert.specs.declared.versions.Version.{Version}
-use Rattle.sedck_cert.specs.Faults.{Due, IsDue, AreDue, IsWrong, IsRefused, fault_at}
-use Rattle.sedck_cert.specs.Private.Cuts.{IsCut}
-use Rattle.sedck_cert.specs.Private.Reading.{IsNext, Leads, Stops}
-use Rattle.sedck_cert.specs.declared.reading.lines.Lines.{Lines}
-use Rattle.sedck_cert.specs.declared.reading.CertFault.{CertFault}
 use Rattle.sedck_cert.proofs.CutLemmas.{cut_one, has_byte}
 
 pub line-behind : (text rest : List ℕ) → line text ++ rest ≡ text ++ 10 ∷ rest

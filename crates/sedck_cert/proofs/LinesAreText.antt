@@ -1,19 +1,10 @@
 -- The lines of a certificate are its text, and are what is due.
-use Rattle.std.proofs.Common.{◌≡◌, ℕ, zero, suc, ◌+◌, ◌<◌, ◌≤◌, ◌^◌, List, [], ◌∷◌, ◌++◌, length, decimal, codes, Option, append_assoc, append-nil, refl, sym, ◌∙◌, ap, subst, inl, inr, arith, true, nat_lt, ◌/◌, ◌%◌, Some, None}
-use Rattle.std.specs.List.{AllByRecursion, list_all}
+use Rattle.sedck_cert.proofs.Common.{◌≡◌, ℕ, zero, suc, ◌+◌, ◌<◌, ◌≤◌, ◌^◌, List, [], ◌∷◌, ◌++◌, length, decimal, codes, Option, append_assoc, append-nil, refl, sym, ◌∙◌, ap, subst, inl, inr, arith, true, ◌%◌, Some, None, AllByRecursion, recursion_from_All, Contains-append_cases, decimal_injective, append_cancel_left, AreNames, names_size, Certificate, IsCertificate, nodes_in, AreWithin, line, header, node_texts, joined_lines, IsOneLine, words_in, node_text, ranks_text, Due, Header, Count, Names, Last, Nothing, AreDue, list_word, after_list, names_due, nodes_due, list_texts, certificate_lines, AreNext, Version, One, Two, Reads, Writes}
+use Rattle.std.proofs.Common.{nat_lt, ◌/◌}
+use Rattle.std.specs.List.{list_all}
 use Rattle.std.proofs.lemmas.Bool.{and_parts, ltb-true}
-use Rattle.std.proofs.lemmas.List.Elements.{recursion_from_All, Contains-append_cases}
-use Rattle.std.proofs.lemmas.Fmt.{decimal_injective}
-use Rattle.std.proofs.lemmas.List.{append_cancel_left}
-use Rattle.sedck_script.specs.Names.{AreNames, names_size}
-use Rattle.sedck_cert.specs.Certificate.{Certificate, IsCertificate, nodes_in, AreWithin}
-use Rattle.sedck_cert.specs.Text.{line, header, node_texts, joined_lines, text_in, IsOneLine, words_in, node_text, ranks_text}
-use Rattle.sedck_cert.specs.Faults.{Due, Header, Count, Names, Last, Nothing, AreDue, list_word, after_list, names_due, nodes_due}
-use Rattle.sedck_cert.specs.Private.Reading.{list_texts, certificate_lines, AreNext}
-use Rattle.sedck_cert.specs.declared.versions.Version.{Version}
-use Rattle.sedck_cert.specs.declared.versions.Version.TheVariants.{One, Two}
+use Rattle.sedck_cert.specs.Text.{text_in}
 use Rattle.sedck_cert.specs.declared.reading.names.Files.{Files}
-use Rattle.sedck_cert.specs.declared.reading.names.Files.TheVariants.{Reads, Writes}
 use Rattle.sedck_cert.proofs.CutLemmas.{decimal-lacks}
 use Rattle.sedck_cert.proofs.NameLimits.{size-cons, names_next, next_names}
 use Rattle.sedck_cert.proofs.LineLemmas.{joined_lines-append, are_due-append}

@@ -1,16 +1,8 @@
 -- Names are within their limits where each may be after those before it.
-use Rattle.std.proofs.Common.{◌≡◌, ℕ, suc, ◌+◌, ◌<◌, ◌≤◌, List, [], ◌∷◌, length, map, get_or, drop, Vec, add-one, sym, ap, arith}
-use Rattle.std.proofs.Math.Seq.{drop-cons}
-use Rattle.std.specs.declared.alloc.Global.{Global}
-use Rattle.std.specs.List.{AllByRecursion}
-use Rattle.std.proofs.lemmas.List.{length-map}
-use Rattle.std.proofs.lemmas.List.Elements.{All-from_recursion, recursion_from_All}
+use Rattle.sedck_cert.proofs.Common.{◌≡◌, ℕ, suc, ◌+◌, ◌<◌, ◌≤◌, List, [], ◌∷◌, length, get_or, drop, Vec, sym, ap, arith, drop-cons, Global, AllByRecursion, length-map, All-from_recursion, recursion_from_All, sum_by-cons, IsName, AreIncreasing, AreNames, names_size, names_of, AreNext, ComesAfter}
+use Rattle.std.proofs.Common.{map, add-one}
 use Rattle.std.proofs.lemmas.List.Kept.{AllPairs-cons}
-use Rattle.std.proofs.lemmas.List.Sums.{sum_by-cons}
-use Rattle.sedck_script.specs.Names.{IsName, IsBefore, AreIncreasing, AreNames, names_size}
-use Rattle.sedck_cert.specs.View.{names_of}
-use Rattle.sedck_cert.specs.Private.Reading.{AreNext}
-use Rattle.sedck_cert.specs.Faults.{ComesAfter}
+use Rattle.sedck_script.specs.Names.{IsBefore}
 use Rattle.sedck_script.proofs.SortedNames.{all_later}
 
 -- the one before, if there is one, is before all of these

@@ -1,13 +1,6 @@
 -- Whether some command is `H`, and the numbers of the limit on the spaces.
-use Rattle.std.proofs.Common.{◌≡◌, ℕ, ◌<◌, ◌≤◌, inl, inr, refl}
-use Rattle.std.specs.Prelude.{false, Option, Some, is_some, MatchOption, slice_get}
-use Rattle.std.proofs.lemmas.Bool.{cases_lt}
-use Rattle.sedck_commands.specs.Program.{Command, Program, HoldAppend}
-use Rattle.sedck_flow.specs.Flow.{Flow}
-use Rattle.sedck_flow.specs.declared.graph.Edge.{Edge}
-use Rattle.sedck_cert.specs.Certificate.{Certificate}
-use Rattle.sedck_cert.specs.Ranked.{Accepts, NeverGrows, IsFirstGrowth}
-use Rattle.sedck_cert.specs.SpaceLimit.{AppendsToHold, IsCompact, IsInputSize}
+use Rattle.sedck_cert.proofs.Common.{◌≡◌, ℕ, ◌<◌, ◌≤◌, inl, inr, refl, is_some, MatchOption, slice_get, cases_lt, Command, Program, HoldAppend, Flow, Edge, Certificate, Accepts, NeverGrows, IsFirstGrowth, AppendsToHold, IsCompact, IsInputSize}
+use Rattle.std.specs.Prelude.{false, Option, Some}
 use Rattle.sedck_cert.proofs.BoundingLemmas.{grows_nowhere}
 
 -- none of the first commands is `H`

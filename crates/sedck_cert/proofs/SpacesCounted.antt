@@ -1,27 +1,9 @@
 -- The spaces of a compact script: the pattern space and what is left to read are never longer than the input, and the hold space only takes the pattern space.
-use Rattle.std.proofs.Common.{◌≡◌, ◌≢◌, ℕ, suc, ◌+◌, ◌≤◌, List, [], ◌∷◌, length, refl, sym, ap, ◌∙◌, inl, inr, arith}
-use Rattle.sedck_script.specs.Invariant.{AreWellFormed}
-use Rattle.sedck_commands.specs.Program.{Program}
-use Rattle.sedck_flow.specs.Run.{Files, Machine, State, Start, At, Done, Event, StepIn, StepsIn, Run, state_after}
-use Rattle.sedck_flow.specs.WideRun.{any_locale, WideRun, all_lines}
-use Rattle.sedck_flow.proofs.CharacterRuns.{character_run_wide}
-use Rattle.sedck_text.specs.Bytes.{newline}
-use Rattle.sedck_flow.specs.Private.Fits.{lines_left}
-use Rattle.sedck_flow.specs.Spaces.{bytes_of}
-use Rattle.sedck_flow.specs.Laws.{node_of, IsTruthful}
-use Rattle.sedck_flow.specs.declared.graph.Kind.{Kind}
-use Rattle.sedck_flow.specs.declared.graph.Kind.TheVariants.{Consume, Shorten, Keep, Grow}
-use Rattle.sedck_flow.proofs.StepsFollowEdges.{wide_follows}
-use Rattle.sedck_flow.proofs.Widening.{run_is_wide}
-use Rattle.sedck_flow.proofs.NotStart.{step_begun}
-use Rattle.sedck_flow.proofs.SpaceGrowth.{AddsLine, step_adds}
-use Rattle.sedck_flow.proofs.States.{at_inj, at-done, file_begins, next_file_begins}
-use Rattle.sedck_cert.specs.Certificate.{Certificate}
-use Rattle.sedck_cert.specs.SpaceLimit.{IsCompact, IsInputSize, AreSpacesWithin, BoundsSpaces, BoundsAllSpaces, BoundsSpacesEverywhere}
-use Rattle.sedck_cert.specs.declared.limits.Bound.{Bound}
+use Rattle.sedck_cert.proofs.Common.{◌≡◌, ◌≢◌, ℕ, suc, ◌+◌, ◌≤◌, List, [], ◌∷◌, length, refl, sym, ap, ◌∙◌, inl, inr, arith, AreWellFormed, Program, Files, Machine, State, Start, At, Done, Event, StepIn, StepsIn, Run, any_locale, WideRun, all_lines, character_run_wide, newline, lines_left, bytes_of, node_of, IsTruthful, Kind, Consume, Shorten, Keep, Grow, wide_follows, run_is_wide, step_begun, AddsLine, step_adds, at_inj, at-done, file_begins, next_file_begins, Certificate, IsCompact, IsInputSize, AreSpacesWithin, Bound, none-some}
+use Rattle.sedck_flow.specs.Run.{state_after}
+use Rattle.sedck_cert.specs.SpaceLimit.{BoundsSpaces, BoundsAllSpaces, BoundsSpacesEverywhere}
 use Rattle.sedck_cert.proofs.RanksBoundRuns.{HasRanks, same_left, fewer_left, starts_ranked, one_file}
 use Rattle.sedck_cert.proofs.HoldKept.{hold_within}
-use Rattle.std.proofs.lemmas.Option.{none-some}
 
 -- the bytes of lines, with a newline for each
 abbrev pub size_of : List (List ℕ) → ℕ

@@ -1,18 +1,8 @@
 -- A text is one certificate's at most, and none's where a line of it isn't what is due.
-use Rattle.std.proofs.Common.{◌≡◌, ℕ, suc, ◌<◌, ◌≤◌, ◌^◌, List, [], ◌∷◌, ◌++◌, length, take, drop, decimal, codes, Option, Some, None, append_assoc, refl, sym, ◌∙◌, ap, subst, subst₂, arith}
-use Rattle.std.specs.List.{AllByRecursion}
+use Rattle.sedck_cert.proofs.Common.{◌≡◌, ℕ, suc, ◌<◌, ◌≤◌, ◌^◌, List, [], ◌∷◌, ◌++◌, length, take, drop, decimal, codes, Option, Some, None, append_assoc, refl, sym, ◌∙◌, ap, subst, subst₂, arith, AllByRecursion, recursion_from_All, decimal_injective, append_cancel_left, Certificate, IsCertificate, nodes_in, AreWithin, line, IsOneLine, IsTextOf, words_in, node_text, node_texts, joined_lines, ranks_text, Version, Due, Header, Count, Names, Name, Last, Nothing, IsDue, AreDue, IsRefused, IsFaultOf, list_word, names_due, nodes_due, list_texts, certificate_lines, Reads, Writes, CertFault}
 use Rattle.std.proofs.Math.Seq.{take-append_seam, drop-append_seam}
-use Rattle.std.proofs.lemmas.List.Elements.{recursion_from_All}
-use Rattle.std.proofs.lemmas.Fmt.{decimal_injective}
-use Rattle.std.proofs.lemmas.List.{append_cancel_left}
-use Rattle.sedck_cert.specs.Certificate.{Certificate, IsCertificate, nodes_in, AreWithin}
-use Rattle.sedck_cert.specs.Text.{line, IsOneLine, IsTextOf, words_in, node_text, node_texts, joined_lines, ranks_text}
-use Rattle.sedck_cert.specs.declared.versions.Version.{Version}
-use Rattle.sedck_cert.specs.Faults.{Due, Header, Count, Node, Names, Name, Last, Nothing, IsDue, AreDue, IsRefused, IsFaultOf, list_word, names_due, nodes_due}
-use Rattle.sedck_cert.specs.Private.Reading.{list_texts, certificate_lines}
+use Rattle.sedck_cert.specs.Faults.{Node}
 use Rattle.sedck_cert.specs.declared.reading.names.Files.{Files}
-use Rattle.sedck_cert.specs.declared.reading.names.Files.TheVariants.{Reads, Writes}
-use Rattle.sedck_cert.specs.declared.reading.CertFault.{CertFault}
 use Rattle.sedck_cert.proofs.CutLemmas.{parts_one, has_byte, dash_lacks, decimal-lacks}
 use Rattle.sedck_cert.proofs.LineLemmas.{line-behind}
 use Rattle.sedck_cert.proofs.LinesAreText.{certificate_lines-joined, certificate_is_due}

@@ -1,10 +1,5 @@
 -- What becomes of a certificate of version 1.
-use Rattle.std.proofs.Common.{◌≡◌, ℕ, ◌*◌, List, [], ◌∷◌, length, Option, refl, arith}
-use Rattle.std.specs.List.{AllByRecursion}
-use Rattle.std.proofs.lemmas.List.Elements.{recursion_from_All, All-from_recursion}
-use Rattle.sedck_cert.specs.Certificate.{Certificate, IsCertificate, AreWithin}
-use Rattle.sedck_cert.specs.VersionOne.{doubled, upgraded}
-use Rattle.sedck_cert.specs.declared.versions.Version.TheVariants.{One, Two}
+use Rattle.sedck_cert.proofs.Common.{◌≡◌, ℕ, ◌*◌, List, [], ◌∷◌, length, Option, refl, arith, AllByRecursion, recursion_from_All, All-from_recursion, Certificate, IsCertificate, AreWithin, doubled, upgraded, One, Two}
 
 -- ---- Each entry twice
 

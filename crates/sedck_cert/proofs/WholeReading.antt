@@ -1,19 +1,10 @@
 -- The parts of a certificate, read one after another.
-use Rattle.std.proofs.Common.{◌≡◌, ◌⊎◌, inl, inr, ℕ, suc, ◌+◌, ◌≤◌, List, [], ◌∷◌, ◌++◌, length, decimal, codes, Option, Some, cond, All, count_by, IfSome, ◌==◌, append_assoc, append-nil, refl, sym, ◌∙◌, ap, arith}
+use Rattle.sedck_cert.proofs.Common.{◌≡◌, ◌⊎◌, inl, inr, ℕ, suc, ◌+◌, ◌≤◌, List, [], ◌∷◌, ◌++◌, length, decimal, codes, Option, Some, All, append_assoc, append-nil, refl, sym, ◌∙◌, ap, arith, if_err_from, names_size, Certificate, nodes_in, AreWithin, line, header, node_texts, joined_lines, IsTextOf, Version, Due, Header, Count, Names, Last, Nothing, IsFaultOf, fault_at, nodes_due, Leads, Stops, list_texts, certificate_lines, Lines, Reads, Writes, CertFault, OutOfMemory}
+use Rattle.std.proofs.Common.{cond, count_by, IfSome, ◌==◌}
 use Rattle.std.specs.Prelude.{Result, IfErr}
 use Rattle.std.specs.Result.{IsErrAnd}
 use Rattle.std.proofs.lemmas.List.Sums.{sum_by-append}
-use Rattle.sedck_commands.proofs.ResultLemmas.{if_err_from}
-use Rattle.sedck_script.specs.Names.{names_size}
-use Rattle.sedck_cert.specs.Certificate.{Certificate, nodes_in, AreWithin}
-use Rattle.sedck_cert.specs.Text.{line, header, node_texts, joined_lines, IsTextOf}
-use Rattle.sedck_cert.specs.declared.versions.Version.{Version}
-use Rattle.sedck_cert.specs.Faults.{Due, Header, Count, Names, Last, Nothing, IsFaultOf, IsLineOf, line_of, fault_at, nodes_due}
-use Rattle.sedck_cert.specs.Private.Reading.{Leads, Stops, list_texts, certificate_lines}
-use Rattle.sedck_cert.specs.declared.reading.lines.Lines.{Lines}
-use Rattle.sedck_cert.specs.declared.reading.names.Files.TheVariants.{Reads, Writes}
-use Rattle.sedck_cert.specs.declared.reading.CertFault.{CertFault}
-use Rattle.sedck_cert.specs.declared.reading.CertFault.TheVariants.{OutOfMemory}
+use Rattle.sedck_cert.specs.Faults.{IsLineOf, line_of}
 use Rattle.sedck_cert.proofs.LineLemmas.{leads_on, leads_stops}
 use Rattle.sedck_cert.proofs.UniqueTexts.{fault_of_none}
 use Rattle.sedck_cert.proofs.LinesAreText.{list_law, certificate_lines-joined}

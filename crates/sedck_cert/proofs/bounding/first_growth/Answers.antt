@@ -1,6 +1,4 @@
-use Rattle.std.proofs.Common.{length, ◌∙◌, sym, ap, arith}
-use Rattle.std.proofs.lemmas.List.{length-map}
-use Rattle.sedck_script.specs.View.{command_of}
+use Rattle.sedck_cert.proofs.Common.{length, ◌∙◌, sym, ap, arith, length-map, command_of}
 use Rattle.sedck_cert.proofs.CheckingLemmas.{leaves_below}
 use Rattle.sedck_cert.proofs.bounding.first_growth.Goals as goal
 

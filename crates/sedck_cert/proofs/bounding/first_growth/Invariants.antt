@@ -1,7 +1,4 @@
-use Rattle.std.proofs.Common.{◌<◌}
-use Rattle.sedck_flow.specs.Nodes.{node_index}
-use Rattle.sedck_flow.specs.Flow.{Flow}
-use Rattle.sedck_cert.specs.Ranked.{NeverGrows}
+use Rattle.sedck_cert.proofs.Common.{◌<◌, node_index, Flow, NeverGrows}
 use Rattle.sedck_cert.proofs.bounding.first_growth.Given as goal
 
 -- none of the edges that leave the nodes so far

@@ -1,4 +1,4 @@
-use Rattle.std.proofs.Common.{None, Some, ◌∙◌, arith}
+use Rattle.sedck_cert.proofs.Common.{None, Some, ◌∙◌, arith}
 use Rattle.sedck_cert.proofs.BoundingLemmas.{ord_max-max, greatest_more}
 use Rattle.sedck_cert.proofs.bounding.greatest.Goals.{in-Some, in_default}
 use Rattle.sedck_cert.proofs.bounding.greatest.Goals as goal

@@ -1,5 +1,4 @@
-use Rattle.std.proofs.Common.{◌≡◌, take}
-use Rattle.sedck_cert.specs.StepLimit.{greatest_first, greatest_second}
+use Rattle.sedck_cert.proofs.Common.{◌≡◌, take, greatest_first, greatest_second}
 use Rattle.sedck_cert.proofs.bounding.greatest.Given as goal
 
 -- the greatest ranks so far

@@ -1,6 +1,5 @@
-use Rattle.std.proofs.Common.{◌++◌, sym, ◌∙◌, ap, subst, rules}
+use Rattle.sedck_cert.proofs.Common.{◌++◌, sym, ◌∙◌, ap, subst, rules, FlowFrom, ListsEdges}
 use Rattle.std.specs.Prelude.{is_none}
-use Rattle.sedck_flow.specs.Flow.{FlowFrom, ListsEdges}
 use Rattle.sedck_flow.specs.contracts.graph.Kind.{the_type}
 use denote.Enum.Bare.{same_true}
 use Rattle.sedck_cert.proofs.BoundingLemmas.{one_grows}

@@ -1,4 +1,4 @@
-use Rattle.sedck_flow.specs.Flow.{FlowFrom}
+use Rattle.sedck_cert.proofs.Common.{FlowFrom}
 use Rattle.sedck_cert.proofs.BoundingLemmas.{HasNoGrowUpTo}
 use Rattle.sedck_cert.proofs.bounding.growth_from.Given as goal
 

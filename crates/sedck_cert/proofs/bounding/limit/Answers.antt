@@ -1,5 +1,4 @@
-use Rattle.std.proofs.Common.{sym, ◌∙◌}
-use Rattle.sedck_cert.specs.Ranked.{IsSteady}
+use Rattle.sedck_cert.proofs.Common.{sym, ◌∙◌, IsSteady}
 use Rattle.sedck_cert.proofs.BoundingLemmas.{bounds_runs, bounds_everywhere, grows_nowhere}
 use Rattle.sedck_cert.proofs.bounding.limit.Goals as goal
 use Rattle.sedck_cert.proofs.bounding.limit.Goals.{After-bound_of}

@@ -1,5 +1,4 @@
-use Rattle.std.proofs.Common.{All, take}
-use Rattle.sedck_cert.specs.Certificate.{AreWithin}
+use Rattle.sedck_cert.proofs.Common.{All, take, AreWithin}
 use Rattle.sedck_cert.proofs.certificate.know_limits.Given as goal
 
 abbrev pub invariant-loop-pair : goal.invariant-loop-pair

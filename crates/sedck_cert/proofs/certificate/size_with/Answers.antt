@@ -1,8 +1,5 @@
-use Rattle.std.proofs.Common.{◌≡◌, ◌+◌, ◌∷◌, drop, arith, ap, sym, ◌∙◌, subst, false}
+use Rattle.sedck_cert.proofs.Common.{◌≡◌, ◌+◌, ◌∷◌, drop, arith, ap, sym, ◌∙◌, subst, false, IsTrue, names_of, AreNext, one_before}
 use Rattle.std.proofs.lemmas.List.{drop_all}
-use Rattle.std.specs.Bool.{IsTrue}
-use Rattle.sedck_cert.specs.View.{names_of}
-use Rattle.sedck_cert.specs.Private.Reading.{AreNext, one_before}
 use Rattle.sedck_cert.proofs.NameLimits.{names_next, next_names, names-few, left_cons}
 use Rattle.sedck_cert.proofs.certificate.size_with.Goals as goal
 

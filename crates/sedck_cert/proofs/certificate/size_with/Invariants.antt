@@ -1,7 +1,5 @@
-use Rattle.std.proofs.Common.{◌≡◌, ◌↔◌, ◌+◌, ◌≤◌, [], drop}
-use Rattle.sedck_script.specs.Names.{names_size}
-use Rattle.sedck_cert.specs.View.{names_of}
-use Rattle.sedck_cert.specs.Private.Reading.{AreNext, one_before}
+use Rattle.sedck_cert.proofs.Common.{◌≡◌, ◌+◌, ◌≤◌, [], drop, names_size, names_of, AreNext, one_before}
+use Rattle.std.proofs.Common.{◌↔◌}
 use Rattle.sedck_cert.proofs.certificate.size_with.Given as goal
 
 -- all are names where those that are left are, after the one before

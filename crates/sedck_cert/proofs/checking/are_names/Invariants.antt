@@ -1,6 +1,4 @@
-use Rattle.std.proofs.Common.{◌≡◌, ℕ, ◌<◌, [], get_or}
-use Rattle.std.specs.Prelude.{map}
-use Rattle.sedck_cert.specs.View.{names_of}
+use Rattle.sedck_cert.proofs.Common.{◌≡◌, ℕ, ◌<◌, [], get_or, map, names_of}
 use Rattle.sedck_cert.proofs.checking.are_names.Given as goal
 
 -- the names so far agree

@@ -1,5 +1,4 @@
-use Rattle.std.proofs.Common.{arith, refl}
-use Rattle.std.proofs.lemmas.Grind.{common_steps}
+use Rattle.sedck_cert.proofs.Common.{arith, refl, common_steps}
 use Rattle.sedck_cert.proofs.CheckingLemmas.{is_ranked, edge_rejection}
 use Rattle.sedck_cert.proofs.checking.first_rejection.Goals as goal
 

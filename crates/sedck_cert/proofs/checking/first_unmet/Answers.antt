@@ -1,5 +1,4 @@
-use Rattle.std.proofs.Common.{◌≡◌, ◌<◌, length, sym, ap, ◌∙◌, arith}
-use Rattle.sedck_flow.specs.Nodes.{node_index, node_count}
+use Rattle.sedck_cert.proofs.Common.{◌≡◌, ◌<◌, length, sym, ap, ◌∙◌, arith, node_index, node_count}
 use Rattle.sedck_cert.proofs.CheckingLemmas.{leaves_below, first_of_all}
 use Rattle.sedck_cert.proofs.checking.first_unmet.Goals as goal
 

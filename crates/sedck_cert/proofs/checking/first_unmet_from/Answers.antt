@@ -1,5 +1,4 @@
-use Rattle.std.proofs.Common.{sym, ◌∙◌, ◌++◌, subst}
-use Rattle.sedck_flow.specs.Flow.{ListsEdges, FlowFrom}
+use Rattle.sedck_cert.proofs.Common.{sym, ◌∙◌, ◌++◌, subst, ListsEdges, FlowFrom}
 use Rattle.sedck_cert.proofs.CheckingLemmas.{first_found}
 use Rattle.sedck_cert.proofs.checking.first_unmet_from.Goals as goal
 

@@ -1,4 +1,4 @@
-use Rattle.sedck_flow.specs.Flow.{FlowFrom}
+use Rattle.sedck_cert.proofs.Common.{FlowFrom}
 use Rattle.sedck_cert.proofs.CheckingLemmas.{IsUpTo}
 use Rattle.sedck_cert.proofs.checking.first_unmet_from.Given as goal
 

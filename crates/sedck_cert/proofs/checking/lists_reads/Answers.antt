@@ -1,6 +1,5 @@
-use Rattle.std.proofs.Common.{sym, ◌∙◌}
+use Rattle.sedck_cert.proofs.Common.{sym, ◌∙◌, NamesForReading}
 use Rattle.sedck_script.specs.Names.{reads as names_of_script}
-use Rattle.sedck_flow.specs.Run.{NamesForReading}
 use Rattle.sedck_cert.proofs.NamesListed.{reads_listed, only_list}
 use Rattle.sedck_cert.proofs.checking.lists_reads.Goals as goal
 

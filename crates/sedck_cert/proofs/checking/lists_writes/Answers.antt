@@ -1,6 +1,5 @@
-use Rattle.std.proofs.Common.{sym, ◌∙◌}
+use Rattle.sedck_cert.proofs.Common.{sym, ◌∙◌, NamesForWriting}
 use Rattle.sedck_script.specs.Names.{writes as names_of_script}
-use Rattle.sedck_flow.specs.Run.{NamesForWriting}
 use Rattle.sedck_cert.proofs.NamesListed.{writes_listed, only_list}
 use Rattle.sedck_cert.proofs.checking.lists_writes.Goals as goal
 

@@ -1,4 +1,4 @@
-use Rattle.sedck_cert.specs.Ranked.{IsFalling}
+use Rattle.sedck_cert.proofs.Common.{IsFalling}
 use Rattle.sedck_cert.proofs.FallingLemmas.{bounds_runs, bounds_everywhere}
 use Rattle.sedck_cert.proofs.falling.limit_by_lines.Goals as goal
 use Rattle.sedck_cert.proofs.falling.limit_by_lines.Goals.{After-bound_of}

@@ -1,6 +1,4 @@
-use Rattle.std.proofs.Common.{◌++◌, refl, subst}
-use Rattle.sedck_flow.specs.Flow.{FlowFrom, ListsEdges}
-use Rattle.sedck_cert.specs.Ranked.{LowersFirst}
+use Rattle.sedck_cert.proofs.Common.{◌++◌, refl, subst, FlowFrom, ListsEdges, LowersFirst}
 use Rattle.sedck_cert.proofs.FallingLemmas.{one_stays, one_more, all_done}
 use Rattle.sedck_cert.proofs.falling.lowers_first_from.Goals as goal
 

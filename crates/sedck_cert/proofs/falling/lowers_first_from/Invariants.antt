@@ -1,4 +1,4 @@
-use Rattle.sedck_flow.specs.Flow.{FlowFrom}
+use Rattle.sedck_cert.proofs.Common.{FlowFrom}
 use Rattle.sedck_cert.proofs.FallingLemmas.{LowerUpTo}
 use Rattle.sedck_cert.proofs.falling.lowers_first_from.Given as goal
 

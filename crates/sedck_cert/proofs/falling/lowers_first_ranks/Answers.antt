@@ -1,8 +1,4 @@
-use Rattle.std.proofs.Common.{length, refl, ◌∙◌, sym, ap, arith}
-use Rattle.std.proofs.lemmas.List.{length-map}
-use Rattle.sedck_script.specs.View.{command_of}
-use Rattle.sedck_flow.specs.Flow.{FlowFrom}
-use Rattle.sedck_cert.specs.Ranked.{AllLowerFirst}
+use Rattle.sedck_cert.proofs.Common.{length, refl, ◌∙◌, sym, ap, arith, length-map, command_of, FlowFrom, AllLowerFirst}
 use Rattle.sedck_cert.proofs.CheckingLemmas.{leaves_below}
 use Rattle.sedck_cert.proofs.falling.lowers_first_ranks.Goals as goal
 

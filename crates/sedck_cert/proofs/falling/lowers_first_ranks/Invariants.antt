@@ -1,7 +1,4 @@
-use Rattle.std.proofs.Common.{◌<◌}
-use Rattle.sedck_flow.specs.Nodes.{node_index}
-use Rattle.sedck_flow.specs.Flow.{Flow}
-use Rattle.sedck_cert.specs.Ranked.{AllLowerFirst}
+use Rattle.sedck_cert.proofs.Common.{◌<◌, node_index, Flow, AllLowerFirst}
 use Rattle.sedck_cert.proofs.falling.lowers_first_ranks.Given as goal
 
 -- the edges that leave the nodes so far lower the first rank

@@ -1,5 +1,4 @@
-use Rattle.std.proofs.Common.{inr, refl}
-use Rattle.sedck_commands.proofs.ResultLemmas.{if_err_from}
+use Rattle.sedck_cert.proofs.Common.{inr, refl, if_err_from}
 use Rattle.sedck_cert.proofs.EitherVersion.{IsRefusedInAny, spelled_one, refused_one, two_only, two_refused}
 use Rattle.sedck_cert.proofs.reading.read_any.Goals as goal
 

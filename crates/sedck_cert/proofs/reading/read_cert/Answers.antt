@@ -1,5 +1,4 @@
-use Rattle.std.proofs.Common.{sym, ◌∙◌}
-use Rattle.sedck_cert.specs.declared.versions.Version.TheVariants.{Two}
+use Rattle.sedck_cert.proofs.Common.{sym, ◌∙◌, Two}
 use Rattle.sedck_cert.proofs.UniqueTexts.{text_of_one}
 use Rattle.sedck_cert.proofs.WholeReading.{refused_as, placed_as}
 use Rattle.sedck_cert.proofs.reading.read_cert.Goals as goal

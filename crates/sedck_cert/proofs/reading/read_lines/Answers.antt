@@ -1,5 +1,4 @@
-use Rattle.std.proofs.Common.{inr}
-use Rattle.sedck_cert.specs.View.{names_of}
+use Rattle.sedck_cert.proofs.Common.{inr, names_of}
 use Rattle.sedck_cert.proofs.LineLemmas.{leads_on}
 use Rattle.sedck_cert.proofs.WholeReading.{refused_later, whole_text}
 use Rattle.sedck_cert.proofs.NameLimits.{names-few}

@@ -1,9 +1,5 @@
-use Rattle.std.proofs.Common.{◌≡◌, length, refl, sym, ap, ◌∙◌, inl, inr, arith}
-use Rattle.std.proofs.lemmas.Bool.{cases_lt}
-use Rattle.std.proofs.lemmas.List.{length-map}
-use Rattle.std.proofs.lemmas.Option.{same_Some, none-some, slice_get_past}
-use Rattle.sedck_commands.specs.Program.{Command}
-use Rattle.sedck_script.specs.View.{command_of}
+use Rattle.sedck_cert.proofs.Common.{◌≡◌, length, refl, sym, ap, ◌∙◌, inl, inr, arith, cases_lt, length-map, none-some, Command, command_of}
+use Rattle.std.proofs.lemmas.Option.{same_Some, slice_get_past}
 use Rattle.sedck_flow.proofs.EdgesLemmas.{read_command}
 use Rattle.sedck_cert.proofs.SpaceLemmas.{none_appends}
 use Rattle.sedck_cert.proofs.spaces.appends_to_hold.Goals as goal

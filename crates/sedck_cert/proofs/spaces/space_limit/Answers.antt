@@ -1,5 +1,4 @@
-use Rattle.std.proofs.Common.{sym, ◌∙◌}
-use Rattle.sedck_cert.specs.SpaceLimit.{AppendsToHold, IsCompact}
+use Rattle.sedck_cert.proofs.Common.{sym, ◌∙◌, AppendsToHold, IsCompact}
 use Rattle.sedck_cert.proofs.SpaceLemmas.{input_size, is_compact}
 use Rattle.sedck_cert.proofs.SpacesCounted.{bounds_spaces, bounds_everywhere}
 use Rattle.sedck_cert.proofs.spaces.space_limit.Goals as goal

@@ -1,4 +1,4 @@
-use Rattle.std.proofs.Common.{◌∙◌}
+use Rattle.sedck_cert.proofs.Common.{◌∙◌}
 use Rattle.sedck_cert.proofs.Written.{more_written}
 use Rattle.sedck_cert.proofs.streams.write_all.Goals as goal
 

@@ -1,4 +1,4 @@
-use Rattle.std.proofs.Common.{◌≡◌, length}
+use Rattle.sedck_cert.proofs.Common.{◌≡◌, length}
 use Rattle.sedck_cert.proofs.Written.{IsPartWritten}
 use Rattle.sedck_cert.proofs.streams.write_all.Given as goal
 

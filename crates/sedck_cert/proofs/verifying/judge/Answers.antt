@@ -1,5 +1,5 @@
 use Rattle.sedck_cert.proofs.Promise.{is_judged, promised, promised_everywhere, answered, no_script, no_certificate}
-use Rattle.sedck_cert.specs.Headline.{IsJudged}
+use Rattle.sedck_cert.proofs.Common.{IsJudged}
 use Rattle.sedck_cert.proofs.verifying.judge.Goals as goal
 use Rattle.sedck_cert.proofs.verifying.judge.Goals.{After-with_verdict}
 

@@ -1,5 +1,4 @@
-use Rattle.std.proofs.Common.{◌≡◌, take}
-use Rattle.sedck_cert.specs.View.{names_of}
+use Rattle.sedck_cert.proofs.Common.{◌≡◌, take, names_of}
 use Rattle.sedck_cert.proofs.version_one.copied.Given as goal
 
 -- the names so far

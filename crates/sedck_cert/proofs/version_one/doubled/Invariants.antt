@@ -1,5 +1,4 @@
-use Rattle.std.proofs.Common.{◌≡◌, take}
-use Rattle.sedck_cert.specs.VersionOne.{doubled}
+use Rattle.sedck_cert.proofs.Common.{◌≡◌, take, doubled}
 use Rattle.sedck_cert.proofs.version_one.doubled.Given as goal
 
 -- the entries so far

@@ -1,9 +1,5 @@
-use Rattle.std.proofs.Common.{sym, ap, subst, ◌∙◌}
-use Rattle.sedck_cert.specs.Certificate.{IsCertificate}
-use Rattle.sedck_cert.specs.VersionOne.{doubled}
-use Rattle.sedck_cert.specs.View.{names_of}
+use Rattle.sedck_cert.proofs.Common.{sym, ap, subst, ◌∙◌, IsCertificate, doubled, names_of, Two}
 use Rattle.sedck_cert.specs.Private.Fields.{with_parts}
-use Rattle.sedck_cert.specs.declared.versions.Version.TheVariants.{Two}
 use Rattle.sedck_cert.proofs.Upgraded.{upgraded_is}
 use Rattle.sedck_cert.proofs.version_one.upgrade.Goals as goal
 

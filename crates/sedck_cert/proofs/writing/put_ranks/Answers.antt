@@ -1,5 +1,4 @@
-use Rattle.std.proofs.Common.{rules}
-use Rattle.std.proofs.lemmas.Fmt.{length-decimal-le}
+use Rattle.sedck_cert.proofs.Common.{rules, length-decimal-le}
 use Rattle.sedck_cert.proofs.writing.put_ranks.Goals as goal
 
 pub write_digits-start-requires : goal.write_digits-start-requires

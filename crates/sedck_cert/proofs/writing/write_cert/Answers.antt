@@ -1,4 +1,4 @@
-use Rattle.std.proofs.Common.{refl}
+use Rattle.sedck_cert.proofs.Common.{refl}
 use Rattle.sedck_cert.proofs.Written.{on_err, begins_first, begins_at, begins_third, written_fourth, begun_fourth}
 use Rattle.sedck_cert.proofs.Pieces.{pieces_at}
 use Rattle.sedck_cert.proofs.writing.write_cert.Goals as goal

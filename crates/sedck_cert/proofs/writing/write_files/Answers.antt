@@ -1,4 +1,4 @@
-use Rattle.std.specs.Prelude.{map}
+use Rattle.sedck_cert.proofs.Common.{map}
 use Rattle.sedck_cert.proofs.Written.{on_err, begins_first, begun_last}
 use Rattle.sedck_cert.proofs.Pieces.{files_pieces}
 use Rattle.sedck_cert.proofs.writing.write_files.Goals as goal

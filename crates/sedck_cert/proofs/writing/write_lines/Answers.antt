@@ -1,7 +1,4 @@
-use Rattle.std.proofs.Common.{sym, subst, ◌∙◌}
-use Rattle.std.specs.Io.KnownBytes.{Appends}
-use Rattle.sedck_cert.specs.Text.{line}
-use Rattle.sedck_cert.specs.Streams.{AppendsPrefix}
+use Rattle.sedck_cert.proofs.Common.{sym, subst, ◌∙◌, Appends, line, AppendsPrefix}
 use Rattle.sedck_cert.proofs.Written.{on_err, begins_at, appends_join}
 use Rattle.sedck_cert.proofs.Pieces.{joined_lines-at, joined_lines-more}
 use Rattle.sedck_cert.proofs.writing.write_lines.Goals as goal

@@ -1,7 +1,4 @@
-use Rattle.std.proofs.Common.{◌≡◌, take}
-use Rattle.std.specs.Prelude.{map}
-use Rattle.std.specs.Io.KnownBytes.{Appends}
-use Rattle.sedck_cert.specs.Text.{joined_lines}
+use Rattle.sedck_cert.proofs.Common.{◌≡◌, take, map, Appends, joined_lines}
 use Rattle.sedck_cert.proofs.writing.write_lines.Given as goal
 
 -- the names so far were taken

@@ -1,5 +1,4 @@
-use Rattle.std.proofs.Common.{None, sym, subst, ◌∙◌}
-use Rattle.std.specs.Io.KnownBytes.{Appends}
+use Rattle.sedck_cert.proofs.Common.{None, sym, subst, ◌∙◌, Appends}
 use Rattle.sedck_cert.proofs.Written.{on_err, begins_at, appends_join}
 use Rattle.sedck_cert.proofs.Pieces.{node_lines-at, node_lines-more}
 use Rattle.sedck_cert.proofs.writing.write_nodes.Goals as goal

@@ -1,7 +1,4 @@
-use Rattle.std.proofs.Common.{◌≡◌, take}
-use Rattle.std.specs.Io.KnownBytes.{Appends}
-use Rattle.sedck_cert.specs.Text.{node_texts, joined_lines}
-use Rattle.sedck_cert.specs.declared.versions.Version.TheVariants.{Two}
+use Rattle.sedck_cert.proofs.Common.{◌≡◌, take, Appends, node_texts, joined_lines, Two}
 use Rattle.sedck_cert.proofs.writing.write_nodes.Given as goal
 
 -- the lines of the nodes so far were taken

@@ -1,6 +1,4 @@
-use Rattle.std.proofs.Common.{refl, codes}
-use Rattle.sedck_cert.specs.Faults.{Count}
-use Rattle.sedck_cert.specs.Private.Reading.{Stops}
+use Rattle.sedck_cert.proofs.Common.{refl, codes, Count, Stops}
 use Rattle.sedck_cert.proofs.LineLemmas.{wrong_count, stops_here, refused_or}
 use Rattle.sedck_cert.proofs.reading.frame.command_count.Goals as goal
 

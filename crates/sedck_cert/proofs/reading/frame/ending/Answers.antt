@@ -1,5 +1,4 @@
-use Rattle.std.proofs.Common.{refl, codes, arith, ◌<◌, length}
-use Rattle.sedck_cert.specs.Faults.{Last, Nothing}
+use Rattle.sedck_cert.proofs.Common.{refl, codes, arith, ◌<◌, length, Last, Nothing}
 use Rattle.sedck_cert.proofs.LineLemmas.{wrong_word, stops_here, leads_one, leads_stops}
 use Rattle.sedck_cert.proofs.reading.frame.ending.Goals as goal
 

@@ -1,5 +1,4 @@
-use Rattle.std.proofs.Common.{refl}
-use Rattle.sedck_cert.specs.Faults.{Header}
+use Rattle.sedck_cert.proofs.Common.{refl, Header}
 use Rattle.sedck_cert.proofs.LineLemmas.{wrong_word, stops_here}
 use Rattle.sedck_cert.proofs.reading.frame.header.Goals as goal
 

@@ -1,4 +1,4 @@
-use Rattle.std.proofs.Common.{◌++◌, ◌≤◌, decimal}
+use Rattle.sedck_cert.proofs.Common.{◌++◌, ◌≤◌, decimal}
 use Rattle.sedck_cert.proofs.LineLemmas.{no_cut, next_by_line}
 use Rattle.sedck_cert.proofs.reading.frame.next_count.Goals as goal
 

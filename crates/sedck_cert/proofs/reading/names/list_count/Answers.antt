@@ -1,7 +1,4 @@
-use Rattle.std.proofs.Common.{ℕ, refl}
-use Rattle.sedck_cert.specs.Faults.{Names, list_word}
-use Rattle.sedck_cert.specs.Private.Reading.{Stops}
-use Rattle.sedck_cert.specs.declared.versions.Version.{Version}
+use Rattle.sedck_cert.proofs.Common.{ℕ, refl, Names, list_word, Stops, Version}
 use Rattle.sedck_cert.proofs.LineLemmas.{wrong_count, stops_here, refused_or}
 use Rattle.sedck_cert.proofs.reading.names.list_count.Goals as goal
 

@@ -1,6 +1,4 @@
-use Rattle.std.proofs.Common.{◌≡◌, true, false, refl}
-use Rattle.sedck_cert.specs.Faults.{Name}
-use Rattle.sedck_cert.specs.Private.Reading.{one_before}
+use Rattle.sedck_cert.proofs.Common.{◌≡◌, true, false, refl, Name, one_before}
 use Rattle.sedck_cert.proofs.LineLemmas.{wrong_none, stops_here}
 use Rattle.sedck_cert.proofs.DueLines.{wrong_name}
 use Rattle.sedck_cert.proofs.reading.names.name_line.Goals as goal

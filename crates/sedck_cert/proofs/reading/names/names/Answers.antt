@@ -1,10 +1,4 @@
-use Rattle.std.proofs.Common.{◌≡◌, ◌⊎◌, inr, suc, ◌+◌, ◌-◌, ◌<◌, [], ◌∷◌, ◌++◌, length, arith, ap}
-use Rattle.std.proofs.lemmas.Grind.{common_steps}
-use Rattle.sedck_cert.specs.Faults.{Names}
-use Rattle.sedck_cert.specs.declared.versions.Version.{Version}
-use Rattle.sedck_cert.specs.Private.Reading.{Stops}
-use Rattle.sedck_cert.specs.declared.reading.CertFault.TheVariants.{OutOfMemory}
-use Rattle.sedck_commands.proofs.ResultLemmas.{if_err_from}
+use Rattle.sedck_cert.proofs.Common.{◌≡◌, ◌⊎◌, inr, suc, ◌+◌, ◌-◌, ◌<◌, [], ◌∷◌, ◌++◌, length, arith, ap, common_steps, Names, Version, Stops, OutOfMemory, if_err_from}
 use Rattle.sedck_cert.proofs.LineLemmas.{leads_stops}
 use Rattle.sedck_cert.proofs.DueLines.{leads_name, leads_no_names, leads_all_names}
 use Rattle.sedck_cert.proofs.reading.names.names.Goals as goal

@@ -1,8 +1,4 @@
-use Rattle.std.proofs.Common.{◌≡◌, ℕ, ◌+◌, ◌-◌, ◌≤◌, ◌++◌, ◌∷◌, length, decimal}
-use Rattle.sedck_cert.specs.View.{names_of}
-use Rattle.sedck_cert.specs.Faults.{Names, list_word, names_due}
-use Rattle.sedck_cert.specs.declared.versions.Version.{Version}
-use Rattle.sedck_cert.specs.Private.Reading.{Leads, one_before}
+use Rattle.sedck_cert.proofs.Common.{◌≡◌, ℕ, ◌+◌, ◌-◌, ◌≤◌, ◌++◌, ◌∷◌, length, decimal, names_of, Names, list_word, names_due, Version, Leads, one_before}
 use Rattle.sedck_cert.proofs.reading.names.names.Given as goal
 
 -- the names so far

@@ -1,5 +1,4 @@
-use Rattle.std.proofs.Common.{sym, ◌∙◌, arith}
-use Rattle.std.proofs.lemmas.Fmt.{decimal_injective}
+use Rattle.sedck_cert.proofs.Common.{sym, ◌∙◌, arith, decimal_injective}
 use Rattle.sedck_cert.proofs.CutLemmas.{has_byte, front_of_number}
 use Rattle.sedck_cert.proofs.reading.nodes.behind_number.Goals as goal
 

@@ -1,5 +1,4 @@
-use Rattle.sedck_cert.specs.Certificate.{AreWithin}
-use Rattle.sedck_cert.specs.Text.{node_text}
+use Rattle.sedck_cert.proofs.Common.{AreWithin, node_text}
 use Rattle.sedck_cert.proofs.LineLemmas.{no_cut, next_by_line}
 use Rattle.sedck_cert.proofs.reading.nodes.next_ranks.Goals as goal
 

@@ -1,6 +1,5 @@
-use Rattle.std.proofs.Common.{ℕ, refl}
+use Rattle.sedck_cert.proofs.Common.{ℕ, refl, Stops}
 use Rattle.sedck_cert.specs.Faults.{Node}
-use Rattle.sedck_cert.specs.Private.Reading.{Stops}
 use Rattle.sedck_cert.proofs.LineLemmas.{stops_here, refused_or}
 use Rattle.sedck_cert.proofs.DueLines.{wrong_node}
 use Rattle.sedck_cert.proofs.reading.nodes.node_line.Goals as goal

@@ -1,6 +1,4 @@
-use Rattle.std.proofs.Common.{◌++◌, codes, append_assoc, sym, ◌∙◌}
-use Rattle.sedck_cert.specs.Certificate.{AreWithin}
-use Rattle.sedck_cert.specs.Text.{words_in, ranks_text}
+use Rattle.sedck_cert.proofs.Common.{◌++◌, codes, append_assoc, sym, ◌∙◌, AreWithin, words_in, ranks_text}
 use Rattle.sedck_cert.proofs.CutLemmas.{read_behind}
 use Rattle.sedck_cert.proofs.reading.nodes.node_ranks.Goals as goal
 

@@ -1,11 +1,5 @@
-use Rattle.std.proofs.Common.{◌≡◌, ◌⊎◌, inr, suc, ◌+◌, ◌-◌, arith}
-use Rattle.std.proofs.lemmas.Grind.{common_steps}
+use Rattle.sedck_cert.proofs.Common.{◌≡◌, ◌⊎◌, inr, suc, ◌+◌, ◌-◌, arith, common_steps, AreWithin, nodes_in, nodes_due, Stops, OutOfMemory, if_err_from}
 use Rattle.std.proofs.lemmas.List.Elements.{All-push}
-use Rattle.sedck_cert.specs.Certificate.{AreWithin, nodes_in}
-use Rattle.sedck_cert.specs.Faults.{nodes_due}
-use Rattle.sedck_cert.specs.Private.Reading.{Stops}
-use Rattle.sedck_cert.specs.declared.reading.CertFault.TheVariants.{OutOfMemory}
-use Rattle.sedck_commands.proofs.ResultLemmas.{if_err_from}
 use Rattle.sedck_cert.proofs.LineLemmas.{leads_stops}
 use Rattle.sedck_cert.proofs.DueLines.{leads_node}
 use Rattle.sedck_cert.proofs.reading.nodes.nodes.Goals as goal

@@ -1,8 +1,4 @@
-use Rattle.std.proofs.Common.{◌≡◌, ℕ, ◌+◌, length, All}
-use Rattle.sedck_cert.specs.Certificate.{AreWithin, nodes_in}
-use Rattle.sedck_cert.specs.Faults.{nodes_due}
-use Rattle.sedck_cert.specs.Text.{node_texts}
-use Rattle.sedck_cert.specs.Private.Reading.{Leads}
+use Rattle.sedck_cert.proofs.Common.{◌≡◌, ℕ, ◌+◌, length, All, AreWithin, nodes_in, nodes_due, node_texts, Leads}
 use Rattle.sedck_cert.proofs.reading.nodes.nodes.Given as goal
 
 -- the nodes so far

@@ -1,5 +1,4 @@
-use Rattle.std.proofs.Common.{◌≡◌, ◌+◌, ◌<◌, length, get_or, refl, arith}
-use Rattle.std.specs.Int.{IsInRange}
+use Rattle.sedck_cert.proofs.Common.{◌≡◌, ◌+◌, ◌<◌, length, get_or, refl, arith, IsInRange}
 use Rattle.sedck_cert.proofs.Decimals.{decimal-some, decimal-front, decimal-digit, decimal-le, digits-more, decimal-of_digits}
 use Rattle.sedck_cert.proofs.reading.numbers.number.Goals.{else-text-eq48-via-then-text-eq48+else-text-gt1, else-text-eq48-via-else-text-eq48}
 use Rattle.sedck_cert.proofs.reading.numbers.number.Goals as goal

@@ -1,5 +1,4 @@
-use Rattle.std.proofs.Common.{◌≡◌, ◌≤◌, take}
-use Rattle.std.specs.Str.Parse.{AllDigits, digits_value}
+use Rattle.sedck_cert.proofs.Common.{◌≡◌, ◌≤◌, take, AllDigits, digits_value}
 use Rattle.sedck_cert.proofs.reading.numbers.number.Given as goal
 
 -- the value of the digits so far
