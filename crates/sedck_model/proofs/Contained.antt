@@ -1,12 +1,7 @@
 -- What a list that is mapped contains, and the trees of a list of expressions.
-use Rattle.std.proofs.Common.{◌≡◌, ◌∙◌, inl, inr, ℕ, ◌+◌, ◌<◌, List, [], ◌∷◌, ◌++◌, length, take, get_or, map, Contains, refl, sym, ap, subst, arith}
-use Rattle.std.proofs.lemmas.List.{take_more, map-append}
-use Rattle.std.proofs.lemmas.List.Elements.{Contains-get_or}
-use Rattle.std.specs.Borrow.{Bor}
+use Rattle.sedck_model.proofs.Common.{◌≡◌, ◌∙◌, inl, inr, ℕ, ◌+◌, ◌<◌, List, [], ◌∷◌, ◌++◌, length, take, get_or, map, refl, sym, ap, subst, arith, take_more, map-append, Contains-get_or, Bor, tree, Bre, trees_in}
+use Rattle.std.proofs.Common.{Contains}
 use Rattle.sedck_script.proofs.SortedNames.{Contains-cons_cases, Contains-cons_more}
-use Rattle.sedck_expressions.specs.View.{tree}
-use Rattle.sedck_expressions.specs.declared.tree.Bre.{Bre}
-use Rattle.sedck_model.specs.Private.Candidates.{trees_in}
 
 pub contains_mapped : {X Y : Type 0} → (f : X → Y) (xs : List X) (y : Y) → Contains (map f xs) y → (x : X) × Contains xs x × (f x ≡ y)
 contains_mapped f [] y c = let none : c.0 < 0 = c.1 in absurd (omega arith)

@@ -1,16 +1,6 @@
 -- Ends of matches, and parts of texts that are matched.
-use Rattle.std.proofs.Common.{◌≡◌, ℕ, zero, suc, ◌<◌, ◌≤◌, List, [], ◌∷◌, ◌++◌, length, get_or, take, drop, map, Option, None, Result, Ok, Err, inl, inr, refl, sym, ap, ◌∙◌, subst, arith, length-append, append_assoc}
-use Rattle.std.specs.Prelude.{◌↔◌, Contains, IfOk, replicate}
-use Rattle.std.specs.List.{All}
-use Rattle.std.proofs.Math.Path.{fun_ext}
-use Rattle.std.proofs.lemmas.List.{take-append-drop, drop_at}
-use Rattle.std.proofs.lemmas.List.Elements.{Contains-get_or}
-use Rattle.sedck_expressions.specs.Tree.{Tree}
-use Rattle.sedck_bre.specs.Match.{no_groups}
-use Rattle.sedck_model.specs.declared.spots.Span.{Span}
-use Rattle.sedck_model.specs.declared.spots.Spot.{Spot}
-use Rattle.sedck_model.specs.Spots.{Reached, reached, beginning, groups_of, span_text, Leads, AreEnds, HasPartIn}
-use Rattle.sedck_model.specs.Private.Lists.{AreLed, AreWithin}
+use Rattle.sedck_model.proofs.Common.{◌≡◌, ℕ, zero, suc, ◌<◌, ◌≤◌, List, [], ◌∷◌, ◌++◌, length, get_or, take, drop, map, Option, None, Result, Ok, Err, inl, inr, refl, sym, ap, ◌∙◌, subst, arith, length-append, append_assoc, ◌↔◌, Contains, IfOk, replicate, All, fun_ext, take-append-drop, Contains-get_or, Tree, no_groups, Span, Spot, Reached, reached, beginning, groups_of, span_text, Leads, AreEnds, HasPartIn, AreLed, AreWithin}
+use Rattle.std.proofs.lemmas.List.{drop_at}
 use Rattle.sedck_model.proofs.ListLemmas.{none_contained, first_contained, later_contained, contained_cases}
 use Rattle.sedck_model.proofs.LedLemmas.{has_one}
 use Rattle.sedck_model.proofs.GroupLemmas.{between_length}

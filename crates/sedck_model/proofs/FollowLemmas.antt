@@ -1,16 +1,7 @@
 -- Where each form of a tree leads from a list of spots.
-use Rattle.std.proofs.Common.{◌≡◌, ℕ, ◌+◌, ◌-◌, ◌≤◌, List, [], ◌∷◌, length, drop, Some, None, Vec, Global, Result, ◌⊎◌, inl, inr, refl, sym, ap, ◌∙◌, subst, arith}
-use Rattle.std.specs.Prelude.{◌↔◌, Contains, IfOk}
-use Rattle.std.proofs.lemmas.Result.{IfOk-weaker}
-use Rattle.sedck_expressions.specs.Tree.{Tree, Trees, Group, Seq, Repeat, Then}
-use Rattle.sedck_bre.specs.Match.{unset}
-use Rattle.sedck_expressions.specs.View.{tree}
-use Rattle.sedck_expressions.specs.declared.tree.Bre.{Bre}
+use Rattle.sedck_model.proofs.Common.{◌≡◌, ℕ, ◌+◌, ◌-◌, ◌≤◌, List, [], ◌∷◌, length, drop, Some, None, Result, ◌⊎◌, inl, inr, refl, sym, ap, ◌∙◌, subst, arith, ◌↔◌, Contains, IfOk, IfOk-weaker, Tree, Trees, Group, Seq, Repeat, Then, unset, tree, Bre, Spot, Reached, reached, groups_of, Leads, Relation, Among, IsLed, AreLed, AreWithin, Adds, AddsLed, IsBetween, Closes, Steps, UpTo, Many}
+use Rattle.std.proofs.Common.{Vec, Global}
 use Rattle.sedck_model.specs.declared.spending.Undecided.{Undecided}
-use Rattle.sedck_model.specs.declared.spots.Spot.{Spot}
-use Rattle.sedck_model.specs.Spots.{Reached, reached, groups_of, Leads}
-use Rattle.sedck_model.specs.Private.Lists.{Relation, Among, IsLed, AreLed, AreWithin, Adds, AddsLed, IsBetween}
-use Rattle.sedck_model.specs.Private.Relations.{Closes, Steps, UpTo, Many}
 use Rattle.sedck_model.proofs.ListLemmas.{first_contained, later_contained, contained_cases, only_contained}
 use Rattle.sedck_model.proofs.LedLemmas.{AreLed-same, has_added, has_one}
 use Rattle.sedck_model.proofs.StepsLemmas.{After, both_ways, led_through, steps_added}

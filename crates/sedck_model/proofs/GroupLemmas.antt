@@ -1,17 +1,12 @@
 -- The texts of groups, after a span is set or taken away.
-use Rattle.std.proofs.Common.{◌≡◌, ℕ, ◌+◌, ◌-◌, ◌<◌, ◌≤◌, Bool, true, false, cond, eqb, List, [], ◌∷◌, ◌++◌, length, get_or, set, take, drop, Option, Some, None, inl, inr, refl, sym, ap, ◌∙◌, arith, length-drop, length-append}
+use Rattle.sedck_model.proofs.Common.{◌≡◌, ℕ, ◌+◌, ◌-◌, ◌<◌, ◌≤◌, Bool, true, false, cond, eqb, List, [], ◌∷◌, ◌++◌, length, get_or, take, drop, Option, Some, None, inl, inr, refl, sym, ap, ◌∙◌, arith, length-drop, length-append, fun_ext, take_at, Tree, groups_in, is_in, unset, Span, Spot, reached, span_text, groups_of, IsNext, IsBetween, Closes}
+use Rattle.std.proofs.Common.{set}
 use Rattle.std.specs.Prelude.{slice_range, slice_set, slice_index_or, ◌||◌}
 use Rattle.std.specs.List.{list_any}
-use Rattle.std.proofs.Math.Path.{fun_ext}
 use Rattle.std.proofs.lemmas.Bool.Decides.{eqb_tells}
-use Rattle.std.proofs.lemmas.List.{take_at, get_or-set_same, get_or-set_other}
-use Rattle.sedck_expressions.specs.Tree.{Tree, groups_in, is_in}
-use Rattle.sedck_bre.specs.Match.{unset, with_text}
-use Rattle.sedck_model.specs.declared.spots.Span.{Span}
-use Rattle.sedck_model.specs.declared.spots.Spot.{Spot}
-use Rattle.sedck_model.specs.Spots.{reached, span_text, groups_of}
-use Rattle.sedck_model.specs.Private.Lists.{IsNext, IsBetween}
-use Rattle.sedck_model.specs.Private.Relations.{AreUnset, Closes, SetsGroup}
+use Rattle.std.proofs.lemmas.List.{get_or-set_same, get_or-set_other}
+use Rattle.sedck_bre.specs.Match.{with_text}
+use Rattle.sedck_model.specs.Private.Relations.{AreUnset, SetsGroup}
 
 pub between_length : (text w : List ℕ) (start end : ℕ) → start ≤ length text → end ≤ length text → drop start text ≡ w ++ drop end text → end ≡ start + length w
 between_length text w start end first last cut =

@@ -1,12 +1,7 @@
 -- Where the trees lead, form by form.
-use Rattle.std.proofs.Common.{◌≡◌, ℕ, zero, suc, List, [], ◌∷◌, ◌++◌, Option, ◌⊎◌, inl, inr, refl, sym, ap, ◌∙◌, subst, append_assoc}
-use Rattle.std.specs.Prelude.{◌↔◌}
-use Rattle.std.proofs.lemmas.List.{append_cancel_right}
-use Rattle.sedck_expressions.specs.Tree.{Tree, Trees, Byte, Any, Set, Maybe, Group, Ref, Seq, Repeat, Nil, Then}
-use Rattle.sedck_bre.specs.Match.{Groups, Match, Times, IsWithin, unset, text_of}
-use Rattle.sedck_model.specs.Spots.{Reached, Leads}
-use Rattle.sedck_model.specs.Private.Lists.{Relation}
-use Rattle.sedck_model.specs.Private.Relations.{Consumes, Repeats, Closes, Steps}
+use Rattle.sedck_model.proofs.Common.{◌≡◌, ℕ, zero, suc, List, [], ◌∷◌, ◌++◌, Option, ◌⊎◌, inl, inr, refl, sym, ap, ◌∙◌, subst, append_assoc, ◌↔◌, append_cancel_right, Tree, Trees, Group, Seq, Repeat, Then, Groups, Match, unset, text_of, Reached, Leads, Relation, Consumes, Repeats, Closes, Steps}
+use Rattle.sedck_expressions.specs.Tree.{Byte, Any, Set, Maybe, Ref, Nil}
+use Rattle.sedck_bre.specs.Match.{Times, IsWithin}
 use Rattle.sedck_model.proofs.StepsLemmas.{After}
 
 -- nothing is matched, and the groups keep their texts

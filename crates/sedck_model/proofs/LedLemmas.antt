@@ -1,11 +1,5 @@
 -- What lists of spots stand for, and where relations lead from them.
-use Rattle.std.proofs.Common.{◌≡◌, ℕ, ◌+◌, ◌<◌, ◌≤◌, List, [], ◌∷◌, ◌++◌, length, get_or, take, Some, None, ◌⊎◌, inl, inr, sym, subst}
-use Rattle.std.specs.Prelude.{◌↔◌, Contains}
-use Rattle.std.proofs.lemmas.List.{take_more, take_all}
-use Rattle.std.proofs.lemmas.List.Elements.{Contains-append_left, Contains-append_right, Contains-append_cases, Contains-get_or}
-use Rattle.sedck_model.specs.declared.spots.Spot.{Spot}
-use Rattle.sedck_model.specs.Spots.{Reached, reached}
-use Rattle.sedck_model.specs.Private.Lists.{Relation, AreLed, IsNext, AreWithin, Adds, AddsLed}
+use Rattle.sedck_model.proofs.Common.{◌≡◌, ℕ, ◌+◌, ◌<◌, ◌≤◌, List, [], ◌∷◌, ◌++◌, length, get_or, take, Some, None, ◌⊎◌, inl, inr, sym, subst, ◌↔◌, Contains, take_more, take_all, Contains-append_left, Contains-append_right, Contains-append_cases, Contains-get_or, Spot, Reached, reached, Relation, AreLed, IsNext, AreWithin, Adds, AddsLed}
 use Rattle.sedck_model.proofs.ListLemmas.{none_contained, first_contained, only_contained}
 
 -- some spot of the list has P

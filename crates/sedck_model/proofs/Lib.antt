@@ -1,3 +1,4 @@
+mod Common
 mod ListLemmas
 mod SameSpots
 mod LedLemmas

@@ -1,10 +1,5 @@
 -- Lists of spots as sets.
-use Rattle.std.proofs.Common.{◌≡◌, ℕ, zero, suc, ◌+◌, ◌<◌, List, [], ◌∷◌, ◌++◌, length, get_or, take, ◌⊎◌, inl, inr, refl, sym, subst, arith}
-use Rattle.std.specs.Prelude.{Contains}
-use Rattle.std.proofs.lemmas.List.{take_more}
-use Rattle.std.proofs.lemmas.List.Elements.{Contains-append_left, Contains-append_right, Contains-append_cases}
-use Rattle.sedck_model.specs.declared.spots.Spot.{Spot}
-use Rattle.sedck_model.specs.Private.Lists.{Adds, IsWithout}
+use Rattle.sedck_model.proofs.Common.{◌≡◌, ℕ, zero, suc, ◌+◌, ◌<◌, List, [], ◌∷◌, ◌++◌, length, get_or, take, ◌⊎◌, inl, inr, refl, sym, subst, arith, Contains, take_more, Contains-append_left, Contains-append_right, Contains-append_cases, Spot, Adds, IsWithout}
 
 module _ {X : Type 0} where
   pub none_contained : (x : X) → Contains [] x → ⊥

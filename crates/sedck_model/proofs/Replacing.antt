@@ -1,19 +1,13 @@
 -- A substitution is its first match, what is after that, and the rest.
-use Rattle.std.proofs.Common.{◌≡◌, ◌∙◌, ◌⊎◌, inl, inr, ℕ, ◌+◌, ◌-◌, ◌<◌, ◌≤◌, Bool, true, false, List, [], ◌∷◌, ◌++◌, length, take, drop, refl, sym, ap, subst, arith, append_assoc, length-append, length-take, length-drop, map, get_or, All, Contains}
-use Rattle.std.proofs.lemmas.List.{append_cancel_right, take-append-drop, append-nil, take_all, take-take, take_more, map-append}
-use Rattle.std.proofs.lemmas.List.Elements.{All-contains}
+use Rattle.sedck_model.proofs.Common.{◌≡◌, ◌∙◌, ◌⊎◌, inl, inr, ℕ, ◌+◌, ◌-◌, ◌<◌, ◌≤◌, Bool, true, false, List, [], ◌∷◌, ◌++◌, length, take, drop, refl, sym, ap, subst, arith, append_assoc, length-append, length-drop, map, get_or, append_cancel_right, take-append-drop, take_all, take_more, map-append, All-contains, Tree, Groups, no_groups, Match, Program, part_of, StandsFor, Reached, Leads, groups_of, reached, beginning, AreEnds, Spot, ReplacesIn, Replaces, ReplacesAt, text_for}
+use Rattle.std.proofs.Common.{length-take, All, Contains}
+use Rattle.std.proofs.lemmas.List.{append-nil, take-take}
 use Rattle.std.proofs.Math.Seq.{take-append_seam, drop-append_seam}
 use Rattle.sedck_model.proofs.Contained.{contains_mapped, mapped_contains}
-use Rattle.sedck_expressions.specs.Tree.{Tree}
-use Rattle.sedck_bre.specs.Match.{Groups, no_groups, Match}
-use Rattle.sedck_commands.specs.Program.{Part, Text, Newline, Tab, Whole, Group, Substitution, Program}
-use Rattle.sedck_script.specs.View.{part_of}
+use Rattle.sedck_commands.specs.Program.{Part, Text, Newline, Tab, Whole, Group, Substitution}
 use Rattle.sedck_commands.specs.declared.types.Part as code
-use Rattle.sedck_flow.specs.Patterns.{StandsFor}
 use Rattle.sedck_flow.specs.Substitutes.{Occurrence, part_text, replacement, matched, replaced, AreMatchesIn, AreApart, Substitutes}
-use Rattle.sedck_model.specs.Spots.{Reached, Leads, groups_of, reached, beginning, AreEnds}
-use Rattle.sedck_model.specs.declared.spots.Spot.{Spot}
-use Rattle.sedck_model.specs.Private.Replacing.{ReplacesIn, Replaces, ReplacesAt, Continues, occurrence, text_for}
+use Rattle.sedck_model.specs.Private.Replacing.{Continues, occurrence}
 
 -- ---- What takes the place of a match doesn't depend on what is after it
 

@@ -1,12 +1,8 @@
 -- Steps, one after another.
-use Rattle.std.proofs.Common.{◌≡◌, ℕ, ◌+◌, ◌<◌, List, [], ◌∷◌, ◌++◌, map, length, get_or, take, refl, sym, ap, ◌∙◌, subst, arith}
-use Rattle.std.proofs.lemmas.List.{length-map, get_or-map, take_more}
-use Rattle.std.proofs.lemmas.Option.{slice_get_read}
-use Rattle.sedck_commands.specs.Program.{Program}
-use Rattle.sedck_text.specs.Bytes.{newline}
-use Rattle.sedck_flow.specs.Run.{Event, State, Start, Step, Steps, Run, state_after, posix}
+use Rattle.sedck_model.proofs.Common.{◌≡◌, ℕ, ◌+◌, ◌<◌, List, [], ◌∷◌, ◌++◌, map, length, get_or, take, refl, sym, ap, ◌∙◌, subst, arith, length-map, get_or-map, take_more, slice_get_read, Program, newline, Run, state_after, state_of, move_of}
+use Rattle.sedck_flow.specs.Run.{Event, State, Start, Step, Steps, posix}
 use Rattle.sedck_flow.proofs.Widening.{extended}
-use Rattle.sedck_model.specs.States.{event_of, state_of, move_of, IsFirstWrong}
+use Rattle.sedck_model.specs.States.{event_of, IsFirstWrong}
 use Rattle.sedck_model.specs.declared.states.Move.{Move}
 
 state_after-push : (s : State) (steps : List (Event × State)) (next : Event × State) → state_after s (steps ++ next ∷ []) ≡ next.1

@@ -1,12 +1,10 @@
 -- Spots that a comparison finds the same are the same.
-use Rattle.std.proofs.Common.{◌≡◌, Bool, true, eqb, List, [], ◌∷◌, Option, Some, None, refl, ap, ◌∙◌, subst}
+use Rattle.sedck_model.proofs.Common.{◌≡◌, Bool, true, eqb, List, [], ◌∷◌, Option, Some, None, refl, ap, ◌∙◌, subst, eqb-true, false≢true, Span, Spot}
 use Rattle.std.specs.Prelude.{◌&&◌}
 use Rattle.std.specs.Option.{option_eq}
-use Rattle.std.proofs.lemmas.Bool.{eqb-true, eq-eqb, false≢true}
+use Rattle.std.proofs.lemmas.Bool.{eq-eqb}
 use lib.Pointwise.{pointwise}
 use Rattle.sedck_expressions.proofs.ReadLemmas.{and_left}
-use Rattle.sedck_model.specs.declared.spots.Span.{Span}
-use Rattle.sedck_model.specs.declared.spots.Spot.{Spot}
 
 abbrev Tells : {X : Type 0} → (X → X → Bool) → Type 0
 Tells {X} same = (a b : X) → same a b ≡ true → a ≡ b

@@ -1,17 +1,11 @@
 -- Expressions of which none matches a part of a text.
-use Rattle.std.proofs.Common.{◌≡◌, ◌↔◌, ℕ, ◌+◌, ◌<◌, ◌≤◌, List, [], ◌∷◌, ◌++◌, length, get_or, take, Contains, sym, ap, ◌∙◌, subst}
-use Rattle.std.specs.Borrow.{Bor}
-use Rattle.std.specs.List.{All}
-use Rattle.std.proofs.lemmas.List.{map_more, take_all}
-use Rattle.std.proofs.lemmas.List.Elements.{All-push, All-contains}
-use Rattle.sedck_expressions.specs.Tree.{Tree}
-use Rattle.sedck_expressions.specs.View.{tree}
-use Rattle.sedck_expressions.specs.declared.tree.Bre.{Bre}
-use Rattle.sedck_commands.specs.Program.{Program, Pattern, Previous, Expression, Command, patterns, expressions}
-use Rattle.sedck_flow.specs.Patterns.{StandsFor, HasMatch}
+use Rattle.sedck_model.proofs.Common.{◌≡◌, ℕ, ◌+◌, ◌<◌, ◌≤◌, List, [], ◌∷◌, ◌++◌, length, get_or, take, sym, ap, ◌∙◌, subst, Bor, All, take_all, All-contains, Tree, tree, Bre, Program, expressions, StandsFor, HasPartIn, trees_in}
+use Rattle.std.proofs.Common.{◌↔◌, Contains}
+use Rattle.std.proofs.lemmas.List.{map_more}
+use Rattle.std.proofs.lemmas.List.Elements.{All-push}
+use Rattle.sedck_commands.specs.Program.{Pattern, Previous, Expression, Command, patterns}
+use Rattle.sedck_flow.specs.Patterns.{HasMatch}
 use Rattle.sedck_flow.proofs.ExpressionPatterns.{expressions_are_patterns}
-use Rattle.sedck_model.specs.Spots.{HasPartIn}
-use Rattle.sedck_model.specs.Private.Candidates.{trees_in}
 
 abbrev pub HasNone : List ℕ → List Tree → Type 0
 HasNone text trees = All (λ t. HasPartIn t text → ⊥) trees

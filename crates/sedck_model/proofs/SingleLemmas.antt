@@ -1,14 +1,8 @@
 -- The text of a group once more.
-use Rattle.std.proofs.Common.{◌≡◌, ℕ, ◌+◌, ◌-◌, ◌≤◌, true, false, eqb, List, ◌++◌, length, take, drop, Some, None, refl, sym, ap, ◌∙◌, arith, length-append, length-drop}
+use Rattle.sedck_model.proofs.Common.{◌≡◌, ℕ, ◌+◌, ◌-◌, ◌≤◌, true, false, eqb, List, ◌++◌, length, take, drop, Some, None, refl, sym, ap, ◌∙◌, arith, length-append, length-drop, same_text, other_text, take_at, take-append-drop, text_of, Spot, Reached, groups_of, IsNext, Repeats}
 use Rattle.std.specs.List.{starts_with}
-use Rattle.std.specs.Cmp.Lexicographic.{same_text, other_text}
-use Rattle.std.proofs.lemmas.List.{take_rest, take_at, take-append-drop, drop-drop}
+use Rattle.std.proofs.lemmas.List.{take_rest, drop-drop}
 use Rattle.std.proofs.lemmas.List.Prefix.{front_rest}
-use Rattle.sedck_bre.specs.Match.{text_of}
-use Rattle.sedck_model.specs.declared.spots.Spot.{Spot}
-use Rattle.sedck_model.specs.Spots.{Reached, groups_of}
-use Rattle.sedck_model.specs.Private.Lists.{IsNext}
-use Rattle.sedck_model.specs.Private.Relations.{Repeats}
 
 pub repeats_next : (text found : List ℕ) (s : Spot) (k : ℕ) → s.at ≤ length text → found ≡ text_of (groups_of text s.groups) k
     → true ≡ starts_with eqb (take (length text - s.at) (drop s.at text)) found

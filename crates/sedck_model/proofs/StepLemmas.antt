@@ -1,11 +1,9 @@
 -- Commands at their places.
-use Rattle.std.proofs.Common.{◌≡◌, ◌⊎◌, ◌↔◌, ℕ, ◌<◌, ◌≤◌, Bool, IsTrue, List, map, length, get_or, refl, sym, ap, ◌∙◌, inl, inr, arith, Some, None, Result, Ok, Err}
+use Rattle.sedck_model.proofs.Common.{◌≡◌, ◌⊎◌, ℕ, ◌<◌, ◌≤◌, Bool, IsTrue, List, map, length, get_or, refl, sym, ap, ◌∙◌, inl, inr, arith, Some, None, Result, Ok, Err, slice_get, length-map, get_or-map, slice_get_read, command_of}
+use Rattle.std.proofs.Common.{◌↔◌}
 use Rattle.std.specs.Result.{IfOk}
-use Rattle.std.specs.List.{slice_get}
-use Rattle.std.proofs.lemmas.List.{length-map, get_or-map}
-use Rattle.std.proofs.lemmas.Option.{slice_get_read, slice_get_past}
+use Rattle.std.proofs.lemmas.Option.{slice_get_past}
 use Rattle.sedck_commands.specs.Program.{Command as Plain}
-use Rattle.sedck_script.specs.View.{command_of}
 use Rattle.sedck_script.specs.declared.script.Command.{Command}
 
 -- the command at a place

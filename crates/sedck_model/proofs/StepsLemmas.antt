@@ -1,10 +1,6 @@
 -- Where several steps of a relation lead, and what a loop keeps that makes them.
-use Rattle.std.proofs.Common.{◌≡◌, ℕ, zero, suc, ◌+◌, ◌<◌, List, [], ◌⊎◌, inl, inr, refl, sym, subst, arith, zero-add, suc-add}
-use Rattle.std.specs.Prelude.{◌↔◌, Contains}
-use Rattle.sedck_model.specs.declared.spots.Spot.{Spot}
-use Rattle.sedck_model.specs.Spots.{Reached, reached}
-use Rattle.sedck_model.specs.Private.Lists.{Relation, Among, IsLed, AreLed, Adds, IsWithout}
-use Rattle.sedck_model.specs.Private.Relations.{Steps, UpTo, Many}
+use Rattle.sedck_model.proofs.Common.{◌≡◌, ℕ, zero, suc, ◌+◌, ◌<◌, List, [], ◌⊎◌, inl, inr, refl, sym, subst, arith, ◌↔◌, Contains, Spot, Reached, reached, Relation, Among, IsLed, AreLed, Adds, IsWithout, Steps, UpTo, Many}
+use Rattle.std.proofs.Common.{zero-add, suc-add}
 use Rattle.sedck_model.proofs.ListLemmas.{none_contained}
 use Rattle.sedck_model.proofs.LedLemmas.{has_added}
 

@@ -1,12 +1,10 @@
 -- Lists of lines that are compared line by line.
-use Rattle.std.proofs.Common.{◌≡◌, ◌↔◌, ℕ, ◌<◌, Bool, IsTrue, List, [], ◌∷◌, ◌++◌, length, get_or, take, drop, ◌-◌, refl, sym, ap, ◌∙◌, arith}
-use Rattle.std.proofs.lemmas.List.{append_cancel_left, take_all}
-use Rattle.std.specs.Borrow.{Bor}
+use Rattle.sedck_model.proofs.Common.{◌≡◌, ℕ, ◌<◌, Bool, IsTrue, List, [], ◌∷◌, ◌++◌, length, get_or, take, drop, ◌-◌, refl, sym, ap, ◌∙◌, arith, take_all, Bor, false≢true, lines_of}
+use Rattle.std.proofs.Common.{◌↔◌}
+use Rattle.std.proofs.lemmas.List.{append_cancel_left}
 use Rattle.std.specs.Bool.{Decides}
 use Rattle.std.specs.Cmp.Lexicographic.{pointwise}
-use Rattle.std.proofs.lemmas.Bool.{false≢true}
 use Rattle.std.proofs.lemmas.Bool.Decides.{Decides-and, Decides-like}
-use Rattle.sedck_model.specs.States.{lines_of}
 
 pub same_lines-decides : (E : Bor (List ℕ) → Bor (List ℕ) → Bool) → ((a b : Bor (List ℕ)) → Decides (E a b) (a.now ≡ b.now))
     → (xs ys : List (Bor (List ℕ))) → Decides (pointwise E xs ys) (lines_of xs ≡ lines_of ys)

@@ -1,10 +1,9 @@
 -- Texts that `y` makes of one another, place by place.
-use Rattle.std.proofs.Common.{◌≡◌, ◌↔◌, ℕ, zero, suc, ◌<◌, min, Bool, true, false, IsTrue, List, [], ◌∷◌, length, get_or, refl, sym, ap, inl, inr, arith, Some}
+use Rattle.sedck_model.proofs.Common.{◌≡◌, ℕ, zero, suc, ◌<◌, Bool, true, false, IsTrue, List, [], ◌∷◌, length, get_or, refl, sym, ap, inl, inr, arith, Some, slice_get, false≢true, MayBecome}
+use Rattle.std.proofs.Common.{◌↔◌, min}
 use Rattle.std.specs.Prelude.{not}
-use Rattle.std.specs.List.{slice_get}
-use Rattle.std.proofs.lemmas.Bool.{false≢true}
 use Rattle.std.proofs.lemmas.Option.{slice_get_cases}
-use Rattle.sedck_flow.specs.Run.{IsPartner, MayBecome, Transliterates}
+use Rattle.sedck_flow.specs.Run.{IsPartner, Transliterates}
 
 -- where there is an element the place is inside
 inside : (xs : List ℕ) (k x : ℕ) → slice_get xs k ≡ Some x → k < length xs

@@ -1,8 +1,7 @@
 -- The tree of each form that has no parts.
-use Rattle.std.proofs.Common.{◌≡◌, ℕ, ◌<◌, List, sym, ap, ◌∙◌}
-use Rattle.sedck_expressions.specs.Tree.{Tree, is_in}
+use Rattle.sedck_model.proofs.Common.{◌≡◌, ℕ, ◌<◌, List, sym, ap, ◌∙◌, Tree, is_in, tree}
 use Rattle.sedck_expressions.proofs.BracketSets.{in_where}
-use Rattle.sedck_expressions.specs.View.{tree, node_tree, has_bit, bytes_in}
+use Rattle.sedck_expressions.specs.View.{node_tree, has_bit, bytes_in}
 use Rattle.sedck_expressions.specs.Tree as spec
 use Rattle.sedck_expressions.specs.declared.tree.ByteSet.{ByteSet}
 use Rattle.sedck_expressions.specs.declared.tree.Bre.{Bre-F, fold-roll-Bre}

@@ -1,5 +1,4 @@
-use Rattle.std.proofs.Common.{get_or, subst}
-use Rattle.std.specs.Prelude.{Contains}
+use Rattle.sedck_model.proofs.Common.{get_or, subst, Contains}
 use Rattle.sedck_model.proofs.SameSpots.{same_spot}
 use Rattle.sedck_model.proofs.ListLemmas.{Adds-kept}
 use Rattle.sedck_model.proofs.adding.add.Goals as goal

@@ -1,6 +1,4 @@
-use Rattle.std.proofs.Common.{arith, subst}
-use Rattle.std.proofs.lemmas.List.{take_all}
-use Rattle.sedck_model.specs.Private.Lists.{Adds}
+use Rattle.sedck_model.proofs.Common.{arith, subst, take_all, Adds}
 use Rattle.sedck_model.proofs.ListLemmas.{Adds-more}
 use Rattle.sedck_model.proofs.adding.add_all.Goals as goal
 

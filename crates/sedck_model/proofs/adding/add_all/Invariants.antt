@@ -1,5 +1,4 @@
-use Rattle.std.proofs.Common.{◌≤◌, take}
-use Rattle.sedck_model.specs.Private.Lists.{Adds}
+use Rattle.sedck_model.proofs.Common.{◌≤◌, take, Adds}
 use Rattle.sedck_model.proofs.adding.add_all.Given as goal
 
 abbrev pub invariant-loop-spot : goal.invariant-loop-spot

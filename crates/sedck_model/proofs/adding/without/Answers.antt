@@ -1,8 +1,4 @@
-use Rattle.std.proofs.Common.{◌≡◌, ◌∷◌, [], ◌++◌, ◌+◌, ◌∙◌, sym, get_or, take, arith}
-use Rattle.std.specs.Prelude.{Contains}
-use Rattle.std.proofs.lemmas.List.{take_more}
-use Rattle.std.proofs.lemmas.Bool.{false≢true}
-use Rattle.sedck_model.specs.declared.spots.Spot.{Spot}
+use Rattle.sedck_model.proofs.Common.{◌≡◌, ◌∷◌, [], ◌++◌, ◌+◌, ◌∙◌, sym, get_or, take, arith, Contains, take_more, false≢true, Spot}
 use Rattle.sedck_model.proofs.SameSpots.{same_spot, equal_spots}
 use Rattle.sedck_model.proofs.ListLemmas.{without_kept, without_left}
 use Rattle.sedck_model.proofs.adding.without.Goals as goal

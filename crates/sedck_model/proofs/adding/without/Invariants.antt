@@ -1,5 +1,4 @@
-use Rattle.std.proofs.Common.{take}
-use Rattle.sedck_model.specs.Private.Lists.{IsWithout}
+use Rattle.sedck_model.proofs.Common.{take, IsWithout}
 use Rattle.sedck_model.proofs.adding.without.Given as goal
 
 abbrev pub invariant-loop-spot : goal.invariant-loop-spot

@@ -1,7 +1,4 @@
-use Rattle.std.proofs.Common.{◌≡◌, map, take}
-use Rattle.sedck_commands.specs.Program.{expressions}
-use Rattle.sedck_script.specs.View.{command_of}
-use Rattle.sedck_model.specs.Private.Candidates.{trees_in}
+use Rattle.sedck_model.proofs.Common.{◌≡◌, map, take, expressions, command_of, trees_in}
 use Rattle.sedck_model.proofs.candidates.all_of.Given as goal
 
 -- what was found so far are the expressions of the commands so far

@@ -1,8 +1,4 @@
-use Rattle.std.proofs.Common.{◌≡◌, map, ap}
-use Rattle.std.proofs.lemmas.Result.{IfOk-weaker}
-use Rattle.sedck_commands.specs.Program.{expressions}
-use Rattle.sedck_script.specs.View.{pattern_of, command_of}
-use Rattle.sedck_model.specs.Private.Candidates.{trees_in}
+use Rattle.sedck_model.proofs.Common.{◌≡◌, map, ap, IfOk-weaker, expressions, pattern_of, command_of, trees_in}
 use Rattle.sedck_model.proofs.SelectLemmas.{previous_stands}
 use Rattle.sedck_model.proofs.candidates.candidates.Goals as goal
 

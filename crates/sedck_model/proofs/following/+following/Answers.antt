@@ -1,17 +1,11 @@
-use Rattle.std.proofs.Common.{◌≡◌, ℕ, suc, ◌+◌, ◌-◌, ◌≤◌, List, [], ◌∷◌, length, get_or, drop, map, Some, None, vec_len, ◌⊎◌, inl, inr, sym, ap, ◌∙◌, subst, rules, arith}
-use Rattle.std.specs.Prelude.{◌↔◌}
+use Rattle.sedck_model.proofs.Common.{◌≡◌, ℕ, suc, ◌+◌, ◌-◌, ◌≤◌, List, [], ◌∷◌, length, get_or, drop, map, Some, None, ◌⊎◌, inl, inr, sym, ap, ◌∙◌, subst, rules, arith, ◌↔◌, eqb-true, sequence, Bre, tree-Any, Spot, reached, Leads, Among, IsLed, AreLed, AreWithin, Adds, IsWithout, Passes, Steps, UpTo, Many}
+use Rattle.std.proofs.Common.{vec_len}
 use Rattle.std.proofs.lemmas.List.{drop_more, drop_all, nil_from_length}
-use Rattle.std.proofs.lemmas.Bool.{eqb-true}
 use Rattle.sedck_bre.specs.Tree.{trees}
 use Rattle.sedck_bre.specs.Tree as spec
 use Rattle.sedck_bre.specs.View.{tree, bytes_in}
-use Rattle.sedck_expressions.specs.Private.Sequence.{sequence}
-use Rattle.sedck_expressions.specs.declared.tree.Bre.{Bre, the_lemmas}
-use Rattle.sedck_expressions.proofs.ViewLemmas.{tree-Any, tree-Group, tree-Seq, tree-Repeat}
-use Rattle.sedck_model.specs.declared.spots.Spot.{Spot}
-use Rattle.sedck_model.specs.Spots.{reached, Leads}
-use Rattle.sedck_model.specs.Private.Lists.{Among, IsLed, AreLed, AreWithin, Adds, IsWithout}
-use Rattle.sedck_model.specs.Private.Relations.{Passes, Steps, UpTo, Many}
+use Rattle.sedck_expressions.specs.declared.tree.Bre.{the_lemmas}
+use Rattle.sedck_expressions.proofs.ViewLemmas.{tree-Group, tree-Seq, tree-Repeat}
 use Rattle.sedck_model.proofs.ViewLemmas.{tree-Byte, tree-Set, tree-Maybe, tree-Ref}
 use Rattle.sedck_model.proofs.LedLemmas.{AddsLed-more, AddsLed-all, AreLed-from_adds, AreLed-same, AreWithin-at, AreWithin-added}
 use Rattle.sedck_model.proofs.StepsLemmas.{both_ways, led_through, Later, Further, steps_begin, up_to_begin, up_to_more, up_to_end, many_begin, many_closed, many_more, many_end}

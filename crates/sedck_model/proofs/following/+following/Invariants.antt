@@ -1,11 +1,6 @@
-use Rattle.std.proofs.Common.{◌≡◌, ℕ, ◌+◌, ◌*◌, ◌≤◌, [], drop, take, ◌⊎◌}
-use Rattle.std.specs.Prelude.{◌↔◌}
+use Rattle.sedck_model.proofs.Common.{◌≡◌, ℕ, ◌+◌, ◌*◌, ◌≤◌, [], drop, take, ◌⊎◌, ◌↔◌, sequence, Reached, Leads, Among, IsLed, AreWithin, AddsLed, Steps, UpTo, Many}
 use Rattle.sedck_bre.specs.Tree.{Group}
 use Rattle.sedck_bre.specs.View.{tree}
-use Rattle.sedck_expressions.specs.Private.Sequence.{sequence}
-use Rattle.sedck_model.specs.Spots.{Reached, Leads}
-use Rattle.sedck_model.specs.Private.Lists.{Among, IsLed, AreWithin, AddsLed}
-use Rattle.sedck_model.specs.Private.Relations.{Steps, UpTo, Many}
 use Rattle.sedck_model.proofs.StepsLemmas.{Later, Further, IsClosed}
 use Rattle.sedck_model.proofs.following.+following.Given as goal
 

@@ -1,8 +1,5 @@
-use Rattle.std.proofs.Common.{ℕ, ◌+◌, None, List, ◌∷◌, cond, get_or, drop, map, sym, ap, ◌∙◌}
+use Rattle.sedck_model.proofs.Common.{ℕ, ◌+◌, None, List, ◌∷◌, cond, get_or, drop, map, sym, ap, ◌∙◌, groups_in, groups_in_all, trees, is_in, tree, Bre}
 use Rattle.std.proofs.lemmas.List.{at_drop_more, at_drop_all}
-use Rattle.sedck_expressions.specs.Tree.{groups_in, groups_in_all, trees, is_in}
-use Rattle.sedck_expressions.specs.View.{tree}
-use Rattle.sedck_expressions.specs.declared.tree.Bre.{Bre}
 use Rattle.sedck_model.proofs.GroupLemmas.{clear_more}
 use Rattle.sedck_model.proofs.groups.+clearing.Goals as goal
 

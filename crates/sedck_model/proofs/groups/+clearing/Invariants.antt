@@ -1,6 +1,4 @@
-use Rattle.std.proofs.Common.{◌≡◌, ℕ, None, cond, get_or, drop, map}
-use Rattle.sedck_expressions.specs.Tree.{groups_in_all, trees, is_in}
-use Rattle.sedck_expressions.specs.View.{tree}
+use Rattle.sedck_model.proofs.Common.{◌≡◌, ℕ, None, cond, get_or, drop, map, groups_in_all, trees, is_in, tree}
 use Rattle.sedck_model.proofs.groups.+clearing.Given as goal
 
 -- the groups that are still to be cleared would lead to the same

@@ -1,8 +1,4 @@
-use Rattle.std.proofs.Common.{◌≤◌, [], ◌∷◌, get_or, length, arith}
-use Rattle.std.proofs.lemmas.List.Elements.{Contains-get_or}
-use Rattle.sedck_model.specs.declared.spots.Spot.{Spot}
-use Rattle.sedck_model.specs.Spots.{reached}
-use Rattle.sedck_model.specs.Private.Relations.{Closes}
+use Rattle.sedck_model.proofs.Common.{◌≤◌, [], ◌∷◌, get_or, length, arith, Contains-get_or, Spot, reached, Closes}
 use Rattle.sedck_model.proofs.LedLemmas.{AddsLed-more, AddsLed-next, AddsLed-all, AreWithin-one, AreWithin-at, AreWithin-added}
 use Rattle.sedck_model.proofs.GroupLemmas.{closes_next}
 use Rattle.sedck_model.proofs.groups.add_closed.Goals as goal

@@ -1,9 +1,4 @@
-use Rattle.std.proofs.Common.{ℕ, List, ◌≤◌, take}
-use Rattle.std.specs.Prelude.{Contains}
-use Rattle.sedck_model.specs.declared.spots.Spot.{Spot}
-use Rattle.sedck_model.specs.Spots.{reached}
-use Rattle.sedck_model.specs.Private.Lists.{AddsLed, AreWithin, IsBetween}
-use Rattle.sedck_model.specs.Private.Relations.{Closes}
+use Rattle.sedck_model.proofs.Common.{ℕ, List, ◌≤◌, take, Contains, Spot, reached, AddsLed, AreWithin, IsBetween, Closes}
 use Rattle.sedck_model.proofs.groups.add_closed.Given as goal
 
 abbrev pub invariant-loop-end : goal.invariant-loop-end

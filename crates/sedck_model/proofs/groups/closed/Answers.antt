@@ -1,4 +1,4 @@
-use Rattle.std.proofs.Common.{arith}
+use Rattle.sedck_model.proofs.Common.{arith}
 use Rattle.sedck_model.proofs.GroupLemmas.{between_text, set_groups}
 use Rattle.sedck_model.proofs.groups.closed.Goals as goal
 

@@ -1,4 +1,4 @@
-use Rattle.sedck_expressions.specs.View.{tree}
+use Rattle.sedck_model.proofs.Common.{tree}
 use Rattle.sedck_model.proofs.GroupLemmas.{unset_groups}
 use Rattle.sedck_model.proofs.groups.entered.Goals as goal
 

@@ -1,11 +1,4 @@
-use Rattle.std.proofs.Common.{◌≤◌, [], ◌∷◌, length, None}
-use Rattle.std.specs.Prelude.{replicate}
-use Rattle.std.specs.List.{All}
-use Rattle.std.proofs.lemmas.Result.{IfOk-weaker}
-use Rattle.sedck_expressions.specs.View.{tree}
-use Rattle.sedck_model.specs.declared.spots.Spot.{Spot}
-use Rattle.sedck_model.specs.Spots.{beginning, AreEnds, Leads}
-use Rattle.sedck_model.specs.Private.Lists.{AreLed, AreWithin}
+use Rattle.sedck_model.proofs.Common.{◌≤◌, [], ◌∷◌, length, None, replicate, All, IfOk-weaker, tree, Spot, beginning, AreEnds, Leads, AreLed, AreWithin}
 use Rattle.sedck_model.proofs.EndLemmas.{ends_are, start_is, places_are, if_ok_both}
 use Rattle.sedck_model.proofs.reaching.ends.Goals as goal
 

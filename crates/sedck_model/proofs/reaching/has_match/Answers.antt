@@ -1,7 +1,4 @@
-use Rattle.std.proofs.Common.{◌<◌, length, arith, rules, below_more}
-use Rattle.std.proofs.lemmas.Bool.{false≢true}
-use Rattle.std.proofs.lemmas.Bool.Decides.{nat_tests}
-use Rattle.sedck_expressions.specs.View.{tree}
+use Rattle.sedck_model.proofs.Common.{◌<◌, length, arith, rules, below_more, false≢true, nat_tests, tree}
 use Rattle.sedck_model.proofs.EndLemmas.{BeginsMatch, some_end, begins_part, part_begins}
 use Rattle.sedck_model.proofs.reaching.has_match.Goals as goal
 

@@ -1,5 +1,4 @@
-use Rattle.std.proofs.Common.{ℕ, ◌<◌, ◌≤◌}
-use Rattle.sedck_expressions.specs.View.{tree}
+use Rattle.sedck_model.proofs.Common.{ℕ, ◌<◌, ◌≤◌, tree}
 use Rattle.sedck_model.proofs.EndLemmas.{BeginsMatch}
 use Rattle.sedck_model.proofs.reaching.has_match.Given as goal
 

@@ -1,7 +1,5 @@
-use Rattle.std.proofs.Common.{[], ◌∷◌, arith, sym, ◌∙◌}
-use Rattle.std.proofs.lemmas.Bool.{false≢true}
+use Rattle.sedck_model.proofs.Common.{[], ◌∷◌, arith, sym, ◌∙◌, false≢true, lines_of, state_of}
 use Rattle.sedck_flow.specs.Run as model
-use Rattle.sedck_model.specs.States.{lines_of, state_of}
 use Rattle.sedck_model.proofs.RunLemmas.{steps_more, here_after, first_wrong}
 use Rattle.sedck_model.proofs.runs.follows.Goals as goal
 

@@ -1,7 +1,5 @@
-use Rattle.std.proofs.Common.{◌≡◌, ◌≤◌, [], ◌∷◌, map, take}
+use Rattle.sedck_model.proofs.Common.{◌≡◌, ◌≤◌, [], ◌∷◌, map, take, Run, state_after, lines_of, state_of, move_of}
 use Rattle.sedck_flow.specs.Run as model
-use Rattle.sedck_flow.specs.Run.{Run, state_after}
-use Rattle.sedck_model.specs.States.{lines_of, state_of, move_of}
 use Rattle.sedck_model.proofs.runs.follows.Given as goal
 
 -- the steps so far are a run, and this is where they lead

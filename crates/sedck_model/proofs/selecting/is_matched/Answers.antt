@@ -1,6 +1,4 @@
-use Rattle.std.proofs.Common.{arith, sym, ◌∙◌}
-use Rattle.std.proofs.lemmas.Bool.{false≢true}
-use Rattle.sedck_script.specs.View.{pattern_of}
+use Rattle.sedck_model.proofs.Common.{arith, sym, ◌∙◌, false≢true, pattern_of}
 use Rattle.sedck_model.proofs.SelectLemmas.{none_more, none_has}
 use Rattle.sedck_model.proofs.selecting.is_matched.Goals as goal
 

@@ -1,7 +1,4 @@
-use Rattle.std.proofs.Common.{◌≤◌, take}
-use Rattle.std.specs.List.{All}
-use Rattle.sedck_model.specs.Spots.{HasPartIn}
-use Rattle.sedck_model.specs.Private.Candidates.{trees_in}
+use Rattle.sedck_model.proofs.Common.{◌≤◌, take, All, HasPartIn, trees_in}
 use Rattle.sedck_model.proofs.selecting.is_matched.Given as goal
 
 -- no expression so far matches a part

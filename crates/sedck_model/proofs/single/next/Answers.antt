@@ -1,13 +1,7 @@
-use Rattle.std.proofs.Common.{◌≡◌, List, ℕ, Option, refl, sym, ap, ◌∙◌, subst, inl, inr}
-use Rattle.sedck_expressions.specs.Tree.{Tree}
-use Rattle.sedck_expressions.specs.View.{tree, bytes_in}
-use Rattle.sedck_expressions.specs.declared.tree.Bre.{Bre}
-use Rattle.sedck_expressions.proofs.ViewLemmas.{tree-Any}
+use Rattle.sedck_model.proofs.Common.{◌≡◌, List, ℕ, Option, refl, sym, ap, ◌∙◌, subst, inl, inr, Tree, tree, Bre, tree-Any, Spot, Relation, IsNext, Consumes, Passes}
+use Rattle.sedck_expressions.specs.View.{bytes_in}
 use Rattle.sedck_model.proofs.ViewLemmas.{tree-Byte, tree-Set, tree-Maybe}
 use Rattle.sedck_expressions.specs.Tree as spec
-use Rattle.sedck_model.specs.declared.spots.Spot.{Spot}
-use Rattle.sedck_model.specs.Private.Lists.{Relation, IsNext}
-use Rattle.sedck_model.specs.Private.Relations.{Consumes, Passes}
 use Rattle.sedck_model.proofs.single.next.Goals as goal
 
 passes : (text : List ℕ) (s : Spot) (next : Option Spot) (e : Bre) (t : Tree) → tree e ≡ t → Passes t ≡ Consumes t → IsNext (Consumes (tree e)) text s next

@@ -1,6 +1,4 @@
-use Rattle.std.proofs.Common.{[], ◌∷◌, arith}
-use Rattle.sedck_expressions.specs.View.{tree}
-use Rattle.sedck_model.specs.Private.Relations.{Passes}
+use Rattle.sedck_model.proofs.Common.{[], ◌∷◌, arith, tree, Passes}
 use Rattle.sedck_model.proofs.LedLemmas.{AddsLed-more, AddsLed-all, AddsLed-next, AddsLed-stay, AreLed-from_adds, AreWithin-at, AreWithin-one, AreWithin-added}
 use Rattle.sedck_model.proofs.single.pass.Goals as goal
 use Rattle.sedck_model.proofs.single.pass.Goals.{in-Some+in_ok-add, in_default}

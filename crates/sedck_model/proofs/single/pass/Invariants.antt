@@ -1,7 +1,4 @@
-use Rattle.std.proofs.Common.{◌≤◌, [], take}
-use Rattle.sedck_expressions.specs.View.{tree}
-use Rattle.sedck_model.specs.Private.Lists.{AddsLed, AreWithin}
-use Rattle.sedck_model.specs.Private.Relations.{Passes}
+use Rattle.sedck_model.proofs.Common.{◌≤◌, [], take, tree, AddsLed, AreWithin, Passes}
 use Rattle.sedck_model.proofs.single.pass.Given as goal
 
 abbrev pub invariant-loop-spot : goal.invariant-loop-spot

@@ -1,7 +1,5 @@
-use Rattle.std.proofs.Common.{sym, ap, ◌∙◌, subst, arith}
-use Rattle.std.specs.Prelude.{◌↔◌, IsTrue}
-use Rattle.sedck_expressions.specs.Tree.{Tree}
-use Rattle.sedck_expressions.specs.View.{tree}
+use Rattle.sedck_model.proofs.Common.{sym, ap, ◌∙◌, subst, arith, ◌↔◌, Tree, tree}
+use Rattle.std.specs.Prelude.{IsTrue}
 use Rattle.sedck_model.specs.Private.Relations.{Takes}
 use Rattle.sedck_model.proofs.ViewLemmas.{tree-Set, has_byte}
 use Rattle.sedck_model.proofs.single.takes.Goals as goal

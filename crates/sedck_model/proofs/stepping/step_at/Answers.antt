@@ -1,5 +1,4 @@
-use Rattle.std.proofs.Common.{sym, ◌∙◌}
-use Rattle.std.proofs.lemmas.Bool.{false≢true}
+use Rattle.sedck_model.proofs.Common.{sym, ◌∙◌, false≢true}
 use Rattle.sedck_model.proofs.StepLemmas.{or_else}
 use Rattle.sedck_model.proofs.stepping.step_at.Goals as goal
 

@@ -1,11 +1,6 @@
-use Rattle.std.proofs.Common.{◌∙◌, ◌≤◌, ◌<◌, [], inl, inr, length, take, drop, ◌-◌, get_or, Contains, refl, sym, subst, arith}
-use Rattle.std.proofs.lemmas.List.{take_more, take_all}
-use Rattle.std.proofs.lemmas.List.Elements.{Contains-get_or, Contains-push_cases}
-use Rattle.std.specs.Cmp.Lexicographic.{same_text, other_text}
+use Rattle.sedck_model.proofs.Common.{◌∙◌, ◌≤◌, ◌<◌, [], inl, inr, length, take, drop, ◌-◌, get_or, refl, sym, subst, arith, take_more, take_all, Contains-get_or, Contains-push_cases, same_text, other_text, substitution_of, Spot, Replaces, ReplacesAt}
+use Rattle.std.proofs.Common.{Contains}
 use Rattle.sedck_bre.specs.View.{tree}
-use Rattle.sedck_script.specs.View.{substitution_of}
-use Rattle.sedck_model.specs.declared.spots.Spot.{Spot}
-use Rattle.sedck_model.specs.Private.Replacing.{Replaces, ReplacesAt}
 use Rattle.sedck_model.proofs.Replacing.{continues_alike, continues_at, continues_cases, replaces_by, replaces_at_some, rest_whole, shared_take}
 use Rattle.sedck_model.proofs.substituting.+replacing.Goals as goal
 

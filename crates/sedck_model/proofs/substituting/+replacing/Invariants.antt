@@ -1,8 +1,6 @@
-use Rattle.std.proofs.Common.{◌≤◌, ◌<◌, ◌+◌, ◌-◌, ◌*◌, ℕ, length, take, drop, Contains}
+use Rattle.sedck_model.proofs.Common.{◌≤◌, ◌<◌, ◌+◌, ◌-◌, ◌*◌, ℕ, length, take, drop, substitution_of, Spot, Replaces, ReplacesAt}
+use Rattle.std.proofs.Common.{Contains}
 use Rattle.sedck_bre.specs.View.{tree}
-use Rattle.sedck_script.specs.View.{substitution_of}
-use Rattle.sedck_model.specs.declared.spots.Spot.{Spot}
-use Rattle.sedck_model.specs.Private.Replacing.{Replaces, ReplacesAt}
 use Rattle.sedck_model.proofs.substituting.+replacing.Given as goal
 
 -- each match takes a byte out of the text, or else one is after it

@@ -1,7 +1,4 @@
-use Rattle.std.proofs.Common.{◌∙◌, ◌++◌, map, take, sym, ap}
-use Rattle.sedck_script.specs.View.{part_of}
-use Rattle.sedck_model.specs.Spots.{groups_of}
-use Rattle.sedck_model.specs.Private.Replacing.{text_for}
+use Rattle.sedck_model.proofs.Common.{◌∙◌, ◌++◌, map, take, sym, ap, part_of, groups_of, text_for}
 use Rattle.sedck_model.proofs.Replacing.{one_more_part}
 use Rattle.sedck_model.proofs.substituting.replacement_text.Goals as goal
 

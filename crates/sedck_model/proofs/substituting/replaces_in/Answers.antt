@@ -1,7 +1,5 @@
-use Rattle.std.proofs.Common.{◌≤◌, ◌-◌, length, take, drop, refl, subst, arith}
+use Rattle.sedck_model.proofs.Common.{◌≤◌, ◌-◌, length, take, drop, refl, subst, arith, substitution_of, Replaces}
 use Rattle.sedck_bre.specs.View.{tree}
-use Rattle.sedck_script.specs.View.{substitution_of}
-use Rattle.sedck_model.specs.Private.Replacing.{Replaces}
 use Rattle.sedck_model.proofs.Replacing.{replaces_in_at, replaces_in_from, rest_whole, shared_take}
 use Rattle.sedck_model.proofs.substituting.replaces_in.Goals as goal
 

@@ -1,7 +1,5 @@
-use Rattle.std.proofs.Common.{◌≤◌, ◌<◌, ℕ, drop}
+use Rattle.sedck_model.proofs.Common.{◌≤◌, ◌<◌, ℕ, drop, substitution_of, Replaces}
 use Rattle.sedck_bre.specs.View.{tree}
-use Rattle.sedck_script.specs.View.{substitution_of}
-use Rattle.sedck_model.specs.Private.Replacing.{Replaces}
 use Rattle.sedck_model.proofs.substituting.replaces_in.Given as goal
 
 -- no match begins so far

@@ -1,4 +1,4 @@
-use Rattle.std.proofs.Common.{◌≡◌, take}
+use Rattle.sedck_model.proofs.Common.{◌≡◌, take}
 use Rattle.sedck_model.proofs.substituting.shared_length.Given as goal
 
 -- so far they are the same

@@ -1,10 +1,6 @@
-use Rattle.std.proofs.Common.{◌≡◌, ◌∙◌, inl, inr, take, Contains, refl, sym, subst, arith}
-use Rattle.std.proofs.lemmas.List.{take_all}
-use Rattle.std.proofs.lemmas.List.Elements.{Contains-push_cases}
+use Rattle.sedck_model.proofs.Common.{◌≡◌, ◌∙◌, inl, inr, take, refl, sym, subst, arith, take_all, Contains-push_cases, substitution_of, trees_in, ReplacesIn}
+use Rattle.std.proofs.Common.{Contains}
 use Rattle.sedck_bre.specs.View.{tree}
-use Rattle.sedck_script.specs.View.{substitution_of}
-use Rattle.sedck_model.specs.Private.Candidates.{trees_in}
-use Rattle.sedck_model.specs.Private.Replacing.{ReplacesIn}
 use Rattle.sedck_model.proofs.Contained.{one_more_tree, tree_among}
 use Rattle.sedck_model.proofs.Replacing.{substituted, begun_of}
 use Rattle.sedck_model.proofs.substituting.substitutes.Goals as goal

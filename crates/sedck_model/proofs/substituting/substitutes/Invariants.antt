@@ -1,8 +1,6 @@
-use Rattle.std.proofs.Common.{◌≤◌, take, Contains}
+use Rattle.sedck_model.proofs.Common.{◌≤◌, take, substitution_of, trees_in, ReplacesIn}
+use Rattle.std.proofs.Common.{Contains}
 use Rattle.sedck_bre.specs.Tree.{Tree}
-use Rattle.sedck_script.specs.View.{substitution_of}
-use Rattle.sedck_model.specs.Private.Candidates.{trees_in}
-use Rattle.sedck_model.specs.Private.Replacing.{ReplacesIn}
 use Rattle.sedck_model.proofs.substituting.substitutes.Given as goal
 
 -- no expression so far has such matches

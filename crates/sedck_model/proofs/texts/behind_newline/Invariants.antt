@@ -1,5 +1,4 @@
-use Rattle.std.proofs.Common.{◌≡◌, drop}
-use Rattle.sedck_text.specs.Bytes.{newline}
+use Rattle.sedck_model.proofs.Common.{◌≡◌, drop, newline}
 use Rattle.sedck_flow.specs.Run.{after_end}
 use Rattle.sedck_model.proofs.texts.behind_newline.Given as goal
 

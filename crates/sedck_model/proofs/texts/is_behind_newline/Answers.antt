@@ -1,6 +1,4 @@
-use Rattle.std.proofs.Common.{arith, ◌<◌, length}
-use Rattle.std.proofs.lemmas.Bool.Decides.{Decides-at, nat_tests}
-use Rattle.std.proofs.lemmas.Slice.Eq.{bytes_eq-Decides}
+use Rattle.sedck_model.proofs.Common.{arith, ◌<◌, length, Decides-at, nat_tests, bytes_eq-Decides}
 use Rattle.sedck_model.proofs.TextLemmas.{newline_first}
 use Rattle.sedck_model.proofs.texts.is_behind_newline.Goals as goal
 

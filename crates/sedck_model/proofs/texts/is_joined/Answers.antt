@@ -1,8 +1,6 @@
-use Rattle.std.proofs.Common.{◌∷◌, Some, None}
-use Rattle.std.proofs.lemmas.Bool.{false≢true}
+use Rattle.sedck_model.proofs.Common.{◌∷◌, Some, None, false≢true, newline}
 use Rattle.std.proofs.lemmas.Bool.Decides.{Decides-eqb}
 use Rattle.std.proofs.lemmas.Slice.Eq.{strip_prefix_is}
-use Rattle.sedck_text.specs.Bytes.{newline}
 use Rattle.sedck_model.proofs.TextLemmas.{behind_front}
 use Rattle.sedck_model.proofs.texts.is_joined.Goals as goal
 

@@ -1,5 +1,4 @@
-use Rattle.std.proofs.lemmas.Bool.Decides.{Decides-at}
-use Rattle.std.proofs.lemmas.Slice.Eq.{bytes_eq-Decides}
+use Rattle.sedck_model.proofs.Common.{Decides-at, bytes_eq-Decides}
 use Rattle.sedck_model.proofs.TextLemmas.{same_lines-decides}
 use Rattle.sedck_model.proofs.texts.same_lines.Goals as goal
 

@@ -1,5 +1,4 @@
-use Rattle.std.proofs.Common.{get_or, ap, ◌∙◌, refl, Some, arith, below_more}
-use Rattle.std.proofs.lemmas.Bool.{false≢true}
+use Rattle.sedck_model.proofs.Common.{get_or, ap, ◌∙◌, refl, Some, arith, below_more, false≢true}
 use Rattle.std.proofs.lemmas.Option.{slice_get-get_or, get_or_from_slice_get}
 use Rattle.sedck_model.proofs.TransliterateLemmas.{no_partner}
 use Rattle.sedck_model.proofs.transliterating.has_partner.Goals as goal

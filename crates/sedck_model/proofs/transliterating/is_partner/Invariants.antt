@@ -1,5 +1,4 @@
-use Rattle.std.proofs.Common.{◌≡◌, ℕ, ◌<◌, Some}
-use Rattle.std.specs.List.{slice_get}
+use Rattle.sedck_model.proofs.Common.{◌≡◌, ℕ, ◌<◌, Some, slice_get}
 use Rattle.sedck_model.proofs.transliterating.is_partner.Given as goal
 
 -- no place so far has the two

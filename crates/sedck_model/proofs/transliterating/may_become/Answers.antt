@@ -1,5 +1,4 @@
-use Rattle.std.proofs.Common.{sym, ◌∙◌}
-use Rattle.std.proofs.lemmas.Bool.{false≢true}
+use Rattle.sedck_model.proofs.Common.{sym, ◌∙◌, false≢true}
 use Rattle.sedck_model.proofs.TransliterateLemmas.{may_stay}
 use Rattle.sedck_model.proofs.transliterating.may_become.Goals as goal
 

@@ -1,5 +1,4 @@
-use Rattle.std.proofs.Common.{arith, refl, sym, ◌∙◌, below_more}
-use Rattle.std.proofs.lemmas.Bool.{false≢true}
+use Rattle.sedck_model.proofs.Common.{arith, refl, sym, ◌∙◌, below_more, false≢true}
 use Rattle.sedck_model.proofs.TransliterateLemmas.{same_length, at_each, from_each}
 use Rattle.sedck_model.proofs.transliterating.transliterates.Goals as goal
 

@@ -1,5 +1,4 @@
-use Rattle.std.proofs.Common.{ℕ, ◌<◌, get_or}
-use Rattle.sedck_flow.specs.Run.{MayBecome}
+use Rattle.sedck_model.proofs.Common.{ℕ, ◌<◌, get_or, MayBecome}
 use Rattle.sedck_model.proofs.transliterating.transliterates.Given as goal
 
 -- so far each byte may become the one at its place
