@@ -1,19 +1,13 @@
 -- From what an engine answers to the answer.
-use Rattle.std.proofs.Common.{◌≡◌, ◌≢◌, ◌⊎◌, ℕ, List, Option, Some, None, Result, Ok, Err, IfOk, IfSome, refl, inl, inr}
-use Rattle.sedck_commands.specs.Program.{Program}
-use Rattle.sedck_script.specs.Spelling.{Spells}
+use Rattle.sedck_explanation.proofs.Common.{◌≡◌, ℕ, List, Option, Some, None, Result, Ok, Err, IfOk, IfSome, refl, Program, Spells, if_some_at, Certificate, Only, Answer, CertificateRefused, Accepted, Rejected, Endless, IsAnswer}
+use Rattle.std.proofs.Common.{◌≢◌, ◌⊎◌, inl, inr}
 use Rattle.sedck_commands.specs.declared.fault.ScriptFault.{ScriptFault}
 use Rattle.sedck_commands.specs.declared.fault.ScriptFault.TheVariants as script
-use Rattle.sedck_commands.proofs.ResultLemmas.{if_some_at}
-use Rattle.sedck_cert.specs.Certificate.{Certificate}
 use Rattle.sedck_cert.specs.Versions.{SpellsCertificate, IsFaultIn}
-use Rattle.sedck_cert.specs.Headline.{Only, IsScriptFaultOf}
+use Rattle.sedck_cert.specs.Headline.{IsScriptFaultOf}
 use Rattle.sedck_cert.specs.declared.reading.CertFault.{CertFault}
 use Rattle.sedck_cert.specs.declared.reading.CertFault.TheVariants as cert
 use Rattle.sedck_cert.specs.declared.verifying.Fault.TheVariants as below
-use Rattle.sedck_answer.specs.declared.answer.Answer.{Answer}
-use Rattle.sedck_answer.specs.declared.answer.Answer.TheVariants.{CertificateRefused, Accepted, Rejected, Endless}
-use Rattle.sedck_explanation.specs.Answers.{IsAnswer}
 use Rattle.sedck_explanation.specs.Private.Answering.{IsFoundAnswer, IsJudgedAnswer, refusal}
 
 certificate_refusal : (p : Program) (bytes : List ℕ) (why : CertFault)

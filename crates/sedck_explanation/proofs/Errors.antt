@@ -1,20 +1,7 @@
 -- Errors among findings.
-use Rattle.std.proofs.Common.{◌≡◌, ◌∙◌, ◌||◌, if◌then◌else◌, ℕ, Bool, true, false, not, List, [], ◌∷◌, Option, Some, refl, ap}
-use Rattle.sedck_report.specs.Levels.{is_error, has_error, BeginsWithError}
-use Rattle.sedck_report.specs.declared.finding.Finding.{Finding}
-use Rattle.sedck_report.specs.declared.places.Position.{Position}
-use Rattle.sedck_errors.specs.declared.denied.Denied.{Denied}
-use Rattle.sedck_advice.specs.Added.{AddsNoError}
+use Rattle.sedck_explanation.proofs.Common.{◌≡◌, ◌∙◌, ◌||◌, ℕ, Bool, true, false, not, List, [], ◌∷◌, Option, Some, refl, ap, is_error, has_error, BeginsWithError, Finding, Position, Denied, AddsNoError, is_denied, status_under, BeginsWithAnswer, is_accepted, Status, IsRefused, AreFindingsOf, IsFindingOf, AreDeniedFindings, Answer, Expressions, ScriptRefused, CertificateRefused, Accepted, Rejected, Endless, NotJudged}
+use Rattle.std.proofs.Common.{if◌then◌else◌}
 use Rattle.sedck_advice.proofs.Added.{or-false}
-use Rattle.sedck_explanation.specs.Denial.{is_denied, status_under}
-use Rattle.sedck_explanation.specs.Errors.{BeginsWithAnswer}
-use Rattle.sedck_answer.specs.Status.{is_accepted}
-use Rattle.sedck_answer.specs.declared.status.Status.{Status}
-use Rattle.sedck_explanation.specs.Private.Errors.{IsRefused, AreFindingsOf, IsFindingOf}
-use Rattle.sedck_explanation.specs.Private.Explaining.{AreDeniedFindings}
-use Rattle.sedck_answer.specs.declared.answer.Answer.{Answer}
-use Rattle.sedck_explanation.specs.declared.answer.Expressions.{Expressions}
-use Rattle.sedck_answer.specs.declared.answer.Answer.TheVariants.{ScriptRefused, CertificateRefused, Accepted, Rejected, Endless, NotJudged}
 use Rattle.sedck_answer.specs.declared.status.Status.TheVariants as exit
 
 -- ---- From the finding of the answer to all findings

@@ -1,26 +1,12 @@
 -- From an answer to its explanation.
-use Rattle.std.proofs.Common.{◌≡◌, ◌∙◌, ℕ, List, Option, Some, None, Result, Ok, Err, IfOk, length, map, sym, ap, subst}
-use Rattle.sedck_commands.specs.Program.{Program}
+use Rattle.sedck_explanation.proofs.Common.{◌≡◌, ◌∙◌, ℕ, List, Option, Some, None, Result, Ok, Err, IfOk, length, map, sym, ap, subst, Program, Item, Items, locations_of, Certificate, Spells, Only, position_in, Denied, IsAnswer, KeepsNothing, IsExplanation, IsRefused, Explains, KeepsLocated, Answer, ScriptRefused, CertificateRefused, Accepted, Rejected, Endless, NotJudged, Explanation}
 use Rattle.sedck_script.specs.Names.{reads, writes}
-use Rattle.sedck_commands.specs.Items.{Item, Items}
-use Rattle.sedck_commands.specs.Locations.{locations_of}
 use Rattle.sedck_commands.specs.declared.location.Location.{Location}
 use Rattle.sedck_flow.specs.Run.{NamesForReading, NamesForWriting}
-use Rattle.sedck_cert.specs.Certificate.{Certificate}
 use Rattle.sedck_cert.specs.Ranked.{Accepts}
-use Rattle.sedck_script.specs.Spelling.{Spells}
-use Rattle.sedck_cert.specs.Headline.{Only}
 use Rattle.sedck_cert.proofs.NamesListed.{reads_listed, writes_listed, only_list}
-use Rattle.sedck_report.specs.Positions.{position_in}
-use Rattle.sedck_errors.specs.declared.denied.Denied.{Denied}
-use Rattle.sedck_explanation.specs.Answers.{IsAnswer}
-use Rattle.sedck_answer.specs.Answers.{KeepsNothing}
-use Rattle.sedck_explanation.specs.Explanations.{Keeps, IsExplanation}
-use Rattle.sedck_explanation.specs.Private.Errors.{IsOfScript, IsRefused}
-use Rattle.sedck_explanation.specs.Private.Explaining.{Explains, KeepsLocated}
-use Rattle.sedck_answer.specs.declared.answer.Answer.{Answer}
-use Rattle.sedck_answer.specs.declared.answer.Answer.TheVariants.{ScriptRefused, CertificateRefused, Accepted, Rejected, Endless, NotJudged}
-use Rattle.sedck_answer.specs.declared.explanation.Explanation.{Explanation}
+use Rattle.sedck_explanation.specs.Explanations.{Keeps}
+use Rattle.sedck_explanation.specs.Private.Errors.{IsOfScript}
 
 -- what follows from two promises on success
 pub on_both : {T E : Type 0} (P Q R : T → Type 0) (r : Result T E) → ((x : T) → P x → Q x → R x) → IfOk r P → IfOk r Q → IfOk r R

@@ -1,23 +1,7 @@
 -- What stays of the findings where some are ignored.
-use Rattle.std.proofs.Common.{◌≡◌, ◌∙◌, ◌||◌, not, ℕ, Bool, true, false, List, [], ◌∷◌, ◌++◌, Option, map, refl, sym, ap, subst}
+use Rattle.sedck_explanation.proofs.Common.{◌≡◌, ◌∙◌, ◌||◌, not, ℕ, Bool, true, false, List, [], ◌∷◌, ◌++◌, Option, map, refl, sym, ap, subst, All-head, is_error, has_error, BeginsWithError, AreOf, AreInOrder, head_of, Code, Finding, Error, Position, Denied, DeniedWarnings, status_under, warns_of_denied, BeginsWithAnswer, is_accepted, Status, errors_in, AreReported, Answer, Expressions, ScriptRefused, CertificateRefused, Accepted, Rejected, Endless, NotJudged}
 use Rattle.std.specs.Prelude.{cond}
-use Rattle.std.proofs.lemmas.List.Elements.{All-head}
-use Rattle.sedck_report.specs.Levels.{is_error, has_error, BeginsWithError}
-use Rattle.sedck_report.specs.Reported.{AreOf, AreInOrder, head_of}
-use Rattle.sedck_report.specs.declared.code.Code.{Code}
-use Rattle.sedck_report.specs.declared.finding.Finding.{Finding}
-use Rattle.sedck_report.specs.declared.finding.Level.TheVariants.{Error}
-use Rattle.sedck_report.specs.declared.places.Position.{Position}
-use Rattle.sedck_errors.specs.declared.denied.Denied.{Denied}
-use Rattle.sedck_errors.specs.declared.warnings.DeniedWarnings.{DeniedWarnings}
-use Rattle.sedck_explanation.specs.Denial.{status_under, warns_of_denied}
-use Rattle.sedck_explanation.specs.Errors.{BeginsWithAnswer}
-use Rattle.sedck_answer.specs.Status.{is_accepted}
-use Rattle.sedck_answer.specs.declared.status.Status.{Status}
-use Rattle.sedck_explanation.specs.Private.Reporting.{errors_in, KeepsErrors, AreReported}
-use Rattle.sedck_answer.specs.declared.answer.Answer.{Answer}
-use Rattle.sedck_explanation.specs.declared.answer.Expressions.{Expressions}
-use Rattle.sedck_answer.specs.declared.answer.Answer.TheVariants.{ScriptRefused, CertificateRefused, Accepted, Rejected, Endless, NotJudged}
+use Rattle.sedck_explanation.specs.Private.Reporting.{KeepsErrors}
 use Rattle.sedck_explanation.proofs.Reports.{errors_of_ordered}
 
 -- a list has something

@@ -1,8 +1,8 @@
 -- What is known of the bytes at a path, and of those that an open file has.
-use Rattle.std.proofs.Common.{◌≡◌, ℕ, true, false, codes, List, Option, Some, None, IfSome, subst}
+use Rattle.sedck_explanation.proofs.Common.{◌≡◌, ℕ, true, false, List, Option, Some, None, IfSome, subst, Known}
+use Rattle.std.proofs.Common.{codes}
 use Rattle.std.specs.Str.{bytes_eq}
 use Rattle.sedck_engines.specs.Inputs.{IsRead}
-use Rattle.sedck_engines.specs.Opened.{Known}
 use Rattle.sedck_explanation.specs.Called.{known_bytes}
 
 -- what was read of an open file was read of the bytes that it is known to have

@@ -1,3 +1,4 @@
+mod Common
 pub mod Answering
 pub mod Errors
 pub mod Explanations

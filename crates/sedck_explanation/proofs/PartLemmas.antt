@@ -1,9 +1,9 @@
 -- Parts that are read one after another.
-use Rattle.std.proofs.Common.{◌≡◌, ◌<◌, ◌+◌, ℕ, List, [], ◌∷◌, ◌++◌, length, get_or, take, map, refl, sym, ap, subst}
+use Rattle.sedck_explanation.proofs.Common.{◌≡◌, ◌+◌, ℕ, List, [], ◌∷◌, ◌++◌, length, take, map, refl, sym, ap, subst, Known, AreParts}
+use Rattle.std.proofs.Common.{◌<◌, get_or}
 use Rattle.std.proofs.lemmas.List.{take_more}
 use Rattle.sedck_call.specs.declared.call.Piece.{Piece}
-use Rattle.sedck_engines.specs.Opened.{Known}
-use Rattle.sedck_explanation.specs.Called.{IsPart, AreParts}
+use Rattle.sedck_explanation.specs.Called.{IsPart}
 
 -- one part more
 parts_snoc : (k : Known) (words : List (List ℕ)) (pieces : List Piece) (parts : List (List ℕ)) (piece : Piece) (part : List ℕ)

@@ -1,20 +1,13 @@
 -- Findings that are sorted out by their levels.
-use Rattle.std.proofs.Common.{◌≡◌, ◌∙◌, ◌||◌, ◌&&◌, ℕ, Bool, true, false, List, [], ◌∷◌, ◌++◌, Option, map, refl, sym, ap, subst}
-use Rattle.std.proofs.lemmas.Bool.{false≢true}
+use Rattle.sedck_explanation.proofs.Common.{◌≡◌, ◌∙◌, ◌||◌, ◌&&◌, ℕ, Bool, true, false, List, [], ◌∷◌, ◌++◌, Option, map, refl, sym, ap, subst, false≢true, All-head, warns_of, has_locale, is_warning, is_error, AreOf, AreInOrder, head_of, Code, Finding, Position, Error, denies, DeniedWarnings, errors_in, AreReported}
 use Rattle.std.proofs.lemmas.List.{map-append}
 use Rattle.std.proofs.lemmas.List.Folds.{list_any-append}
-use Rattle.std.proofs.lemmas.List.Elements.{filter-append, All-append, All-cons, All-nil, All-head, All-tail}
+use Rattle.std.proofs.lemmas.List.Elements.{filter-append, All-append, All-cons, All-nil, All-tail}
 use Rattle.std.specs.List.{All}
-use Rattle.sedck_report.specs.Levels.{warns_of, has_locale, is_warning, is_locale, is_error}
-use Rattle.sedck_report.specs.Reported.{AreOf, AreInOrder, HasRange, head_of}
-use Rattle.sedck_report.specs.declared.code.Code.{Code}
-use Rattle.sedck_report.specs.declared.finding.Finding.{Finding}
+use Rattle.sedck_report.specs.Levels.{is_locale}
+use Rattle.sedck_report.specs.Reported.{HasRange}
 use Rattle.sedck_report.specs.declared.finding.Level.{Level}
-use Rattle.sedck_report.specs.declared.places.Position.{Position}
-use Rattle.sedck_report.specs.declared.finding.Level.TheVariants.{Error, Warning, Note}
-use Rattle.sedck_errors.specs.Denials.{denies}
-use Rattle.sedck_errors.specs.declared.warnings.DeniedWarnings.{DeniedWarnings}
-use Rattle.sedck_explanation.specs.Private.Reporting.{errors_in, AreReported}
+use Rattle.sedck_report.specs.declared.finding.Level.TheVariants.{Warning, Note}
 
 -- what was found so far, by its levels and without what is ignored
 pub record IsSortedOut (text : List ℕ) (denied : DeniedWarnings) (found errors warnings notes : List Finding) : Type 0 where

@@ -1,13 +1,9 @@
 -- What is said of a call, by what is said of its script.
-use Rattle.std.proofs.Common.{◌≡◌, ℕ, true, false, MatchBool, List, None, Result, Ok, Err, IfOk, refl, sym, subst}
+use Rattle.sedck_explanation.proofs.Common.{◌≡◌, ℕ, true, false, List, None, Result, Ok, Err, IfOk, refl, sym, subst, denies, warns_of_denied, Denied, IsExplanation, Explanation}
+use Rattle.std.proofs.Common.{MatchBool}
 use Rattle.sedck_call.specs.declared.call.Call.{Call}
 use Rattle.sedck_explanation.specs.Called.{is_in_place, is_denied_call, IsDenied, IsCalled}
 use Rattle.sedck_report.specs.declared.code.Code.TheVariants.{InPlace}
-use Rattle.sedck_errors.specs.Denials.{denies}
-use Rattle.sedck_explanation.specs.Denial.{warns_of_denied}
-use Rattle.sedck_errors.specs.declared.denied.Denied.{Denied}
-use Rattle.sedck_explanation.specs.Explanations.{IsExplanation}
-use Rattle.sedck_answer.specs.declared.explanation.Explanation.{Explanation}
 
 -- where that is denied, an operand that is overwritten is warned of
 abbrev IsWarned : Denied → Call → Explanation → Type 0

@@ -1,5 +1,4 @@
-use Rattle.sedck_script.specs.Spelling.{Spells}
-use Rattle.sedck_cert.specs.Headline.{Only}
+use Rattle.sedck_explanation.proofs.Common.{Spells, Only}
 use Rattle.sedck_explanation.proofs.Answering.{err_is_err, locate_refused, judged_answer, search_found}
 use Rattle.sedck_explanation.proofs.answer.answer_of.Goals as goal
 use Rattle.sedck_explanation.proofs.answer.answer_of.Goals.{in-Some+in_ok-answer-in-Some, in-None+in_ok-answer-in-None}

@@ -1,12 +1,6 @@
-use Rattle.std.proofs.Common.{◌≡◌, ◌∙◌, true, false, List, refl, sym, ap}
-use Rattle.std.proofs.lemmas.Bool.{false≢true}
-use Rattle.sedck_report.specs.declared.finding.Finding.{Finding}
-use Rattle.sedck_errors.specs.declared.denied.Denied.{Denied}
+use Rattle.sedck_explanation.proofs.Common.{◌≡◌, ◌∙◌, true, false, List, refl, sym, ap, false≢true, Finding, Denied, is_denied, Expressions, Answer, ScriptRefused, CertificateRefused, Accepted, Rejected, Endless, NotJudged}
 use Rattle.sedck_errors.proofs.Denials.{nothing_denied}
-use Rattle.sedck_explanation.specs.Denial.{nothing, is_denied}
-use Rattle.sedck_explanation.specs.declared.answer.Expressions.{Expressions}
-use Rattle.sedck_answer.specs.declared.answer.Answer.{Answer}
-use Rattle.sedck_answer.specs.declared.answer.Answer.TheVariants.{ScriptRefused, CertificateRefused, Accepted, Rejected, Endless, NotJudged}
+use Rattle.sedck_explanation.specs.Denial.{nothing}
 use Rattle.sedck_explanation.proofs.answer.status_under.Goals as goal
 
 -- where nothing is denied, no script has what is

@@ -1,5 +1,4 @@
-use Rattle.std.proofs.Common.{◌≡◌, ◌&&◌, ◌∙◌, Bool, true, refl, sym}
-use Rattle.sedck_errors.specs.Denials.{denies}
+use Rattle.sedck_explanation.proofs.Common.{◌≡◌, ◌&&◌, ◌∙◌, Bool, true, refl, sym, denies}
 use Rattle.sedck_explanation.proofs.SaidOfCalls.{called_denied, called_plain}
 use Rattle.sedck_explanation.proofs.called.explain_called.Goals as goal
 

@@ -1,8 +1,4 @@
-use Rattle.std.proofs.Common.{◌≡◌, ◌∙◌, false, List, [], ◌∷◌, ◌++◌, ap, sym, subst}
-use Rattle.sedck_report.specs.Levels.{has_locale, is_warning}
-use Rattle.sedck_report.specs.declared.finding.Finding.{Finding}
-use Rattle.sedck_explanation.specs.Private.Errors.{IsFindingOf, AreFindingsOf}
-use Rattle.sedck_commands.proofs.ResultLemmas.{if_some_at}
+use Rattle.sedck_explanation.proofs.Common.{◌≡◌, ◌∙◌, false, List, [], ◌∷◌, ◌++◌, ap, sym, subst, has_locale, is_warning, Finding, IsFindingOf, AreFindingsOf, if_some_at}
 use Rattle.sedck_explanation.proofs.Errors.{finding_alone}
 use Rattle.sedck_explanation.proofs.Reports.{locale_alone}
 use Rattle.sedck_explanation.proofs.explaining.answer_findings.Goals as goal

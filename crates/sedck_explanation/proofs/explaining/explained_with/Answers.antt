@@ -1,13 +1,5 @@
-use Rattle.std.proofs.Common.{◌≡◌, List, length}
-use Rattle.sedck_commands.specs.Items.{Item, Items}
-use Rattle.sedck_commands.specs.Locations.{locations_of}
+use Rattle.sedck_explanation.proofs.Common.{◌≡◌, List, length, Item, Items, locations_of, if_some_at, Spells, Only, KeepsNothing, IsExplanation, Explains, KeepsLocated}
 use Rattle.sedck_script.specs.declared.parsing.Located.{Located}
-use Rattle.sedck_commands.proofs.ResultLemmas.{if_some_at}
-use Rattle.sedck_script.specs.Spelling.{Spells}
-use Rattle.sedck_cert.specs.Headline.{Only}
-use Rattle.sedck_answer.specs.Answers.{KeepsNothing}
-use Rattle.sedck_explanation.specs.Explanations.{IsExplanation}
-use Rattle.sedck_explanation.specs.Private.Explaining.{Explains, KeepsLocated}
 use Rattle.sedck_explanation.proofs.Explanations.{on_both, of_script, explained_script, explained_refusal}
 use Rattle.sedck_explanation.proofs.explaining.explained_with.Goals as goal
 

@@ -1,9 +1,4 @@
-use Rattle.std.proofs.Common.{◌≡◌, ◌∙◌, List, [], ◌∷◌, ◌++◌, ap, sym, subst}
-use Rattle.sedck_report.specs.Levels.{has_locale, is_warning}
-use Rattle.sedck_report.specs.declared.finding.Finding.{Finding}
-use Rattle.sedck_explanation.specs.Private.Errors.{AreFindingsOf}
-use Rattle.sedck_answer.specs.declared.answer.Answer.{Answer}
-use Rattle.sedck_answer.specs.declared.answer.Answer.TheVariants.{ScriptRefused}
+use Rattle.sedck_explanation.proofs.Common.{◌≡◌, ◌∙◌, List, [], ◌∷◌, ◌++◌, ap, sym, subst, has_locale, is_warning, Finding, AreFindingsOf, Answer, ScriptRefused}
 use Rattle.sedck_explanation.proofs.Errors.{finding_alone}
 use Rattle.sedck_explanation.proofs.Reports.{locale_alone}
 use Rattle.sedck_explanation.proofs.explaining.refusal_findings.Goals as goal

@@ -1,12 +1,4 @@
-use Rattle.std.proofs.Common.{◌≡◌, ◌∙◌, ◌&&◌, Bool, true, false, not, List, None, [], refl, ap, sym, subst}
-use Rattle.sedck_report.specs.declared.finding.Finding.{Finding}
-use Rattle.sedck_errors.specs.Denials.{denies}
-use Rattle.sedck_explanation.specs.Denial.{expressions_of, status_under}
-use Rattle.sedck_explanation.specs.declared.answer.Expressions.{Expressions}
-use Rattle.sedck_explanation.specs.Errors.{BeginsWithAnswer}
-use Rattle.sedck_explanation.specs.Private.Errors.{AreFindingsOf}
-use Rattle.sedck_explanation.specs.Private.Reporting.{AreReported}
-use Rattle.sedck_advice.proofs.Added.{no_error_append, warned_behind}
+use Rattle.sedck_explanation.proofs.Common.{◌≡◌, ◌∙◌, ◌&&◌, Bool, true, false, not, List, None, [], refl, ap, sym, subst, Finding, denies, expressions_of, status_under, Expressions, BeginsWithAnswer, AreFindingsOf, AreReported, no_error_append, warned_behind}
 use Rattle.sedck_explanation.proofs.Errors.{errors_of_refusal, findings_stay}
 use Rattle.sedck_explanation.proofs.Reports.{no_locale_append}
 use Rattle.sedck_explanation.proofs.Kept.{errors_reported, status_reported}

@@ -1,17 +1,7 @@
-use Rattle.std.proofs.Common.{◌≡◌, ◌∙◌, ◌||◌, ◌&&◌, ◌++◌, Bool, true, false, not, List, Some, refl, ap, subst}
-use Rattle.sedck_report.specs.Levels.{has_locale, warns_of}
-use Rattle.sedck_report.specs.declared.finding.Finding.{Finding}
-use Rattle.sedck_report.specs.declared.places.Position.{Position}
+use Rattle.sedck_explanation.proofs.Common.{◌≡◌, ◌∙◌, ◌||◌, ◌&&◌, ◌++◌, Bool, true, false, not, List, Some, refl, ap, subst, has_locale, warns_of, Finding, Position, AddsNoError, denies, Denied, expressions_of, status_under, Expressions, AreFindingsOf, AreDeniedFindings, AreReported, no_error_append, warned_behind}
 use Rattle.sedck_advice.specs.Locale.{depends_on_locale}
-use Rattle.sedck_advice.specs.Added.{AddsNoError}
-use Rattle.sedck_errors.specs.Denials.{denies}
-use Rattle.sedck_errors.specs.declared.denied.Denied.{Denied}
-use Rattle.sedck_explanation.specs.Denial.{expressions_of, status_under}
-use Rattle.sedck_explanation.specs.declared.answer.Expressions.{Expressions}
-use Rattle.sedck_explanation.specs.Private.Errors.{AreFindingsOf}
-use Rattle.sedck_explanation.specs.Private.Explaining.{AreDeniedFindings, kinds_of}
-use Rattle.sedck_explanation.specs.Private.Reporting.{AreReported}
-use Rattle.sedck_advice.proofs.Added.{no_error_append, no_error_trans, warned_behind}
+use Rattle.sedck_explanation.specs.Private.Explaining.{kinds_of}
+use Rattle.sedck_advice.proofs.Added.{no_error_trans}
 use Rattle.sedck_explanation.proofs.Errors.{errors_of, findings_stay}
 use Rattle.sedck_explanation.proofs.Reports.{no_locale_append}
 use Rattle.sedck_explanation.proofs.Kept.{errors_reported, status_reported}

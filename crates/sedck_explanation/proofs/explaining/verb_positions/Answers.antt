@@ -1,7 +1,7 @@
-use Rattle.std.proofs.Common.{◌≡◌, ◌∙◌, ap, map, take, arith}
+use Rattle.sedck_explanation.proofs.Common.{◌≡◌, ◌∙◌, ap, map, take, position_in}
+use Rattle.std.proofs.Common.{arith}
 use Rattle.std.proofs.lemmas.List.{take_all}
 use Rattle.std.proofs.lemmas.Simd.{map-map}
-use Rattle.sedck_report.specs.Positions.{position_in}
 use Rattle.sedck_explanation.proofs.Answering.{on_ok}
 use Rattle.sedck_explanation.proofs.explaining.verb_positions.Goals as goal
 

@@ -1,4 +1,4 @@
-use Rattle.std.proofs.Common.{◌≡◌, map, take}
+use Rattle.sedck_explanation.proofs.Common.{◌≡◌, map, take}
 use Rattle.sedck_explanation.proofs.explaining.verb_positions.Given as goal
 
 abbrev pub invariant-loop-location : goal.invariant-loop-location

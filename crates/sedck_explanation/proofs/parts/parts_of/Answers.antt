@@ -1,5 +1,4 @@
-use Rattle.std.proofs.Common.{◌+◌, take, map, sym, subst}
-use Rattle.sedck_explanation.specs.Called.{AreParts}
+use Rattle.sedck_explanation.proofs.Common.{◌+◌, take, map, sym, subst, AreParts}
 use Rattle.sedck_explanation.proofs.PartLemmas.{next_part}
 use Rattle.sedck_explanation.proofs.parts.parts_of.Goals as goal
 

@@ -1,5 +1,4 @@
-use Rattle.std.proofs.Common.{take, map}
-use Rattle.sedck_explanation.specs.Called.{AreParts}
+use Rattle.sedck_explanation.proofs.Common.{take, map, AreParts}
 use Rattle.sedck_explanation.proofs.parts.parts_of.Given as goal
 
 -- those so far

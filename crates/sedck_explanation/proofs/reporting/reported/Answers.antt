@@ -1,9 +1,8 @@
-use Rattle.std.proofs.Common.{◌≡◌, ◌∙◌, ◌++◌, List, length, refl, ap, sym, subst, rules}
+use Rattle.sedck_explanation.proofs.Common.{◌≡◌, ◌∙◌, ◌++◌, List, length, refl, ap, sym, subst, Finding, AreReported}
+use Rattle.std.proofs.Common.{rules}
 use Rattle.std.proofs.lemmas.Iterator.Consumers.{YieldsList-end}
 use Rattle.std.proofs.lemmas.Iterator.Adapters.{YieldsList-from_vec}
 use Rattle.std.proofs.lemmas.List.Folds.{map_fixed}
-use Rattle.sedck_report.specs.declared.finding.Finding.{Finding}
-use Rattle.sedck_explanation.specs.Private.Reporting.{AreReported}
 use Rattle.sedck_explanation.proofs.Reports.{more_error, more_warning, more_note, more_ignored, sorted_reports}
 use Rattle.sedck_explanation.proofs.reporting.reported.Goals as goal
 
