@@ -1,21 +1,11 @@
 -- From what was explained to the status of what the words ask for.
-use Rattle.std.proofs.Common.{◌≡◌, ℕ, Bool, true, false, List, Option, Some, inl, inr, subst, String}
+use Rattle.sedck_explain_cli.proofs.Common.{◌≡◌, ℕ, Bool, true, false, List, Option, Some, inl, inr, subst, String, Global, Known, Status, Accepted, Output, Holds, IsWorstOf, HasCallStatus, texts_of, scripts_of, is_plain, IsIn, IsPlainly, SpellsScript, SpellsFound, Request, StatusAt, call_of}
 use Rattle.std.specs.Prelude.{MatchBool}
-use Rattle.std.specs.declared.alloc.Global.{Global}
-use Rattle.sedck_engines.specs.Opened.{Known}
-use Rattle.sedck_answer.specs.declared.status.Status.{Status}
-use Rattle.sedck_answer.specs.declared.status.Status.TheVariants.{Accepted}
-use Rattle.sedck_formats.specs.Plain.{Output}
-use Rattle.sedck_calls_in_files.specs.Scanned.{Holds, IsWorstOf}
-use Rattle.sedck_explain_cli.specs.CallStatus.{HasCallStatus}
-use Rattle.sedck_explain_cli.specs.Readings.{texts_of}
-use Rattle.sedck_explain_cli.specs.Requests.{scripts_of, is_plain, IsRequest}
-use Rattle.sedck_explain_cli.specs.Spelled.{IsIn, IsPlainly, SpellsScript, SpellsFound, SpellsCall}
+use Rattle.sedck_explain_cli.specs.Requests.{IsRequest}
+use Rattle.sedck_explain_cli.specs.Spelled.{SpellsCall}
 use Rattle.sedck_explain_cli.proofs.Spelled.{found_status}
-use Rattle.sedck_explain_cli.specs.declared.request.Request.{Request}
 use Rattle.sedck_explain_cli.specs.declared.words.Words.{Words}
-use Rattle.sedck_explain_cli.specs.Statuses.{StatusAt}
-use Rattle.sedck_explain_cli.specs.Answers.{call_of, asks_for_help, HasStatusFor, IsAnswered, SpellsGiven, SpellsFor, IsWritten}
+use Rattle.sedck_explain_cli.specs.Answers.{asks_for_help, HasStatusFor, IsAnswered, SpellsGiven, SpellsFor, IsWritten}
 
 -- ---- By what is asked for
 

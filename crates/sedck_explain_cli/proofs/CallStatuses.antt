@@ -1,18 +1,6 @@
 -- From what is said of a call to its exit status.
-use Rattle.std.proofs.Common.{◌≡◌, ◌∙◌, ℕ, Bool, true, List, None, inl, refl, sym, subst}
+use Rattle.sedck_explain_cli.proofs.Common.{◌≡◌, ◌∙◌, ℕ, Bool, true, List, None, inl, refl, sym, subst, Call, has_foreign, IsCalled, IsExplanation, Known, Denied, IsOfAnswer, Explanation, Status, Accepted, Refused, HasCallStatus, IsOfMendedCall, IsUnder, IsSaid, IsJudgedCall}
 use Rattle.sedck_call.specs.Calls.{IsCall}
-use Rattle.sedck_call.specs.declared.call.Call.{Call}
-use Rattle.sedck_explanation.specs.Called.{has_foreign, IsCalled}
-use Rattle.sedck_explanation.specs.Explanations.{IsExplanation}
-use Rattle.sedck_engines.specs.Opened.{Known}
-use Rattle.sedck_errors.specs.declared.denied.Denied.{Denied}
-use Rattle.sedck_answer.specs.Status.{IsOfAnswer}
-use Rattle.sedck_answer.specs.declared.explanation.Explanation.{Explanation}
-use Rattle.sedck_answer.specs.declared.status.Status.{Status}
-use Rattle.sedck_answer.specs.declared.status.Status.TheVariants.{Accepted, Refused}
-use Rattle.sedck_explain_cli.specs.CallStatus.{HasCallStatus}
-use Rattle.sedck_explain_cli.specs.Mended.{IsOfMendedCall, IsUnder}
-use Rattle.sedck_explain_cli.specs.Private.Said.{IsSaid, IsJudgedCall}
 
 -- what is refused is no yes
 refused_said : (mends : Bool) (k : Known) (denied : Denied) (words : List (List ℕ)) (e : Explanation) → e.status ≡ Refused

@@ -1,9 +1,7 @@
 -- The statuses of several scripts.
-use Rattle.std.proofs.Common.{◌≡◌, ◌<◌, ◌+◌, ℕ, nat_le, Bool, true, false, if◌then◌else◌, List, map, take, length, get_or, refl, subst}
-use Rattle.sedck_answer.specs.Status.{rank, worse}
-use Rattle.sedck_answer.specs.declared.status.Status.{Status}
-use Rattle.sedck_answer.specs.declared.status.Status.TheVariants.{Accepted, Failed}
-use Rattle.sedck_calls_in_files.specs.Scanned.{IsWorstOf}
+use Rattle.sedck_explain_cli.proofs.Common.{◌≡◌, ◌<◌, ◌+◌, ℕ, Bool, true, false, List, map, take, length, get_or, refl, subst, worse, Status, Accepted, Failed, IsWorstOf}
+use Rattle.std.proofs.Common.{nat_le, if◌then◌else◌}
+use Rattle.sedck_answer.specs.Status.{rank}
 use Rattle.sedck_calls_in_files.proofs.Worst.{next_path}
 
 -- one script more

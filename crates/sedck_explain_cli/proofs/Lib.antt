@@ -1,3 +1,4 @@
+mod Common
 mod CallStatuses
 mod Readings
 mod Greatest

@@ -1,25 +1,10 @@
 -- What is said under a condition, and its status.
-use Rattle.std.proofs.Common.{◌≡◌, ◌≢◌, ◌∙◌, ℕ, Bool, true, false, List, Option, None, Result, Ok, Err, IfOk, IfSome, inl, inr, refl, sym, ap, subst}
+use Rattle.sedck_explain_cli.proofs.Common.{◌≡◌, ◌≢◌, ◌∙◌, ℕ, Bool, true, false, List, Option, None, Result, Ok, Err, IfOk, IfSome, inl, inr, refl, sym, ap, subst, Keeps, false≢true, Call, Known, RunFault, Denied, IsCalled, IsExplanation, IsOfAnswer, Explanation, Status, Output, Writes, IsDelivered, HasCallStatus, IsExplained, IsOfMendedCall, IsUnder, IsExplainedUnder, IsJudgedCall, IsIn, IsAnsweredCall}
 use Rattle.std.specs.Prelude.{◌⊎◌}
-use Rattle.std.specs.Io.KnownBytes.{Keeps}
-use Rattle.std.proofs.lemmas.Bool.{false≢true}
-use Rattle.sedck_call.specs.declared.call.Call.{Call}
-use Rattle.sedck_engines.specs.Opened.{Known}
-use Rattle.sedck_engines.specs.declared.answer.RunFault.{RunFault}
-use Rattle.sedck_errors.specs.declared.denied.Denied.{Denied}
-use Rattle.sedck_explanation.specs.Called.{IsCalled}
-use Rattle.sedck_explanation.specs.Explanations.{IsExplanation}
-use Rattle.sedck_answer.specs.Status.{IsOfAnswer}
-use Rattle.sedck_answer.specs.declared.explanation.Explanation.{Explanation}
-use Rattle.sedck_answer.specs.declared.status.Status.{Status}
 use Rattle.sedck_answer.specs.declared.status.Status.TheVariants as exit
-use Rattle.sedck_formats.specs.Plain.{Output, Writes}
-use Rattle.sedck_calls_in_files.specs.Delivered.{IsDelivered}
-use Rattle.sedck_explain_cli.specs.CallStatus.{HasCallStatus}
-use Rattle.sedck_explain_cli.specs.Explained.{IsExplained}
-use Rattle.sedck_explain_cli.specs.Mended.{under_condition, IsOfMended, IsOfMendedCall, IsOfAnswerUnder, IsUnder}
-use Rattle.sedck_explain_cli.specs.Private.Said.{IsExplainedUnder, IsJudgedCall, IsDeliveredUnder}
-use Rattle.sedck_explain_cli.specs.Spelled.{IsIn, CopiesMended, IsAnsweredCall}
+use Rattle.sedck_explain_cli.specs.Mended.{under_condition, IsOfMended, IsOfAnswerUnder}
+use Rattle.sedck_explain_cli.specs.Private.Said.{IsDeliveredUnder}
+use Rattle.sedck_explain_cli.specs.Spelled.{CopiesMended}
 use Rattle.sedck_explain_cli.proofs.CallStatuses.{under_text}
 use Rattle.sedck_explain_cli.proofs.Spelled.{delivered_few, copied_yes, explained}
 

@@ -1,17 +1,17 @@
 -- From the words to what they ask for.
-use Rattle.std.proofs.Common.{◌≡◌, ◌≢◌, ◌∙◌, ◌==◌, ◌||◌, ◌+◌, ◌-◌, ◌<◌, ◌≤◌, ℕ, suc, Bool, true, false, List, [], ◌∷◌, ◌++◌, length, map, get_or, take, drop, length-drop, Option, Some, None, String, string_bytes, refl, sym, ap, subst, arith}
-use Rattle.std.specs.Prelude.{option_map, MatchOption, fold}
+use Rattle.sedck_explain_cli.proofs.Common.{◌≡◌, ◌≢◌, ◌∙◌, ◌+◌, ◌-◌, ◌<◌, ◌≤◌, ℕ, Bool, true, false, List, [], ◌∷◌, length, map, get_or, take, drop, Option, Some, None, String, refl, sym, ap, subst, arith, fold, Global, texts_of, Asked, after, nothing_asked, is_named}
+use Rattle.std.proofs.Common.{◌==◌, ◌||◌, suc, ◌++◌, length-drop, string_bytes}
+use Rattle.std.specs.Prelude.{option_map, MatchOption}
 use Rattle.std.specs.List.{list_any}
 use Rattle.std.specs.Str.{bytes_eq}
 use Rattle.std.specs.Borrow.{Bor}
-use Rattle.std.specs.declared.alloc.Global.{Global}
 use Rattle.std.specs.Str.Pattern.{FindsTextPrefix, StripsPrefix}
 use Rattle.std.proofs.Math.Seq.{drop-cons}
 use Rattle.std.proofs.lemmas.Bool.{eqb-true, ne_eqb}
 use Rattle.std.proofs.lemmas.List.{length-map, get_or-map, get_or-drop, take_more}
 use Rattle.std.proofs.lemmas.List.Sums.{fold_more}
 use Rattle.std.proofs.lemmas.Bool.Decides.{Decides-eqb}
-use Rattle.sedck_explain_cli.specs.Readings.{texts_of, Asked, behind, after, nothing_asked, pieces, is_named, is_among}
+use Rattle.sedck_explain_cli.specs.Readings.{behind, pieces, is_among}
 
 none_some : (rest : List ℕ) → None ≡ Some rest → ⊥
 none_some rest e = cc e

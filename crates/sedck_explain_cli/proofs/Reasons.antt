@@ -1,8 +1,7 @@
 -- Why a script's files aren't read.
-use Rattle.std.proofs.Common.{List, ℕ, Option, Result, Ok, Err, IfErr}
-use Rattle.sedck_engines.specs.Opened.{Known}
+use Rattle.sedck_explain_cli.proofs.Common.{List, ℕ, Option, Result, Ok, Err, Known, RunFault}
+use Rattle.std.proofs.Common.{IfErr}
 use Rattle.sedck_engines.specs.declared.answer.Input.TheVariants as input
-use Rattle.sedck_engines.specs.declared.answer.RunFault.{RunFault}
 use Rattle.sedck_engines.specs.declared.answer.RunFault.TheVariants as fault
 use Rattle.sedck_explain_cli.specs.Explained.{IsReasonOf}
 

@@ -1,36 +1,21 @@
 -- From what is written to what is promised of it.
-use Rattle.std.proofs.Common.{◌≡◌, ◌∙◌, ℕ, Bool, true, false, List, [], ◌∷◌, Option, None, Result, IfOk, IfSome, inl, inr, refl, sym, subst}
-use Rattle.std.proofs.lemmas.Bool.{false≢true}
+use Rattle.sedck_explain_cli.proofs.Common.{◌≡◌, ◌∙◌, ℕ, Bool, true, false, List, [], ◌∷◌, Option, None, Result, IfOk, IfSome, inl, inr, refl, sym, subst, false≢true, Denied, Known, RunFault, on_ok, IsExplanation, IsOfAnswer, Status, Explanation, Output, Writes, IsDelivered, Holds, IsWorstOf, HasCallStatus, IsExplained, IsExplainedUnder, IsSaid, certificate_of, IsGiven, StatusAt, Request, IsPlainly, IsIn, SpellsFound, IsAnsweredCall}
 use Rattle.sedck_report.specs.declared.finding.Finding.{Finding}
-use Rattle.sedck_errors.specs.declared.denied.Denied.{Denied}
 use Rattle.sedck_engines.specs.Inputs.{IsRead}
-use Rattle.sedck_engines.specs.Opened.{Known}
-use Rattle.sedck_engines.specs.declared.answer.RunFault.{RunFault}
 use Rattle.sedck_explanation.specs.Called.{known_bytes}
-use Rattle.sedck_explanation.proofs.Answering.{on_ok}
 use Rattle.sedck_explanation.specs.Denial.{expressions_of, status_under}
-use Rattle.sedck_explanation.specs.Explanations.{Keeps, KeepsScript, IsExplanation}
+use Rattle.sedck_explanation.specs.Explanations.{Keeps, KeepsScript}
 use Rattle.sedck_answer.specs.declared.answer.Answer.{Answer}
 use Rattle.sedck_explanation.specs.declared.answer.Expressions.{Expressions}
 use Rattle.sedck_answer.specs.declared.answer.Answer.TheVariants.{Accepted, Rejected, Endless, ScriptRefused, CertificateRefused, NotJudged}
-use Rattle.sedck_answer.specs.Status.{IsOfAnswer}
-use Rattle.sedck_answer.specs.declared.status.Status.{Status}
-use Rattle.sedck_answer.specs.declared.explanation.Explanation.{Explanation}
 use Rattle.sedck_answer.specs.declared.status.Status.TheVariants as exit
 use Rattle.sedck_plain.specs.WrittenLists.{HaveSameLists}
-use Rattle.sedck_formats.specs.Plain.{Output, IsPlainStatus, IsPlainOutput, Writes}
-use Rattle.sedck_calls_in_files.specs.Delivered.{IsDelivered}
-use Rattle.sedck_calls_in_files.specs.Scanned.{Holds, IsWorstOf}
+use Rattle.sedck_formats.specs.Plain.{IsPlainStatus, IsPlainOutput}
 use Rattle.sedck_call.specs.Scripts.{joined_texts}
 use Rattle.sedck_explain_cli.specs.Answers.{HasOneStatus}
-use Rattle.sedck_explain_cli.specs.CallStatus.{HasCallStatus}
-use Rattle.sedck_explain_cli.specs.Explained.{IsExplained}
-use Rattle.sedck_explain_cli.specs.Private.Said.{IsExplainedUnder, IsExplainedAt, IsSaid}
-use Rattle.sedck_explain_cli.specs.Requests.{certificate_of}
-use Rattle.sedck_explain_cli.specs.Statuses.{IsGiven, StatusAt}
-use Rattle.sedck_explain_cli.specs.declared.request.Request.{Request}
+use Rattle.sedck_explain_cli.specs.Private.Said.{IsExplainedAt}
 use Rattle.sedck_explain_cli.proofs.Greatest.{yes_gives_way}
-use Rattle.sedck_explain_cli.specs.Spelled.{IsPlainly, IsIn, Copies, WritesSame, SpellsAt, SpellsFound, CopiesCall, IsAnsweredCall}
+use Rattle.sedck_explain_cli.specs.Spelled.{Copies, WritesSame, SpellsAt, CopiesCall}
 
 -- ---- The status
 

@@ -1,5 +1,4 @@
-use Rattle.std.proofs.Common.{◌≡◌, ◌∙◌, true, sym, subst, map}
-use Rattle.sedck_explanation.specs.Called.{has_foreign}
+use Rattle.sedck_explain_cli.proofs.Common.{◌≡◌, ◌∙◌, true, sym, subst, map, has_foreign}
 use Rattle.sedck_explain_cli.proofs.CallStatuses.{foreign_said}
 use Rattle.sedck_explain_cli.proofs.calls.explain_words.Goals as goal
 

@@ -1,6 +1,4 @@
-use Rattle.std.proofs.Common.{map, subst}
-use Rattle.sedck_formats.specs.Plain.{Output}
-use Rattle.sedck_explain_cli.specs.Spelled.{IsAnsweredCall}
+use Rattle.sedck_explain_cli.proofs.Common.{map, subst, Output, IsAnsweredCall}
 use Rattle.sedck_explain_cli.proofs.Spelled.{answered_call}
 use Rattle.sedck_explain_cli.proofs.calls.shown.Goals as goal
 

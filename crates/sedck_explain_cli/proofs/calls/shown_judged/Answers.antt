@@ -1,8 +1,4 @@
-use Rattle.std.proofs.Common.{◌≡◌, true, IfSome, map, subst}
-use Rattle.sedck_explanation.proofs.Answering.{on_ok}
-use Rattle.sedck_answer.specs.declared.status.Status.TheVariants.{Refused}
-use Rattle.sedck_formats.specs.Plain.{Output}
-use Rattle.sedck_explain_cli.specs.Requests.{is_plain}
+use Rattle.sedck_explain_cli.proofs.Common.{◌≡◌, true, IfSome, map, subst, on_ok, Refused, Output, is_plain}
 use Rattle.sedck_explain_cli.proofs.CallStatuses.{judged_said}
 use Rattle.sedck_explain_cli.proofs.Mended.{answered_under}
 use Rattle.sedck_explain_cli.proofs.calls.shown_judged.Goals as goal

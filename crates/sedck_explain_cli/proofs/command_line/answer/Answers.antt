@@ -1,9 +1,4 @@
-use Rattle.std.proofs.Common.{◌∙◌, ap, map, sym, subst}
-use Rattle.std.specs.Option.{option_map}
-use Rattle.sedck_formats.specs.Plain.{Output}
-use Rattle.sedck_explain_cli.specs.Answers.{call_of}
-use Rattle.sedck_explain_cli.specs.Requests.{is_plain}
-use Rattle.sedck_explain_cli.specs.Spelled.{IsAnsweredCall}
+use Rattle.sedck_explain_cli.proofs.Common.{◌∙◌, ap, map, sym, subst, option_map, Output, call_of, is_plain, IsAnsweredCall}
 use Rattle.sedck_explain_cli.proofs.Answered.{scripts_status, plain_scripts, plain_found, found_spelled, script_spelled, call_status, call_spelled}
 use Rattle.sedck_explain_cli.proofs.command_line.answer.Goals as goal
 

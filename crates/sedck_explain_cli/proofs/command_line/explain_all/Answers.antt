@@ -1,10 +1,5 @@
-use Rattle.std.proofs.Common.{◌≡◌, ◌≢◌, ◌∙◌, ◌+◌, map, take, refl, sym, ap, subst, inl}
-use Rattle.std.specs.Io.KnownBytes.{Keeps}
+use Rattle.sedck_explain_cli.proofs.Common.{◌≡◌, ◌≢◌, ◌∙◌, ◌+◌, map, take, refl, sym, ap, subst, inl, Keeps, worse, Accepted, Misused, Failed, Unknown, IsWorstOf, StatusAt}
 use Rattle.std.proofs.KnownBytes.{Keeps-trans}
-use Rattle.sedck_answer.specs.Status.{worse}
-use Rattle.sedck_answer.specs.declared.status.Status.TheVariants.{Accepted, Misused, Failed, Unknown}
-use Rattle.sedck_calls_in_files.specs.Scanned.{IsWorstOf}
-use Rattle.sedck_explain_cli.specs.Statuses.{StatusAt}
 use Rattle.sedck_explain_cli.proofs.Greatest.{worst_item, worse_has, failed_stays}
 use Rattle.sedck_explain_cli.proofs.Spelled.{report_status}
 use Rattle.sedck_explain_cli.proofs.command_line.explain_all.Goals as goal

@@ -1,8 +1,4 @@
-use Rattle.std.proofs.Common.{◌≡◌, ◌≢◌, false, map, take}
-use Rattle.std.specs.Io.KnownBytes.{Keeps}
-use Rattle.sedck_answer.specs.declared.status.Status.TheVariants.{Accepted, Misused, Failed, Unknown}
-use Rattle.sedck_calls_in_files.specs.Scanned.{IsWorstOf}
-use Rattle.sedck_explain_cli.specs.Statuses.{StatusAt}
+use Rattle.sedck_explain_cli.proofs.Common.{◌≡◌, ◌≢◌, false, map, take, Keeps, Accepted, Misused, Failed, Unknown, IsWorstOf, StatusAt}
 use Rattle.sedck_explain_cli.proofs.command_line.explain_all.Given as goal
 
 -- the status so far

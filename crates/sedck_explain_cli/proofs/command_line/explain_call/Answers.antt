@@ -1,7 +1,4 @@
-use Rattle.std.proofs.Common.{◌∙◌, ap, map, subst}
-use Rattle.sedck_formats.specs.Plain.{Output}
-use Rattle.sedck_explain_cli.specs.Requests.{is_plain}
-use Rattle.sedck_explain_cli.specs.Spelled.{IsAnsweredCall}
+use Rattle.sedck_explain_cli.proofs.Common.{◌∙◌, ap, map, subst, Output, is_plain, IsAnsweredCall}
 use Rattle.sedck_explain_cli.proofs.command_line.explain_call.Goals as goal
 
 pub returns-in-Ok-explain_words-clause-answered : goal.returns-in-Ok-explain_words-clause-answered

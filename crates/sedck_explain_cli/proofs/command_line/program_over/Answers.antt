@@ -1,4 +1,4 @@
-use Rattle.sedck_formats.specs.Plain.{Output}
+use Rattle.sedck_explain_cli.proofs.Common.{Output}
 use Rattle.sedck_explain_cli.proofs.Answered.{answered, helped, written, help_written}
 use Rattle.sedck_explain_cli.proofs.command_line.program_over.Goals as goal
 

@@ -1,8 +1,4 @@
-use Rattle.std.proofs.Common.{sym, subst, inr}
-use Rattle.sedck_formats.specs.Plain.{Output}
-use Rattle.sedck_explain_cli.specs.Requests.{scripts_of}
-use Rattle.sedck_explain_cli.specs.Spelled.{SpellsScript}
-use Rattle.sedck_explain_cli.specs.Statuses.{StatusAt}
+use Rattle.sedck_explain_cli.proofs.Common.{sym, subst, inr, Output, scripts_of, SpellsScript, StatusAt}
 use Rattle.sedck_explain_cli.proofs.Spelled.{one_greatest, plain_status, plain_spelled}
 use Rattle.sedck_explain_cli.proofs.command_line.spell_script.Goals as goal
 

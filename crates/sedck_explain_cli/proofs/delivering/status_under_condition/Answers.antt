@@ -1,4 +1,4 @@
-use Rattle.std.proofs.Common.{sym}
+use Rattle.sedck_explain_cli.proofs.Common.{sym}
 use Rattle.sedck_explain_cli.proofs.Mended.{stays_under}
 use Rattle.sedck_explain_cli.proofs.delivering.status_under_condition.Goals as goal
 

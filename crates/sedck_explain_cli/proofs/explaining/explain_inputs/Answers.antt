@@ -1,9 +1,4 @@
-use Rattle.std.proofs.Common.{subst}
-use Rattle.std.specs.Option.{option_map}
-use Rattle.std.specs.Prelude.{is_some}
-use Rattle.sedck_explanation.specs.Explanations.{IsExplanation}
-use Rattle.sedck_explanation.proofs.Answering.{on_ok}
-use Rattle.sedck_formats.specs.Plain.{Output}
+use Rattle.sedck_explain_cli.proofs.Common.{subst, option_map, is_some, IsExplanation, on_ok, Output}
 use Rattle.sedck_explain_cli.proofs.Spelled.{explained, delivered_few}
 use Rattle.sedck_explain_cli.proofs.explaining.explain_inputs.Goals as goal
 

@@ -1,6 +1,4 @@
-use Rattle.std.specs.Option.{option_map}
-use Rattle.std.specs.Prelude.{is_some}
-use Rattle.sedck_formats.specs.Plain.{Output}
+use Rattle.sedck_explain_cli.proofs.Common.{option_map, is_some, Output}
 use Rattle.sedck_explain_cli.proofs.Mended.{same_inputs}
 use Rattle.sedck_explain_cli.proofs.Spelled.{explained_at}
 use Rattle.sedck_explain_cli.proofs.explaining.explain_path.Goals as goal

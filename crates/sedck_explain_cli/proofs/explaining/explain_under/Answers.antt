@@ -1,10 +1,4 @@
-use Rattle.std.proofs.Common.{◌≡◌, true, IfSome, subst}
-use Rattle.std.specs.Option.{option_map}
-use Rattle.std.specs.Prelude.{is_some}
-use Rattle.sedck_explanation.specs.Explanations.{IsExplanation}
-use Rattle.sedck_explanation.proofs.Answering.{on_ok}
-use Rattle.sedck_answer.specs.declared.status.Status.TheVariants.{Refused}
-use Rattle.sedck_formats.specs.Plain.{Output}
+use Rattle.sedck_explain_cli.proofs.Common.{◌≡◌, true, IfSome, subst, option_map, is_some, IsExplanation, on_ok, Refused, Output}
 use Rattle.sedck_explain_cli.proofs.Mended.{delivered_same, explained_under}
 use Rattle.sedck_explain_cli.proofs.explaining.explain_under.Goals as goal
 

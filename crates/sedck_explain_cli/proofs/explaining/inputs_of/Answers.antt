@@ -1,5 +1,4 @@
-use Rattle.std.proofs.Common.{◌∙◌, sym, inl, inr}
-use Rattle.sedck_explain_cli.specs.Requests.{certificate_of}
+use Rattle.sedck_explain_cli.proofs.Common.{◌∙◌, sym, inl, inr, certificate_of}
 use Rattle.sedck_explain_cli.proofs.Reasons.{reason_of}
 use Rattle.sedck_explain_cli.proofs.explaining.inputs_of.Goals as goal
 

@@ -1,7 +1,5 @@
-use Rattle.std.proofs.Common.{None, Some, refl, sym, ap, subst}
-use Rattle.std.specs.Option.{option_map}
+use Rattle.sedck_explain_cli.proofs.Common.{None, Some, refl, sym, ap, subst, option_map, IsGiven}
 use Rattle.sedck_explanation.proofs.KnownBytes.{read_known}
-use Rattle.sedck_explain_cli.specs.Statuses.{IsGiven}
 use Rattle.sedck_explain_cli.proofs.explaining.read_inputs.Goals as goal
 
 pub returns-in_default-clause-given : goal.returns-in_default-clause-given

@@ -1,4 +1,4 @@
-use Rattle.std.proofs.Common.{◌∙◌}
+use Rattle.sedck_explain_cli.proofs.Common.{◌∙◌}
 use Rattle.sedck_explain_cli.proofs.Readings.{any_mapped}
 use Rattle.sedck_explain_cli.proofs.reading.is_among.Goals as goal
 

@@ -1,4 +1,4 @@
-use Rattle.std.proofs.Common.{◌∙◌, sym, arith}
+use Rattle.sedck_explain_cli.proofs.Common.{◌∙◌, sym, arith}
 use Rattle.sedck_explain_cli.proofs.Readings.{named_plain, named_comma}
 use Rattle.sedck_explain_cli.proofs.reading.names.Goals.{then-list-at-eq44+else-eq, else-list-at-eq44}
 use Rattle.sedck_explain_cli.proofs.reading.names.Goals as goal

@@ -1,5 +1,4 @@
-use Rattle.std.proofs.Common.{◌≡◌, ◌-◌, ◌≤◌, take, drop}
-use Rattle.sedck_explain_cli.specs.Readings.{is_named}
+use Rattle.sedck_explain_cli.proofs.Common.{◌≡◌, ◌-◌, ◌≤◌, take, drop, is_named}
 use Rattle.sedck_explain_cli.proofs.Readings.{any_named}
 use Rattle.sedck_explain_cli.proofs.reading.names.Given as goal
 

@@ -1,5 +1,4 @@
-use Rattle.std.proofs.Common.{◌∙◌, ap}
-use Rattle.sedck_explain_cli.specs.Private.Readings.{asked_of}
+use Rattle.sedck_explain_cli.proofs.Common.{◌∙◌, ap, asked_of}
 use Rattle.sedck_explain_cli.proofs.Readings.{next_asked, bytes_of}
 use Rattle.sedck_explain_cli.proofs.reading.read_words.Goals as goal
 

@@ -1,8 +1,8 @@
-use Rattle.std.proofs.Common.{rules, arith, ◌≡◌, ◌∙◌, ap}
+use Rattle.sedck_explain_cli.proofs.Common.{arith, ◌≡◌, ◌∙◌, ap, Asked, texts_of, asked_of}
+use Rattle.std.proofs.Common.{rules}
 use Rattle.std.proofs.lemmas.Grind.{common_steps}
-use Rattle.sedck_explain_cli.specs.Readings.{Asked, read, texts_of}
+use Rattle.sedck_explain_cli.specs.Readings.{read}
 use Rattle.sedck_explain_cli.specs.Requests.{denied_by, is_plain_name}
-use Rattle.sedck_explain_cli.specs.Private.Readings.{asked_of}
 use Rattle.sedck_explain_cli.proofs.request.request_of.Goals as goal
 
 -- what the words ask for is what was read of them
