@@ -1,17 +1,14 @@
 -- What two reads of a file gave, one after the other, and the status of what was read.
-use Rattle.std.proofs.Common.{◌≡◌, ◌∙◌, ◌+◌, ◌≤◌, ℕ, Bool, true, false, inl, inr, IsTrue, List, ◌++◌, length, Option, Some, None, IfSome, codes, refl, sym, ap, subst, length-append, arith}
+use Rattle.sedck_calls_in_files.proofs.Common.{◌≡◌, ◌∙◌, ◌+◌, ◌≤◌, ℕ, Bool, true, false, inl, inr, List, ◌++◌, length, Option, Some, None, IfSome, refl, sym, ap, subst, arith, true≢false, Denied, known_bytes, Status, TextStatus, PathStatus, IsHeldAt, ContentsStatus}
+use Rattle.std.proofs.Common.{IsTrue, codes, length-append}
 use Rattle.std.proofs.lemmas.List.{length-take, take_all}
-use Rattle.std.proofs.lemmas.Bool.{true≢false}
 use Rattle.std.specs.Io.KnownBytes.{Consumes}
 use Rattle.std.specs.Str.{bytes_eq}
 use Rattle.sedck_engines.specs.Inputs.{IsRead}
 use Rattle.sedck_engines.specs.Opened.{Known}
-use Rattle.sedck_errors.specs.declared.denied.Denied.{Denied}
-use Rattle.sedck_explanation.specs.Called.{known_bytes}
-use Rattle.sedck_answer.specs.declared.status.Status.{Status}
 use Rattle.sedck_explanation.proofs.KnownBytes.{file_bytes}
-use Rattle.sedck_calls_in_files.specs.Scanned.{Holds, TextStatus, PathStatus}
-use Rattle.sedck_calls_in_files.specs.Private.Contents.{IsContents, IsHeldAt, ContentsStatus}
+use Rattle.sedck_calls_in_files.specs.Scanned.{Holds}
+use Rattle.sedck_calls_in_files.specs.Private.Contents.{IsContents}
 use Rattle.sedck_calls_in_files.specs.declared.reading.Contents.{Contents}
 use Rattle.sedck_calls_in_files.specs.declared.reading.Contents.TheVariants.{Text, Other, TooLong, Unopened, Unreadable}
 

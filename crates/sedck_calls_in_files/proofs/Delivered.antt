@@ -1,13 +1,10 @@
 -- What is written of an explanation in one way or another.
-use Rattle.std.proofs.Common.{◌≡◌, ◌∙◌, ℕ, List, Option, Some, None, Result, Ok, Err, IfOk, IfSome, OnOk}
+use Rattle.sedck_calls_in_files.proofs.Common.{◌≡◌, ◌∙◌, ℕ, List, Option, Some, None, Result, Ok, Err, IfOk, IfSome, true≢false, Explanation, Status, Accepted, Output, IsPlainReport}
+use Rattle.std.proofs.Common.{OnOk}
 use Rattle.std.specs.Prelude.{is_some}
 use Rattle.std.specs.Io.KnownBytes.{Keeps, Appends}
-use Rattle.std.proofs.lemmas.Bool.{true≢false, false≢true}
+use Rattle.std.proofs.lemmas.Bool.{false≢true}
 use Rattle.sedck_plain.specs.declared.layout.Comments.{Comments}
-use Rattle.sedck_answer.specs.declared.explanation.Explanation.{Explanation}
-use Rattle.sedck_answer.specs.declared.status.Status.{Status}
-use Rattle.sedck_answer.specs.declared.status.Status.TheVariants.{Accepted}
-use Rattle.sedck_formats.specs.Plain.{Output, IsPlainReport}
 use Rattle.sedck_formats.proofs.PlainReports.{plain_output, same_report}
 use Rattle.sedck_calls_in_files.specs.Delivered.{IsDelivered}
 

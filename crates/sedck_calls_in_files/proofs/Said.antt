@@ -1,7 +1,5 @@
 -- What is said of a call stays where answer, script and files do.
-use Rattle.std.proofs.Common.{◌∙◌}
-use Rattle.sedck_answer.specs.declared.explanation.Explanation.{Explanation}
-use Rattle.sedck_calls_in_files.specs.Judged.{Agrees}
+use Rattle.sedck_calls_in_files.proofs.Common.{◌∙◌, Explanation, Agrees}
 
 pub agrees_on : (one two three : Explanation) → Agrees one two → Agrees two three → Agrees one three
 agrees_on one two three first second = record {

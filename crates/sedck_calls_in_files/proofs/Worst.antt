@@ -1,14 +1,6 @@
 -- The status that tells most, a call after the other.
-use Rattle.std.proofs.Common.{◌<◌, ◌+◌, ℕ, List, [], ◌∷◌, ◌++◌, map, length, get_or, take, sym, ap, subst}
+use Rattle.sedck_calls_in_files.proofs.Common.{◌<◌, ◌+◌, ℕ, List, [], ◌∷◌, ◌++◌, map, length, get_or, take, sym, ap, subst, Denied, worse, Status, Accepted, Explanation, FoundCall, IsSaidOfFound, IsWorst, IsWorstOf}
 use Rattle.std.proofs.lemmas.List.{take_more, map-append}
-use Rattle.sedck_errors.specs.declared.denied.Denied.{Denied}
-use Rattle.sedck_answer.specs.Status.{worse}
-use Rattle.sedck_answer.specs.declared.status.Status.{Status}
-use Rattle.sedck_answer.specs.declared.status.Status.TheVariants.{Accepted}
-use Rattle.sedck_answer.specs.declared.explanation.Explanation.{Explanation}
-use Rattle.sedck_find.specs.declared.found.FoundCall.{FoundCall}
-use Rattle.sedck_calls_in_files.specs.Judged.{IsSaidOfFound}
-use Rattle.sedck_calls_in_files.specs.Scanned.{IsWorst, IsWorstOf}
 
 -- one call more
 worst_snoc : (file : List ℕ) (denied : Denied) (known : Status) (calls : List FoundCall) (found : FoundCall) (status : Status) (e : Explanation)

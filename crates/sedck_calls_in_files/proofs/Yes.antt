@@ -1,22 +1,17 @@
 -- What a yes says of a call.
-use Rattle.std.proofs.Common.{◌≡◌, ◌∙◌, ◌⊎◌, inl, inr, ℕ, Bool, true, false, MatchBool, List, [], ◌∷◌, None, refl, sym, ap}
-use Rattle.std.proofs.lemmas.Bool.{true≢false}
-use Rattle.sedck_call.specs.Calls.{IsCall}
+use Rattle.sedck_calls_in_files.proofs.Common.{◌≡◌, ◌∙◌, inl, inr, ℕ, Bool, true, false, List, [], ◌∷◌, None, refl, sym, ap, true≢false, IsCall, IsCalled, Denied, Status, Explanation, FoundCall, words_of, is_open, status_with, IsJudged, IsSaidOfCall, IsSaidOfText, IsSaidOf, IsSaidOfFound, IsAcceptedFound, denied_of, has_set}
+use Rattle.std.proofs.Common.{◌⊎◌, MatchBool}
 use Rattle.sedck_call.specs.declared.call.Call.{Call}
-use Rattle.sedck_explanation.specs.Called.{has_foreign, is_denied_call, IsDenied, IsCalled}
-use Rattle.sedck_errors.specs.declared.denied.Denied.{Denied}
+use Rattle.sedck_explanation.specs.Called.{has_foreign, is_denied_call, IsDenied}
 use Rattle.sedck_explanation.specs.Explanations.{IsExplanation}
 use Rattle.sedck_answer.specs.Status.{is_accepted}
-use Rattle.sedck_answer.specs.declared.status.Status.{Status}
-use Rattle.sedck_answer.specs.declared.explanation.Explanation.{Explanation}
 use Rattle.sedck_answer.specs.declared.status.Status.TheVariants as exit
-use Rattle.sedck_find.specs.declared.found.FoundCall.{FoundCall}
 use Rattle.sedck_find.specs.declared.found.FoundScript.{FoundScript}
 use Rattle.sedck_find.specs.declared.found.OpenHole.{OpenHole}
 use Rattle.sedck_find.specs.declared.found.FoundScript.TheVariants.{Text, Foreign, Refused, Unknown}
 use Rattle.sedck_origin.specs.Traced.{has_hole}
 use Rattle.sedck_origin.specs.declared.origin.Traced.{Traced}
-use Rattle.sedck_calls_in_files.specs.Judged.{words_of, is_in_file, is_open, status_with, IsUnjudged, IsJudged, IsSaidOfCall, IsSaidOfText, IsSaidOf, IsSaidOfFound, IsAcceptedText, IsAcceptedScript, IsAcceptedFound, denied_of, has_set}
+use Rattle.sedck_calls_in_files.specs.Judged.{is_in_file, IsUnjudged, IsAcceptedText, IsAcceptedScript}
 
 by_test : (b : Bool) (A B : Type 0) → MatchBool b A B → ((b ≡ true) × A) ⊎ ((b ≡ false) × B)
 by_test true A B holds = inl (refl, holds)

@@ -1,6 +1,5 @@
-use Rattle.std.proofs.Common.{◌≡◌, IfSome, sym, subst}
+use Rattle.sedck_calls_in_files.proofs.Common.{◌≡◌, IfSome, sym, subst, Output, IsPlainReport}
 use Rattle.std.proofs.KnownBytes.{Keeps-refl}
-use Rattle.sedck_formats.specs.Plain.{Output, IsPlainReport}
 use Rattle.sedck_calls_in_files.proofs.Delivered.{as_report, as_script}
 use Rattle.sedck_calls_in_files.proofs.delivery.deliver.Goals as goal
 

@@ -1,7 +1,4 @@
-use Rattle.std.proofs.Common.{sym, subst, take, ◌+◌}
-use Rattle.sedck_answer.specs.Status.{worse}
-use Rattle.sedck_calls_in_files.specs.Judged.{IsSaidOfFound}
-use Rattle.sedck_calls_in_files.specs.Scanned.{IsWorst}
+use Rattle.sedck_calls_in_files.proofs.Common.{sym, subst, take, ◌+◌, worse, IsSaidOfFound, IsWorst}
 use Rattle.sedck_calls_in_files.proofs.Worst.{next_worst}
 use Rattle.sedck_calls_in_files.proofs.file.explain_calls.Goals as goal
 

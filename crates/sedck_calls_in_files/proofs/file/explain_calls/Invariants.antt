@@ -1,6 +1,4 @@
-use Rattle.std.proofs.Common.{◌≡◌, take}
-use Rattle.sedck_report.specs.Positions.{position_in}
-use Rattle.sedck_calls_in_files.specs.Scanned.{IsWorst}
+use Rattle.sedck_calls_in_files.proofs.Common.{◌≡◌, take, position_in, IsWorst}
 use Rattle.sedck_calls_in_files.proofs.file.explain_calls.Given as goal
 
 -- the status so far, at a position of the text

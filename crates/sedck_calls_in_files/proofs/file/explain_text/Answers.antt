@@ -1,6 +1,5 @@
-use Rattle.std.proofs.Common.{◌≡◌, ◌∙◌, ap, subst}
-use Rattle.sedck_explanation.proofs.Answering.{on_ok}
-use Rattle.sedck_calls_in_files.specs.Scanned.{IsWorst, TextStatus, unread_status}
+use Rattle.sedck_calls_in_files.proofs.Common.{◌≡◌, ◌∙◌, ap, subst, on_ok, IsWorst, TextStatus}
+use Rattle.sedck_calls_in_files.specs.Scanned.{unread_status}
 use Rattle.sedck_calls_in_files.proofs.file.explain_text.Goals as goal
 
 pub returns : goal.returns

@@ -1,5 +1,4 @@
-use Rattle.std.proofs.Common.{◌≡◌, All}
-use Rattle.sedck_calls_in_files.specs.Placed.{IsFindingIn}
+use Rattle.sedck_calls_in_files.proofs.Common.{◌≡◌, All, IsFindingIn}
 use Rattle.sedck_calls_in_files.proofs.holes.open_warnings.Given as goal
 
 abbrev pub invariant-loop-hole : goal.invariant-loop-hole

@@ -1,4 +1,4 @@
-use Rattle.std.proofs.Common.{◌≤◌}
+use Rattle.sedck_calls_in_files.proofs.Common.{◌≤◌}
 use Rattle.sedck_calls_in_files.proofs.judging.error_count.Given as goal
 
 abbrev pub invariant-loop-finding : goal.invariant-loop-finding

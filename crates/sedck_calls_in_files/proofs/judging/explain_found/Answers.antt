@@ -1,6 +1,4 @@
-use Rattle.std.proofs.Common.{◌≡◌, IfOk, subst}
-use Rattle.sedck_answer.specs.declared.status.Status.TheVariants.{Accepted}
-use Rattle.sedck_calls_in_files.specs.Judged.{Agrees, IsSaidOf, IsSaidOfFound, IsAcceptedFound, denied_of, status_with, has_set}
+use Rattle.sedck_calls_in_files.proofs.Common.{◌≡◌, IfOk, subst, Accepted, Agrees, IsSaidOf, IsSaidOfFound, IsAcceptedFound, denied_of, status_with, has_set}
 use Rattle.sedck_calls_in_files.proofs.Lists.{if_ok_both}
 use Rattle.sedck_calls_in_files.proofs.Yes.{yes_of_found}
 use Rattle.sedck_calls_in_files.proofs.judging.explain_found.Goals as goal

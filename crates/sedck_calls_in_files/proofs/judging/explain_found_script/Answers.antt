@@ -1,5 +1,4 @@
-use Rattle.std.proofs.Common.{IfOk, sym, subst}
-use Rattle.sedck_calls_in_files.specs.Judged.{IsSaidOf, IsSaidOfText}
+use Rattle.sedck_calls_in_files.proofs.Common.{IfOk, sym, subst, IsSaidOf, IsSaidOfText}
 use Rattle.sedck_calls_in_files.proofs.judging.explain_found_script.Goals as goal
 
 pub returns-in-Text-clause-said : goal.returns-in-Text-clause-said

@@ -1,6 +1,4 @@
-use Rattle.std.proofs.Common.{◌∙◌, inl, ℕ, List, map, ap, subst}
-use Rattle.sedck_call.specs.Calls.{IsCall}
-use Rattle.sedck_calls_in_files.specs.Judged.{words_of, IsSaidOfCall, IsSaidOfText}
+use Rattle.sedck_calls_in_files.proofs.Common.{◌∙◌, inl, ℕ, List, map, ap, subst, IsCall, words_of, IsSaidOfCall, IsSaidOfText}
 use Rattle.sedck_calls_in_files.proofs.Lists.{if_ok_both}
 use Rattle.sedck_calls_in_files.proofs.judging.explain_words.Goals as goal
 

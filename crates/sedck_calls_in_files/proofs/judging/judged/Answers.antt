@@ -1,6 +1,4 @@
-use Rattle.std.proofs.Common.{◌≡◌, ◌∙◌, true, false, ap, subst, sym}
-use Rattle.sedck_explanation.specs.Called.{IsCalled}
-use Rattle.sedck_calls_in_files.specs.Judged.{Agrees, IsJudged, is_open, status_with}
+use Rattle.sedck_calls_in_files.proofs.Common.{◌≡◌, ◌∙◌, true, false, ap, subst, sym, IsCalled, Agrees, IsJudged, is_open, status_with}
 use Rattle.sedck_calls_in_files.proofs.Lists.{if_ok_both}
 use Rattle.sedck_calls_in_files.proofs.Said.{agrees_on}
 use Rattle.sedck_calls_in_files.proofs.judging.judged.Goals as goal

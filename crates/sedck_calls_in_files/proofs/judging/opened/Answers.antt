@@ -1,5 +1,4 @@
-use Rattle.std.proofs.Common.{◌≡◌, ◌∙◌, ◌++◌, ap}
-use Rattle.sedck_calls_in_files.specs.Placed.{IsFindingIn}
+use Rattle.sedck_calls_in_files.proofs.Common.{◌≡◌, ◌∙◌, ◌++◌, ap, IsFindingIn}
 use Rattle.sedck_calls_in_files.proofs.Lists.{all_between}
 use Rattle.sedck_calls_in_files.proofs.judging.opened.Goals as goal
 use Rattle.sedck_calls_in_files.proofs.judging.opened.Goals.{then-is_accepted, else-is_accepted}

@@ -1,6 +1,4 @@
-use Rattle.std.proofs.Common.{All, sym, subst}
-use Rattle.std.proofs.lemmas.List.Elements.{All-push, All-append}
-use Rattle.sedck_calls_in_files.specs.Placed.{IsFindingIn}
+use Rattle.sedck_calls_in_files.proofs.Common.{All, sym, subst, All-push, All-append, IsFindingIn}
 use Rattle.sedck_calls_in_files.proofs.judging.with_values.Goals.{in-Some+in_ok-warning+in_ok-push, in_default}
 use Rattle.sedck_calls_in_files.proofs.judging.with_values.Goals as goal
 

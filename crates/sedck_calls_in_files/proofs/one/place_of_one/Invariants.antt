@@ -1,5 +1,4 @@
-use Rattle.std.proofs.Common.{◌≡◌}
-use Rattle.sedck_report.specs.Positions.{position_in}
+use Rattle.sedck_calls_in_files.proofs.Common.{◌≡◌, position_in}
 use Rattle.sedck_calls_in_files.proofs.one.place_of_one.Given as goal
 
 -- a position of the text

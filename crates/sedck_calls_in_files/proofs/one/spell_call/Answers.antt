@@ -1,6 +1,4 @@
-use Rattle.std.proofs.Common.{◌≡◌, IfSome, subst, sym}
-use Rattle.sedck_explanation.specs.Called.{known_bytes}
-use Rattle.sedck_calls_in_files.specs.Private.Contents.{IsHeldAt}
+use Rattle.sedck_calls_in_files.proofs.Common.{◌≡◌, IfSome, subst, sym, known_bytes, IsHeldAt}
 use Rattle.sedck_calls_in_files.proofs.one.spell_call.Goals as goal
 
 pub returns-in-Text-clause-spelled : goal.returns-in-Text-clause-spelled

@@ -1,4 +1,4 @@
-use Rattle.std.proofs.Common.{refl, inr}
+use Rattle.sedck_calls_in_files.proofs.Common.{refl, inr}
 use Rattle.sedck_calls_in_files.proofs.one.spell_one.Goals as goal
 
 pub returns-in-Ok-deliver-clause-spelled : goal.returns-in-Ok-deliver-clause-spelled

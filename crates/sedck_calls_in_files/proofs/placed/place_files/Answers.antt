@@ -1,4 +1,4 @@
-use Rattle.std.proofs.Common.{◌∙◌, get_or, refl}
+use Rattle.sedck_calls_in_files.proofs.Common.{◌∙◌, get_or, refl}
 use Rattle.std.proofs.Math.Seq.{map-set_same}
 use Rattle.sedck_report.specs.declared.finding.NamedFile.{NamedFile}
 use Rattle.sedck_calls_in_files.proofs.placed.place_files.Goals as goal

@@ -1,4 +1,4 @@
-use Rattle.std.proofs.Common.{◌≡◌}
+use Rattle.sedck_calls_in_files.proofs.Common.{◌≡◌}
 use Rattle.sedck_report.specs.Files.{names_of}
 use Rattle.sedck_calls_in_files.proofs.placed.place_files.Given as goal
 

@@ -1,5 +1,4 @@
-use Rattle.std.proofs.Common.{◌∙◌, subst, arith}
-use Rattle.sedck_calls_in_files.specs.Placed.{IsFindingIn}
+use Rattle.sedck_calls_in_files.proofs.Common.{◌∙◌, subst, arith, IsFindingIn}
 use Rattle.sedck_calls_in_files.proofs.Lists.{all_more_set}
 use Rattle.sedck_calls_in_files.proofs.placed.place_findings.Goals as goal
 

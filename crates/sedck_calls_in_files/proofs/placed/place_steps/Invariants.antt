@@ -1,5 +1,4 @@
-use Rattle.std.proofs.Common.{◌≡◌, All, take}
-use Rattle.sedck_calls_in_files.specs.Placed.{IsSomeIn}
+use Rattle.sedck_calls_in_files.proofs.Common.{◌≡◌, All, take, IsSomeIn}
 use Rattle.sedck_calls_in_files.proofs.placed.place_steps.Given as goal
 
 -- those so far

@@ -1,4 +1,4 @@
-use Rattle.std.proofs.Common.{◌≤◌, length, arith}
+use Rattle.sedck_calls_in_files.proofs.Common.{◌≤◌, length, arith}
 use Rattle.std.proofs.lemmas.Grind.{common_steps}
 use Rattle.sedck_calls_in_files.proofs.Contents.{text_read}
 use Rattle.sedck_calls_in_files.proofs.reading.contents_of.Goals as goal

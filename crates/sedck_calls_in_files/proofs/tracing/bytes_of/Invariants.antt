@@ -1,5 +1,4 @@
-use Rattle.std.proofs.Common.{◌≡◌, map, take}
-use Rattle.sedck_calls_in_files.specs.Judged.{words_of}
+use Rattle.sedck_calls_in_files.proofs.Common.{◌≡◌, map, take, words_of}
 use Rattle.sedck_calls_in_files.proofs.tracing.bytes_of.Given as goal
 
 -- those so far

@@ -1,4 +1,4 @@
-use Rattle.std.proofs.Common.{◌≡◌, map, take}
+use Rattle.sedck_calls_in_files.proofs.Common.{◌≡◌, map, take}
 use Rattle.sedck_calls_in_files.specs.Judged.{piece_text}
 use Rattle.sedck_calls_in_files.proofs.tracing.parts_of.Given as goal
 

@@ -1,4 +1,4 @@
-use Rattle.std.proofs.Common.{◌≡◌, take, map}
+use Rattle.sedck_calls_in_files.proofs.Common.{◌≡◌, take, map}
 use Rattle.sedck_calls_in_files.proofs.tracing.slices_of.Given as goal
 
 -- the words so far

@@ -1,5 +1,4 @@
-use Rattle.std.proofs.Common.{◌∙◌, sym}
-use Rattle.sedck_explanation.proofs.Answering.{on_ok}
+use Rattle.sedck_calls_in_files.proofs.Common.{◌∙◌, sym, on_ok}
 use Rattle.sedck_calls_in_files.proofs.Contents.{held_input, held_file}
 use Rattle.sedck_calls_in_files.proofs.walk.contents_at.Goals as goal
 

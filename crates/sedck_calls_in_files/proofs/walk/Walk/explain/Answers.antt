@@ -1,6 +1,4 @@
-use Rattle.std.proofs.Common.{IfOk, sym, subst}
-use Rattle.sedck_calls_in_files.specs.Scanned.{TextStatus}
-use Rattle.sedck_calls_in_files.specs.Private.Contents.{ContentsStatus}
+use Rattle.sedck_calls_in_files.proofs.Common.{IfOk, sym, subst, TextStatus, ContentsStatus}
 use Rattle.sedck_calls_in_files.proofs.walk.Walk.explain.Goals as goal
 
 pub returns-in-Text : goal.returns-in-Text

@@ -1,7 +1,4 @@
-use Rattle.std.proofs.Common.{◌+◌, map, take, sym, subst}
-use Rattle.sedck_answer.specs.Status.{worse}
-use Rattle.sedck_answer.specs.declared.status.Status.TheVariants.{Accepted}
-use Rattle.sedck_calls_in_files.specs.Scanned.{PathStatus, IsWorstOf}
+use Rattle.sedck_calls_in_files.proofs.Common.{◌+◌, map, take, sym, subst, worse, Accepted, PathStatus, IsWorstOf}
 use Rattle.sedck_calls_in_files.proofs.Worst.{next_path}
 use Rattle.sedck_calls_in_files.proofs.walk.Walk.visit_all.Goals as goal
 

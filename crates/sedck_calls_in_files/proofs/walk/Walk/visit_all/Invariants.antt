@@ -1,6 +1,4 @@
-use Rattle.std.proofs.Common.{map, take}
-use Rattle.sedck_answer.specs.declared.status.Status.TheVariants.{Accepted}
-use Rattle.sedck_calls_in_files.specs.Scanned.{PathStatus, IsWorstOf}
+use Rattle.sedck_calls_in_files.proofs.Common.{map, take, Accepted, PathStatus, IsWorstOf}
 use Rattle.sedck_calls_in_files.proofs.walk.Walk.visit_all.Given as goal
 
 -- the status of the paths so far

@@ -1,4 +1,4 @@
-use Rattle.sedck_explanation.proofs.Answering.{on_ok}
+use Rattle.sedck_calls_in_files.proofs.Common.{on_ok}
 use Rattle.sedck_calls_in_files.proofs.Contents.{held_status}
 use Rattle.sedck_calls_in_files.proofs.walk.Walk.visit_path.Goals as goal
 
