@@ -1,11 +1,9 @@
 -- Findings that are added.
-use Rattle.std.proofs.Common.{◌≡◌, ◌∙◌, ◌||◌, ◌&&◌, Bool, true, false, List, [], ◌∷◌, ◌++◌, Option, Result, Ok, Err, OnOk, refl, sym, ap, subst}
-use Rattle.std.proofs.lemmas.List.Folds.{list_any-append}
-use Rattle.sedck_report.specs.Levels.{is_error, has_error, is_warning, warns_of, is_locale, has_locale, BeginsWithError}
+use Rattle.sedck_advice.proofs.Common.{◌≡◌, ◌∙◌, ◌||◌, ◌&&◌, Bool, true, false, List, [], ◌∷◌, ◌++◌, Option, refl, sym, ap, subst, list_any-append, is_error, is_warning, is_locale, has_locale, Finding, AddsNoError, AddsOthers}
+use Rattle.std.proofs.Common.{Result, Ok, Err, OnOk}
+use Rattle.sedck_report.specs.Levels.{has_error, warns_of, BeginsWithError}
 use Rattle.sedck_report.specs.declared.code.Code.{Code}
-use Rattle.sedck_report.specs.declared.finding.Finding.{Finding}
 use Rattle.sedck_report.specs.declared.places.Position.{Position}
-use Rattle.sedck_advice.specs.Added.{AddsNoError, AddsOthers}
 
 begins-append : (position : Option Position) (old more : List Finding) → BeginsWithError position old → BeginsWithError position (old ++ more)
 begins-append position [] more begins = absurd begins

@@ -1,2 +1,3 @@
+mod Common
 pub mod Added
 pub mod WeightLemmas

@@ -1,21 +1,14 @@
 -- What is known of expressions with one item or one command more, and warnings that are added.
-use Rattle.std.proofs.Common.{◌≡◌, Option, Some, None, ◌∙◌, ◌||◌, ◌&&◌, ℕ, ◌+◌, ◌<◌, min, Bool, true, false, List, [], ◌∷◌, ◌++◌, map, refl, sym, ap, subst, arith}
+use Rattle.sedck_advice.proofs.Common.{◌≡◌, Option, ◌∙◌, ◌||◌, ◌&&◌, ◌+◌, min, Bool, true, false, List, [], ◌∷◌, ◌++◌, map, refl, sym, ap, subst, list_any, list_any-append, trees, cap, tree, capped_sum, is_warning, is_locale, has_locale, Finding, written_out, all_written_out, copies, WeighsAll}
+use Rattle.std.proofs.Common.{Some, None, ℕ, ◌<◌, arith}
 use Rattle.std.specs.Prelude.{sum_by}
-use Rattle.std.specs.List.{list_any}
 use Rattle.std.proofs.Math.Bool.{or-true, or-false}
-use Rattle.std.proofs.lemmas.List.Folds.{list_any-append}
 use Rattle.std.proofs.lemmas.List.Sums.{sum_by_push}
-use Rattle.sedck_bre.specs.Tree.{trees}
-use Rattle.sedck_bre.specs.Lengths.{cap}
-use Rattle.sedck_bre.specs.View.{tree}
 use Rattle.sedck_expressions.specs.declared.tree.Bre.{Bre}
-use Rattle.sedck_bre.proofs.CappedSums.{capped_sum}
-use Rattle.sedck_report.specs.Levels.{is_warning, is_locale, has_locale}
-use Rattle.sedck_report.specs.declared.finding.Finding.{Finding}
 use Rattle.sedck_script.specs.Program.{Command}
 use Rattle.sedck_script.specs.ByteSafe.{command_expressions}
-use Rattle.sedck_advice.specs.Slow.{repeats_reference, written_out, all_written_out, copies}
-use Rattle.sedck_advice.specs.Private.Weights.{Weighs, WeighsAll}
+use Rattle.sedck_advice.specs.Slow.{repeats_reference}
+use Rattle.sedck_advice.specs.Private.Weights.{Weighs}
 use Rattle.sedck_advice.specs.declared.weights.Weight.{Weight}
 
 -- ---- Items that are written out

@@ -1,5 +1,4 @@
-use Rattle.std.proofs.Common.{ap}
-use Rattle.sedck_report.specs.Levels.{is_error, is_locale}
+use Rattle.sedck_advice.proofs.Common.{ap, is_error, is_locale}
 use Rattle.sedck_advice.proofs.Added.{others_push}
 use Rattle.sedck_advice.proofs.ignored.push_unknown.Goals as goal
 

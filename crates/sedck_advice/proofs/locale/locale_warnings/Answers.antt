@@ -1,10 +1,6 @@
-use Rattle.std.proofs.Common.{◌∙◌, ◌+◌, ◌∷◌, Bool, List, drop, map, sym, ap}
-use Rattle.std.specs.List.{list_any}
+use Rattle.sedck_advice.proofs.Common.{◌∙◌, ◌+◌, ◌∷◌, Bool, List, drop, map, sym, ap, list_any, command_of, depends_on_characters, has_locale}
 use Rattle.std.proofs.lemmas.List.{at_drop_more}
-use Rattle.sedck_script.specs.View.{command_of}
 use Rattle.sedck_script.specs.declared.script.Command.{Command as Coded}
-use Rattle.sedck_script.specs.ByteSafe.{depends_on_characters}
-use Rattle.sedck_report.specs.Levels.{has_locale}
 use Rattle.sedck_advice.proofs.Added.{no_error_trans}
 use Rattle.sedck_advice.proofs.WeightLemmas.{with_warning, without_warning}
 use Rattle.sedck_advice.proofs.locale.locale_warnings.Goals.{then-depends_on_characters+in_ok-push_locale, else-depends_on_characters}

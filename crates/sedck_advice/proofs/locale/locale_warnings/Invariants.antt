@@ -1,9 +1,4 @@
-use Rattle.std.proofs.Common.{◌≡◌, ◌||◌, drop, map}
-use Rattle.std.specs.List.{list_any}
-use Rattle.sedck_script.specs.View.{command_of}
-use Rattle.sedck_advice.specs.Added.{AddsNoError}
-use Rattle.sedck_script.specs.ByteSafe.{depends_on_characters}
-use Rattle.sedck_report.specs.Levels.{has_locale}
+use Rattle.sedck_advice.proofs.Common.{◌≡◌, ◌||◌, drop, map, list_any, command_of, AddsNoError, depends_on_characters, has_locale}
 use Rattle.sedck_advice.proofs.locale.locale_warnings.Given as goal
 
 -- what is warned of, with the commands that are left

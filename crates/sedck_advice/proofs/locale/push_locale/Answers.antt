@@ -1,5 +1,4 @@
-use Rattle.std.proofs.Common.{◌≡◌, ◌&&◌, true, refl, ap}
-use Rattle.sedck_report.specs.Levels.{is_error, is_warning, is_locale}
+use Rattle.sedck_advice.proofs.Common.{◌≡◌, ◌&&◌, true, refl, ap, is_error, is_warning, is_locale}
 use Rattle.sedck_advice.proofs.Added.{no_error_push}
 use Rattle.sedck_advice.proofs.WeightLemmas.{locale_push}
 use Rattle.sedck_advice.proofs.locale.push_locale.Goals as goal

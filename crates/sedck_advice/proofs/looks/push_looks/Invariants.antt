@@ -1,4 +1,4 @@
-use Rattle.sedck_advice.specs.Added.{AddsOthers}
+use Rattle.sedck_advice.proofs.Common.{AddsOthers}
 use Rattle.sedck_advice.proofs.looks.push_looks.Given as goal
 
 abbrev pub invariant-loop-look : goal.invariant-loop-look

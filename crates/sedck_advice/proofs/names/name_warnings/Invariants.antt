@@ -1,4 +1,4 @@
-use Rattle.sedck_advice.specs.Added.{AddsOthers}
+use Rattle.sedck_advice.proofs.Common.{AddsOthers}
 use Rattle.sedck_advice.proofs.names.name_warnings.Given as goal
 
 abbrev pub invariant-loop-doubt : goal.invariant-loop-doubt

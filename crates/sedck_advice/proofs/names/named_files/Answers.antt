@@ -1,4 +1,4 @@
-use Rattle.std.proofs.Common.{◌∙◌, ap}
+use Rattle.sedck_advice.proofs.Common.{◌∙◌, ap}
 use Rattle.std.proofs.Math.Seq.{map-set_same}
 use Rattle.sedck_advice.proofs.names.named_files.Goals as goal
 

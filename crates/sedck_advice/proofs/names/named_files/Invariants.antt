@@ -1,5 +1,4 @@
-use Rattle.std.proofs.Common.{◌≡◌, map}
-use Rattle.sedck_report.specs.Files.{names_of}
+use Rattle.sedck_advice.proofs.Common.{◌≡◌, map, names_of}
 use Rattle.sedck_advice.proofs.names.named_files.Given as goal
 
 abbrev pub invariant-loop-command : goal.invariant-loop-command

@@ -1,5 +1,4 @@
-use Rattle.std.proofs.Common.{◌≡◌, map, take}
-use Rattle.sedck_report.specs.Files.{names_of}
+use Rattle.sedck_advice.proofs.Common.{◌≡◌, map, take, names_of}
 use Rattle.sedck_advice.proofs.names.unplaced_files.Given as goal
 
 abbrev pub invariant-loop-name : goal.invariant-loop-name

@@ -1,6 +1,4 @@
-use Rattle.std.proofs.Common.{◌≡◌, ◌||◌, drop, map}
-use Rattle.std.specs.List.{list_any}
-use Rattle.sedck_script.specs.View.{command_of}
+use Rattle.sedck_advice.proofs.Common.{◌≡◌, ◌||◌, drop, map, list_any, command_of}
 use Rattle.sedck_report.specs.Files.{is_there}
 use Rattle.sedck_advice.specs.References.{refers}
 use Rattle.sedck_advice.proofs.references.references_in.Given as goal

@@ -1,6 +1,4 @@
-use Rattle.std.proofs.Common.{◌≡◌, drop, map}
-use Rattle.sedck_bre.specs.Tree.{trees}
-use Rattle.sedck_bre.specs.View.{tree}
+use Rattle.sedck_advice.proofs.Common.{◌≡◌, drop, map, trees, tree}
 use Rattle.sedck_script.specs.ByteSafe.{one_splits}
 use Rattle.sedck_advice.proofs.weights.+bytes.Given as goal
 

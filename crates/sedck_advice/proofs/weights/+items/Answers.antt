@@ -1,11 +1,8 @@
-use Rattle.std.proofs.Common.{◌≡◌, ◌∙◌, ◌+◌, ◌||◌, ◌++◌, ◌∷◌, [], min, map, nat_lt, take, refl, sym, ap}
+use Rattle.sedck_advice.proofs.Common.{◌≡◌, ◌∙◌, ◌+◌, ◌||◌, ◌++◌, ◌∷◌, [], min, map, take, refl, sym, ap, trees, cap, tree, capped_sum, copies, written_out, all_written_out}
+use Rattle.std.proofs.Common.{nat_lt}
 use Rattle.std.proofs.lemmas.List.{take_more}
-use Rattle.sedck_bre.specs.Tree.{trees}
-use Rattle.sedck_bre.specs.Lengths.{cap}
-use Rattle.sedck_bre.specs.View.{tree}
-use Rattle.sedck_bre.proofs.CappedSums.{capped_sum, capped_times}
+use Rattle.sedck_bre.proofs.CappedSums.{capped_times}
 use Rattle.sedck_expressions.proofs.ViewLemmas.{tree-Repeat}
-use Rattle.sedck_advice.specs.Slow.{copies, written_out, all_written_out}
 use Rattle.sedck_advice.proofs.WeightLemmas.{written_out-push, copies_positive}
 use Rattle.sedck_advice.proofs.weights.+items.Goals.{written_out-then-is_inside, written_out-else-is_inside}
 use Rattle.sedck_advice.proofs.weights.+items.Goals as goal

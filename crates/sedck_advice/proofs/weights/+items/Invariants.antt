@@ -1,8 +1,4 @@
-use Rattle.std.proofs.Common.{◌≡◌, min, take, map}
-use Rattle.sedck_bre.specs.Tree.{trees}
-use Rattle.sedck_bre.specs.Lengths.{cap}
-use Rattle.sedck_bre.specs.View.{tree}
-use Rattle.sedck_advice.specs.Slow.{all_written_out}
+use Rattle.sedck_advice.proofs.Common.{◌≡◌, min, take, map, trees, cap, tree, all_written_out}
 use Rattle.sedck_advice.proofs.weights.+items.Given as goal
 
 abbrev pub invariant-all_written_out-loop-item : goal.invariant-all_written_out-loop-item

@@ -1,6 +1,4 @@
-use Rattle.std.proofs.Common.{◌≡◌, drop, map}
-use Rattle.sedck_bre.specs.Tree.{trees}
-use Rattle.sedck_bre.specs.View.{tree}
+use Rattle.sedck_advice.proofs.Common.{◌≡◌, drop, map, trees, tree}
 use Rattle.sedck_advice.specs.References.{one_has_reference}
 use Rattle.sedck_advice.proofs.weights.+references.Given as goal
 

@@ -1,6 +1,5 @@
-use Rattle.std.proofs.Common.{◌∙◌, ◌++◌, ◌∷◌, [], map, take, sym, ap}
+use Rattle.sedck_advice.proofs.Common.{◌∙◌, ◌++◌, ◌∷◌, [], map, take, sym, ap, command_of}
 use Rattle.std.proofs.lemmas.List.{map_more}
-use Rattle.sedck_script.specs.View.{command_of}
 use Rattle.sedck_advice.proofs.WeightLemmas.{weighs_more}
 use Rattle.sedck_advice.proofs.weights.weight_of.Goals as goal
 
