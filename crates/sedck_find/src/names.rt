@@ -155,16 +155,27 @@ impl<'a> Names<'a> {
 
     /// That the hole is replaced by the value.
     pub fn followed(&self, hole: Hole, value: &Value) -> Followed {
-        let open = self.open.filter(|_| !value.is_given);
-        let line_of = |offset: usize| self.lines.partition_point(|start| *start <= offset);
         Followed {
             start: hole.start,
             end: hole.end,
-            value: value.source(line_of(value.start), self.is_make()),
+            value: value.source(self.line_of(value.start), self.is_make()),
             from: value.start,
             to: value.end,
-            open: open.map(line_of),
+            open: self.open_line(value),
         }
+    }
+
+    /// The line of the first command that may set variables which it doesn't name, unless the value was given with the call of this program.
+    fn open_line(&self, value: &Value) -> Option<usize> {
+        match self.open {
+            Some(offset) if !value.is_given => Some(self.line_of(offset)),
+            _ => None,
+        }
+    }
+
+    /// The number of the line that has the offset.
+    fn line_of(&self, offset: usize) -> usize {
+        self.lines.partition_point(|start| *start <= offset)
     }
 
     /// Puts values that are known into those which are built of them.

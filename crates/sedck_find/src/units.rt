@@ -72,12 +72,12 @@ pub(crate) fn lone_hole(units: &[Unit]) -> Option<Hole> {
 
 /// Whether a part of the units isn't known.
 pub(crate) fn has_hole(units: &[Unit]) -> bool {
-    units.iter().any(|unit| unit.byte().is_none())
+    known_part(units).len() < units.len()
 }
 
 /// Whether it isn't known how the units begin.
 pub(crate) fn begins_open(units: &[Unit]) -> bool {
-    units.first().is_some_and(|unit| unit.byte().is_none())
+    !units.is_empty() && byte_at(units, 0).is_none()
 }
 
 /// Whether the units begin with a hyphen, as options do.
