@@ -73,6 +73,7 @@ LOOPS = [
     ":a;s/x/&/;y/x/z/;ta\n", ":a;x;s/x/&/;ta\n", ":a;1!ba\n", ":a;1,/x/ba\n", ":a;/x/,/y/ba\n", "$!d;:a;s/b/c/;ta;ba\n", ":a;s/\\(a\\)*b*//;ta\n", ":a;s/x\\{0,3\\}/z/;ta\n",
     ":a;$!{n;ba};s/a/bb/;ba\n", ":a;N;$!ba;:c;s/a/b/;tc\n", ":a;s/^\\.*a*$/&/;ta\n", ":a;s/\\./../;ta\n", ":a;s/a\\.b/cd/;ta\n",
     ":a;s/b/c/;ta;ba\n", "/x/{;:a;s/b/c/;tc;ba;:c;/y/!ba;p;ba;}\nd\n", ":a;s/b/c/;ta;/x/ba\n", ":a;s/b/c/;tc;ba;:c;p\n", ":a;s/b/c/;ta;$d;ba\n",
+    "/a/!d\n:a\ns//&/\n/b/p\nta\n",
 ]
 
 

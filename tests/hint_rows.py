@@ -266,7 +266,7 @@ LOOPS = [
         "/q/b c\ns/^/-/\n:c\n" + "s/xy/zx/\n" * 40 + "t d\n:d\ns/b/!/\n", ("q xyyb\n", "xyxy\n", "qb\nb\n"), wrong=("/q/b\ns/^/-/\n" + "s/xy/zx/\n" * 40 + "s/b/!/\n",)),
     Row("folding", ":a\ns/^\\(.\\{10\\}\\)\\(.\\)/\\1\\n\\2/\nP\nD\n", "as docs/MENDING.md folds lines", "s/.\\{10\\}/&\\n/g\ns/\\n$//\n",
         ("abcdefghijklmno\n", "abcdefghij\n", "abcdefghijabcdefghijklm\na\n"), wrong=("s/.\\{10\\}/&\\n/g\n",)),
-    Row("folding with the whole match", "s/.\\{10\\}/&\\n/\nP\nD\n", "for `s/X/&\\n/`, `P` and `D` write `s/X/&\\n/g`", "s/.\\{10\\}/&\\n/g\n",
+    Row("folding with the whole match", "s/.\\{10\\}/&\\n/\nP\nD\n", "for `s/X/&\\n/`, `P` and `D`, where X begins with no `^`, write `s/X/&\\n/g`", "s/.\\{10\\}/&\\n/g\n",
         ("abcdefghijklmno\n", "abcdefghij\n", "abcdefghijabcdefghijklm\na\n"), wrong=("s/.\\{10\\}/&\\n/g\ns/\\n$//\n",)),
     Row("folding longer lines", "/.\\{11\\}/{\ns/.\\{10\\}/&\\n/\nP\nD\n}\n", "and then `s/\\n$//` if the end of a line isn't to be split",
         "/.\\{11\\}/{\ns/.\\{10\\}/&\\n/g\ns/\\n$//\n}\n", ("abcdefghijklmno\n", "abcdefghijabcdefghij\n", "abcdefghij\na\n"),

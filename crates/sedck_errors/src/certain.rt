@@ -111,7 +111,9 @@ fn is_certain(command: &Command, from: Node, to: Node, facts: Facts) -> bool {
         // Whether its flag is set is decided at the `s` of the loop.
         Verb::Test(_) => applied.is_some(),
         Verb::Substitute(substitution) => {
-            let succeeds = always_matches(substitution) || !facts.changes;
+            // An empty expression may stand for another one in each round.
+            let is_same = !facts.changes && matches!(substitution.pattern, Pattern::Expr(_));
+            let succeeds = always_matches(substitution) || is_same;
             !facts.tests || from.flag || (to.flag && applied == Some(true) && succeeds)
         }
         Verb::Next
