@@ -390,7 +390,7 @@ REFUSED_CERTIFICATES = [
 ]
 
 # a command; what it does, the name as it is shown, and the code and the reason of each warning
-STREAM = ("stream-name", "GNU sed reads it as a stream, other seds as a file")
+STREAM = ("stream-name", "GNU sed takes it for a stream, and other seds and `--posix` for a file")
 DEVICE = ("device-name", "it may not be a regular file, so reading or writing it may never end")
 ABSOLUTE = ("absolute-name", "it is an absolute path")
 UPWARD = ("upward-name", "it leads out of the directory where the script runs")
@@ -404,7 +404,8 @@ SHELL = ("shell-byte-in-name", "it has a byte to which a shell gives a meaning, 
 BOTH = ("read-and-written", "the script reads it too")
 SAME = ("same-file", "another name in the script leads to the same file, as `F` and `./F` do")
 WARNED = [
-    (b"r /dev/stdin", "reads", "/dev/stdin", [STREAM]),
+    (b"r /dev/stdin", "reads", "/dev/stdin", [DEVICE]),
+    (b"r /dev/stdout", "reads", "/dev/stdout", [DEVICE]),
     (b"w /dev/stdout", "writes", "/dev/stdout", [STREAM]),
     (b"\t$w /dev/stderr", "writes", "/dev/stderr", [STREAM]),
     (b"w /dev/tty", "writes", "/dev/tty", [DEVICE]),

@@ -220,7 +220,7 @@ COMMANDS = [
         wrong=("s/xy/y/\n",)),
     Row("W", "N\nW out\ns/a/b/\n", "for `W out` write `h`", "N\nh\ns/\\n.*//\nw out\ng\ns/a/b/\n", ("a\nb\n", "b\na\n", "x\n"), wrong=("N\ns/\\n.*//\nw out\ns/a/b/\n",)),
     Row("z", "/b/z\n", "for `z` write `s/.*//`", "/b/s/.*//\n", ("a\nb\n", "ab\n", "\n")),
-    Row("Q", "/c/Q\n", "for `/x/Q` write `/x/,$d`", "/c/,$d\n", ("a\nc\nb\n", "c\n", "a\n"), wrong=("/c/d\n", "/c/q\n")),
+    Row("Q", "/c/Q\n", "for `/x/Q` alone in a script write `/x/,$d`", "/c/,$d\n", ("a\nc\nb\n", "c\n", "a\n"), wrong=("/c/d\n", "/c/q\n")),
     Row("Q with a status", "/c/Q5\n", "`/x/,$d`; no command of POSIX gives an exit status", "/c/,$d\n", ("a\nc\nb\n", "c\n", "a\n"), wrong=("/c/d\n", "/c/q\n")),
     Row("Q with !", "/x/!Q\n", "for `/x/!Q`", "/x/!{\n:end\n$d\nN\ns/.*\\n//\nb end\n}\n", ("x\nx\nb\nx\n", "b\nx\n", "x\n"), wrong=("/x/,$d\n", "/x/!d\n")),
     Row("Q with ! and a status", "/x/!Q5\n", "the status is then 0", "/x/!{\n:end\n$d\nN\ns/.*\\n//\nb end\n}\n", ("x\nx\nb\nx\n", "b\nx\n", "x\n")),

@@ -29,7 +29,8 @@ pub(crate) static DOUBTS: &'static [Code] = &[
 /// Why such a name should be looked at twice.
 pub(crate) fn reason_of(code: Code) -> &'static str {
     match code {
-        Code::StreamName => "GNU sed reads it as a stream, other seds as a file",
+        Code::StreamName =>
+            "GNU sed takes it for a stream, and other seds and `--posix` for a file",
         Code::DeviceName => "it may not be a regular file, so reading or writing it may never end",
         Code::AbsoluteName => "it is an absolute path",
         Code::UpwardName => "it leads out of the directory where the script runs",
@@ -58,7 +59,7 @@ pub(crate) fn is_doubtful(code: Code, name: &[u8]) -> bool
 {
     match code {
         Code::StreamName => is_one_of(name, STREAMS),
-        Code::DeviceName => begins_with_one(name, DEVICE_FOLDERS) && !is_one_of(name, STREAMS),
+        Code::DeviceName => begins_with_one(name, DEVICE_FOLDERS),
         Code::AbsoluteName => name.starts_with(b"/") && !begins_with_one(name, DEVICE_FOLDERS),
         Code::UpwardName => leads_up(name),
         Code::UnprintableName => name.iter().any(|byte| !is_printable(*byte)),
@@ -72,7 +73,7 @@ pub(crate) fn is_doubtful(code: Code, name: &[u8]) -> bool
     }
 }
 
-/// Names that some seds read as streams.
+/// Names that some seds take for streams where they are written.
 static STREAMS: &'static [&'static str] = &["/dev/stdin", "/dev/stdout", "/dev/stderr"];
 
 /// Names of folders, which hide nothing.

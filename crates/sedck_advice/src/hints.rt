@@ -99,13 +99,14 @@ fn quit_hint(spot: Spot) -> &'static str {
         (true, _) =>
             "for `/x/!Q` write `/x/!{`, `:end`, `$d`, `N`, `s/.*\\n//`, `b end` and `}` on lines of their own",
         (_, true) if has_status =>
-            "for `/x/Q` write `/x/,$d`; for `Q` without an address, as in a block, write `:end`, `$d`, `N`, `s/.*\\n//` and `b end` on lines of their \
+            "for `/x/Q` alone in a script write `/x/,$d`; for `Q` without an address, as in a block, write `:end`, `$d`, `N`, `s/.*\\n//` and `b end` on lines of their \
                 own; the status is then 0, since no command of POSIX gives another one",
         (_, true) =>
-            "for `/x/Q` write `/x/,$d`; for `Q` without an address, as in a block, write `:end`, `$d`, `N`, `s/.*\\n//` and `b end` on lines of their own",
+            "for `/x/Q` alone in a script write `/x/,$d`; for `Q` without an address, as in a block, write `:end`, `$d`, `N`, `s/.*\\n//` \
+                and `b end` on lines of their own",
         _ if has_status =>
-            "for `/x/Q` write `/x/,$d`; no command of POSIX gives an exit status: look for the line outside the script, as with `grep`",
-        _ => "for `/x/Q` write `/x/,$d`",
+            "for `/x/Q` alone in a script write `/x/,$d`; no command of POSIX gives an exit status: look for the line outside the script, as with `grep`",
+        _ => "for `/x/Q` alone in a script write `/x/,$d`",
     }
 }
 
@@ -177,7 +178,7 @@ fn zero_hint(rest: &[u8]) -> Option<&'static str> {
     }
     if rest.starts_with(b"0r") {
         return Some(
-            "`0r` is an extension of GNU sed: put the file before the input, as in `cat FILE - | sed ..`",
+            "`0r` is an extension of GNU sed: put the file before the output, as in `sed .. | cat FILE -`",
         );
     }
     Some("lines are counted from 1")
@@ -211,7 +212,8 @@ fn following_hint(spot: Spot) -> &'static str {
         return "for `/x/,+0` write `/x/`";
     }
     match byte_at(from_verb(behind), 0) {
-        b'd' => "for `/x/,+2d` write `/x/{`, `$!N`, `$!N`, `d` and `}` on lines of their own",
+        b'd' =>
+            "for `/x/,+2d` alone in a script write `/x/{`, `$!N`, `$!N`, `d` and `}` on lines of their own",
         b'!' =>
             "for `/x/,+2!d` alone in a script write `/x/{`, `n`, `n`, `b`, `}` and `d` on lines of their own",
         _ =>

@@ -1,6 +1,6 @@
 //! Bracket lists and lists of `y` that are read as POSIX has them, and seldom mean that.
 
-use crate::bytes::{after_any, byte_at, has_one_of, is_among};
+use crate::bytes::{after_any, byte_at, has, has_one_of, is_among};
 use crate::looks::Look;
 use sedck_parts::{Expression, Place, Reading, expressions_in};
 use sedck_report::{Code, end_behind, position_at};
@@ -150,7 +150,12 @@ fn class_in(expression: Expression) -> Option<List> {
 /// Whether GNU sed refuses the list for its colons: one is first, one is last, and between are other bytes, but no range and no class.
 fn is_bare_class(list: &[u8]) -> bool {
     let name = colon_name(list).unwrap_or(&[]);
-    !after_any(name, ":").is_empty() && !has_one_of(name, "-[")
+    !after_any(name, ":").is_empty() && !has_one_of(name, "-") && !opens_symbol(name)
+}
+
+/// Whether a class or a symbol begins in the members of a list.
+fn opens_symbol(members: &[u8]) -> bool {
+    has(members, "[:") || has(members, "[.") || has(members, "[=")
 }
 
 /// What is between the colons of a list that begins and ends with one.

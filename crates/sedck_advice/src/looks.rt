@@ -7,6 +7,7 @@ ghost use Rattle.sedck_advice.specs.Added.{AddsOthers};
 use crate::bytes::{after_any, byte_at, ends_word, first_line, is_among, without_blanks};
 use crate::comments::silencing;
 use crate::extended::extended_in;
+use sedck_call::last_part;
 use sedck_parts::{Place, Reading};
 use sedck_report::{
     Code, Finding, Fix, Level, NewText, Position, end_behind, position_at, positions, skipped,
@@ -97,7 +98,7 @@ fn options_look(text: &[u8]) -> Look {
         position: start,
         end: Some(end_behind(text, start, text.len())),
         code: Code::OptionsInFirstLine,
-        message: "this line gives sed options other than -n and -f, and nothing is known of runs with them",
+        message: "this line gives sed options other than -n and -f, or a file after -f, and nothing is known of runs with them",
         hint: "with `-E` the expressions mean something else, `-i` writes files, `-s` and `-z` divide the input differently",
         fix: None,
     }
@@ -198,7 +199,7 @@ fn extended_look(position: Position) -> Look {
     }
 }
 
-/// Whether the first line calls sed with other options than `-n` and `-f`.
+/// Whether the first line calls sed with other options than `-n` and `-f`, or with a file after `-f`.
 fn has_options(text: &[u8]) -> bool {
     if !text.starts_with(b"#!") {
         return false;
@@ -208,14 +209,20 @@ fn has_options(text: &[u8]) -> bool {
         if is_behind && is_option(word) {
             return true;
         }
-        is_behind = is_behind || word.ends_with(b"sed");
+        is_behind = is_behind || is_sed(word);
     }
     false
 }
 
-/// Whether the word is an option other than `-n` and `-f`.
+/// Whether the word is the path of a sed, as `/usr/bin/gsed` and `/opt/sed-4.9` are.
+fn is_sed(word: &[u8]) -> bool {
+    word.ends_with(b"sed") || last_part(word).starts_with(b"sed")
+}
+
+/// Whether the word is an option other than `-n` and `-f`. What follows an `f` is the name of a file.
 fn is_option(word: &[u8]) -> bool {
-    word.starts_with(b"-") && !after_any(skipped(word, 1), "nf").is_empty()
+    let last = after_any(skipped(word, 1), "n");
+    word.starts_with(b"-") && !last.is_empty() && last != b"f".as_slice()
 }
 
 /// Where branches end in a `}` that some seds take for a part of the label.

@@ -113,6 +113,9 @@ fn push_doubts<'a>(
             Code::NamesItself => is_written && paths.is_own(name),
             Code::WritesItsInput => is_written && paths.is_input(alloc, name)?,
             Code::SameFile => paths.is_shared(alloc, name)?,
+            // What is read is a file to each sed.
+            Code::StreamName => is_written && is_doubtful(Code::StreamName, name),
+            Code::DeviceName => is_device(name, is_written),
             code => is_doubtful(code, name),
         };
         if is_meant {
@@ -124,6 +127,11 @@ fn push_doubts<'a>(
         }
     }
     Ok(())
+}
+
+/// Whether the name is one of a device, unless it is written and some seds take it for a stream.
+fn is_device(name: &[u8], is_written: bool) -> bool {
+    is_doubtful(Code::DeviceName, name) && !(is_written && is_doubtful(Code::StreamName, name))
 }
 
 /// Adds the warning on the name for this reason, at the first command that names it.
