@@ -1,13 +1,15 @@
 -- A node of a set as a bit of a word.
 use Rattle.sedck_search.proofs.Common.{◌≡◌, ◌≢◌, ◌⊎◌, ℕ, zero, suc, ◌+◌, ◌-◌, ◌*◌, ◌/◌, ◌%◌, ◌^◌, ◌<◌, ◌≤◌, Bool, true, false, List, length, replicate, inl, inr, subst, refl, sym, ap, ◌∙◌, arith, slice_index, bit_and, bit_or, ◌==◌, bit_at, cases_eq, nat_tests, bit_at-lt, bit_at-zero, and_le_l, bit_count, AreZeroBefore, IsNodeSet, IsEmpty, HasChanged, IsUnion}
-use Rattle.std.proofs.Common.{cond, set, max, get_or-set_other, get_or-set_same, length-set}
+use Rattle.std.proofs.Common.{cond, set, max, min, ◌++◌, ap₂, take, drop, get_or-set_other, get_or-set_same, get_or-take, get_or-drop, length-set, length-take, length-drop}
 use lib.Count.{ones}
 use Rattle.std.specs.Int.{w64}
 use Rattle.std.proofs.lemmas.Nat.Bits.{bit_at_set_same, bit_at_set_other, bit_at_clear_same, bit_at_clear_other, bit_at_or}
 use Rattle.std.proofs.lemmas.Nat.{or_lt}
-use Rattle.std.proofs.lemmas.List.{get_or_past}
+use Rattle.std.proofs.lemmas.List.{get_or_past, ext_get_or}
+use Rattle.std.proofs.lemmas.Bool.{cases_lt}
+use borrow.Rule.Slice.PartMut.{put_mid, put_same, Post-is}
 use Rattle.std.proofs.lemmas.List.Elements.{All-get_or, All-set, All-replicate, All-from_get_or}
-use Rattle.sedck_search.specs.Private.NodeSet.{has, AreWordsOfBoth}
+use Rattle.sedck_search.specs.Private.NodeSet.{has, AreZeroFrom, AreWordsOfBoth}
 
 abbrev pub bit_of : Bool → ℕ
 bit_of b = cond b 1 0
@@ -163,10 +165,13 @@ both_union left right both is_left is_right words = record {
     from_bit false true b e h = inr refl
     from_bit false false b e h = grind arith
 
--- ---- The words before the first one that may have a node
+-- ---- The words before the first one that may have a node, and those after the last one
 
 pub none_before : (first : ℕ) → AreZeroBefore (replicate 256 0) first
 none_before first j less = zero_at 256 j
+
+pub none_from : (end : ℕ) → AreZeroFrom (replicate 256 0) end
+none_from end j more = zero_at 256 j
 
 pub inserted_before : (words : List ℕ) (node old new : ℕ) → new ≤ old → new ≤ node / 64 → AreZeroBefore words old
     → AreZeroBefore (set words (node / 64) (with_bit words node)) new
@@ -174,23 +179,79 @@ inserted_before words node old new fewer inside h j less =
     let other : j ≢ node / 64 = λ same. omega (arith, same, less, inside) in
     get_or-set_other words (node / 64) j (with_bit words node) 0 other ∙ h j (omega (arith, less, fewer))
 
-pub removed_before : (words : List ℕ) (node first : ℕ) → node < 16384 → IsNodeSet words → AreZeroBefore words first
-    → AreZeroBefore (set words (node / 64) (without_bit words node)) first
-removed_before words node first l members h j less = elim (cases_eq j (node / 64)) [
+pub inserted_from : (words : List ℕ) (node old new : ℕ) → old ≤ new → node / 64 < new → AreZeroFrom words old
+    → AreZeroFrom (set words (node / 64) (with_bit words node)) new
+inserted_from words node old new fewer inside h j more =
+    let other : j ≢ node / 64 = λ same. omega (arith, same, more, inside) in
+    get_or-set_other words (node / 64) j (with_bit words node) 0 other ∙ h j (omega (arith, more, fewer))
+
+removed_zero : (words : List ℕ) (node j : ℕ) → node < 16384 → IsNodeSet words → slice_index words j ≡ 0
+    → slice_index (set words (node / 64) (without_bit words node)) j ≡ 0
+removed_zero words node j l members none = elim (cases_eq j (node / 64)) [
   | inl same ↦
-      let zero : slice_index words (node / 64) ≡ 0 = subst (λ k. slice_index words k ≡ 0) same (h j less) in
+      let zero : slice_index words (node / 64) ≡ 0 = subst (λ k. slice_index words k ≡ 0) same none in
       let most = and_le_l (slice_index words (node / 64)) (2 ^ 64 - 1 - 1 * 2 ^ (node % 64) % 2 ^ 64) in
       let at = ap (slice_index (set words (node / 64) (without_bit words node))) same
       ∙ get_or-set_same words (node / 64) (without_bit words node) 0 (omega (arith, members.long)) in
       omega (arith, zero, most, at)
-  | inr apart ↦ get_or-set_other words (node / 64) j (without_bit words node) 0 apart ∙ h j less
+  | inr apart ↦ get_or-set_other words (node / 64) j (without_bit words node) 0 apart ∙ none
 ]
+
+pub removed_before : (words : List ℕ) (node first : ℕ) → node < 16384 → IsNodeSet words → AreZeroBefore words first
+    → AreZeroBefore (set words (node / 64) (without_bit words node)) first
+removed_before words node first l members h j less = removed_zero words node j l members (h j less)
+
+pub removed_from : (words : List ℕ) (node end : ℕ) → node < 16384 → IsNodeSet words → AreZeroFrom words end
+    → AreZeroFrom (set words (node / 64) (without_bit words node)) end
+removed_from words node end l members h j more = removed_zero words node j l members (h j more)
+
+both_zero : (left right both : List ℕ) → AreWordsOfBoth left right both → (j : ℕ) → j < length left → slice_index left j ≡ 0 → slice_index right j ≡ 0
+    → slice_index both j ≡ 0
+both_zero left right both words j below at_left at_right =
+    let none : bit_or (slice_index left j) (slice_index right j) < 1 =
+    or_lt 0 (slice_index left j) (slice_index right j) (omega (arith, at_left)) (omega (arith, at_right)) in
+    omega (arith, words.each j below, none)
 
 pub both_before : (left right both : List ℕ) → IsNodeSet left → AreWordsOfBoth left right both → (l r new : ℕ) → l ≤ 256 → AreZeroBefore left l
     → AreZeroBefore right r → new ≤ l → new ≤ r → AreZeroBefore both new
 both_before left right both is_left words l r new within h k less_left less_right j less =
-    let at_left : slice_index left j ≡ 0 = h j (omega (arith, less, less_left)) in
-    let at_right : slice_index right j ≡ 0 = k j (omega (arith, less, less_right)) in
-    let none : bit_or (slice_index left j) (slice_index right j) < 1 =
-    or_lt 0 (slice_index left j) (slice_index right j) (omega (arith, at_left)) (omega (arith, at_right)) in
-    omega (arith, words.each j (omega (arith, less, less_left, within, is_left.long)), none)
+    both_zero left right both words j (omega (arith, less, less_left, within, is_left.long)) (h j (omega (arith, less, less_left)))
+    (k j (omega (arith, less, less_right)))
+
+pub both_from : (left right both : List ℕ) → AreWordsOfBoth left right both → (l r new : ℕ) → AreZeroFrom left l → AreZeroFrom right r → l ≤ new → r ≤ new
+    → AreZeroFrom both new
+both_from left right both words l r new h k less_left less_right j more = elim (cases_lt j (length left)) [
+  | inl below ↦ both_zero left right both words j below (h j (omega (arith, more, less_left))) (k j (omega (arith, more, less_right)))
+  | inr above ↦ get_or_past both j 0 (omega (arith, words.long, above))
+]
+
+-- ---- The words of another set
+
+-- the words of two sets are the same, but for those between these two
+outside_same : (old new : List ℕ) (start end : ℕ) → length old ≡ length new → AreZeroBefore old start → AreZeroBefore new start → AreZeroFrom old end
+    → AreZeroFrom new end → (take start old ≡ take start new) × (drop end old ≡ drop end new)
+outside_same old new start end long old_before new_before old_from new_from = (
+  ext_get_or 0 (take start old) (take start new) (omega (arith, length-take start old, length-take start new, long)) front,
+  ext_get_or 0 (drop end old) (drop end new) (omega (arith, length-drop end old, length-drop end new, long)) back,
+)
+  where
+    front : (i : ℕ) → i < length (take start old) → slice_index (take start old) i ≡ slice_index (take start new) i
+    front i below =
+        let less : i < start = omega (arith, below, length-take start old) in
+        get_or-take start old i 0 less ∙ old_before i less ∙ sym (get_or-take start new i 0 less ∙ new_before i less)
+
+    back : (i : ℕ) → i < length (drop end old) → slice_index (drop end old) i ≡ slice_index (drop end new) i
+    back i below = get_or-drop end old i 0 ∙ old_from (end + i) (omega arith) ∙ sym (get_or-drop end new i 0 ∙ new_from (end + i) (omega arith))
+
+-- a set becomes another one where the words between these two are those of the other
+pub copied : (old new copy : List ℕ) (f g e h least start end : ℕ) → IsNodeSet old → IsNodeSet new → AreZeroBefore old f → AreZeroBefore new g → AreZeroFrom old e
+    → AreZeroFrom new h → end ≡ max e h → least ≡ min f g → start ≡ min least end → copy ≡ take (end - start) (drop start new)
+    → put_mid start (end - start) old copy ≡ new
+copied old new copy f g e h least start end old_set new_set old_before new_before old_from new_from is_end is_least is_start is_copy =
+    let fits : start ≤ end = omega (arith, is_start) in
+    let same = outside_same old new start end (old_set.long ∙ sym new_set.long)
+    (λ j less. old_before j (omega (arith, less, is_start, is_least))) (λ j less. new_before j (omega (arith, less, is_start, is_least)))
+    (λ j more. old_from j (omega (arith, more, is_end))) (λ j more. new_from j (omega (arith, more, is_end))) in
+    ap (put_mid start (end - start) old) is_copy
+    ∙ ap₂ (λ front back. front ++ (take (end - start) (drop start new) ++ back)) same.0 (Post-is start end old fits ∙ same.1 ∙ sym (Post-is start end new fits))
+    ∙ put_same start (end - start) new

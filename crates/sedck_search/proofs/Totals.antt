@@ -4,7 +4,8 @@ use Rattle.std.proofs.Common.{zero-add, add-zero, add_assoc}
 use Rattle.std.specs.Int.Count.{ones_step}
 use Rattle.std.proofs.Math.Nat.{pow-suc}
 use Rattle.std.proofs.Math.Facts.{Fits-lt-pow}
-use Rattle.std.proofs.lemmas.List.{take_more}
+use Rattle.std.proofs.lemmas.List.{take_more, drop-drop}
+use Rattle.sedck_search.specs.Private.NodeSet.{AreZeroFrom}
 use Rattle.std.proofs.lemmas.Nat.Bits.{bit_at_lowest, bit_at-suc}
 
 pub total : (ℕ → ℕ) → ℕ → ℕ
@@ -97,11 +98,26 @@ bit_count-drop (word ∷ words) (suc first) h =
     let few : count_ones word ≤ 0 = ones-le 0 word (omega (arith, none)) in
     omega (arith, few, bit_count-drop words first (λ j less. h (suc j) (omega (arith, less))))
 
--- the others of a set's words count for all
-pub bit_count-rest : (words : List ℕ) (first : ℕ) → length words ≡ 256 → AreZeroBefore words first
-    → bit_count (take (256 - first) (drop first words)) ≡ bit_count words
-bit_count-rest words first long h =
-    ap bit_count (take_all (256 - first) (drop first words) (omega (arith, length-drop first words, long))) ∙ bit_count-drop words first h
+bit_count-none : (words : List ℕ) (end : ℕ) → AreZeroFrom words end → bit_count (drop end words) ≡ 0
+bit_count-none [] zero h = refl
+bit_count-none [] (suc end) h = refl
+bit_count-none (word ∷ words) zero h =
+    let none : word ≡ 0 = h 0 (omega arith) in
+    let few : count_ones word ≤ 0 = ones-le 0 word (omega (arith, none)) in
+    omega (arith, few, bit_count-none words zero (λ j more. h (suc j) (omega arith)))
+bit_count-none (word ∷ words) (suc end) h = bit_count-none words end (λ j more. h (suc j) (omega (arith, more)))
+
+-- so those between them count for all
+pub bit_count-between : (words : List ℕ) (start end : ℕ) → start ≤ end → AreZeroBefore words start → AreZeroFrom words end
+    → bit_count (take (end - start) (drop start words)) ≡ bit_count words
+bit_count-between words start end fits h k =
+    let rest = drop start words in
+    let cut : bit_count (take (end - start) rest) + bit_count (drop (end - start) rest) ≡ bit_count rest =
+    sym (bit_count-append (take (end - start) rest) (drop (end - start) rest)) ∙ ap bit_count (take-append-drop (end - start) rest) in
+    let at : start + (end - start) ≡ end = omega (arith, fits) in
+    let none : bit_count (drop (end - start) rest) ≡ 0 =
+    ap bit_count (drop-drop (end - start) start words ∙ ap (λ n. drop n words) at) ∙ bit_count-none words end k in
+    omega (arith, cut, none, bit_count-drop words start h)
 
 pub bit_count-take : (words : List ℕ) (i : ℕ) → bit_count (take i words) ≤ bit_count words
 bit_count-take words i =

@@ -2,19 +2,21 @@
 
 ghost use Rattle.std.specs.Prelude.{◌≡◌, ◌<◌, ◌≤◌, true, false, not, length, MatchOption};
 ghost use Rattle.sedck_search.specs.Rows.{bit_count};
-ghost use Rattle.sedck_search.specs.Private.NodeSet.{has, IsNodeSet, IsEmpty, HasChanged, HasNoneFrom, IsNext, IsUnion};
+ghost use Rattle.sedck_search.specs.Private.NodeSet.{has, AreZeroBefore, AreZeroFrom, IsNodeSet, IsEmpty, HasChanged, HasNoneFrom, IsNext, IsUnion};
 
 use crate::rows::{both, count_bits};
 use std::marker::Model;
 
-/// A set of nodes, one bit a node: those of 4,095 commands and the script's end, four each. It knows how many nodes it has, and before which
-/// word it has none.
+/// A set of nodes, one bit a node: those of 4,095 commands and the script's end, four each. It knows how many nodes it has, and between
+/// which words they are: of a short script a few words are looked at, and of a long one as many as the set needs.
 #[derive(Drop)]
 pub(crate) struct NodeSet {
     words: [u64; 256],
     count: usize,
     /// The words before this one have no node: at most 256.
     first: usize,
+    /// The words from this one on have no node: at most 256.
+    end: usize,
 }
 
 impl Model for NodeSet {
@@ -23,11 +25,12 @@ impl Model for NodeSet {
     ghost Value = { List ℕ };
 
     ghost use Rattle.sedck_search.specs.Rows.{bit_count};
-    ghost use Rattle.sedck_search.specs.Private.NodeSet.{IsNodeSet, AreZeroBefore};
+    ghost use Rattle.sedck_search.specs.Private.NodeSet.{IsNodeSet, AreZeroBefore, AreZeroFrom};
 
     ghost view = { λ a. a.words };
 
-    ghost invariant = { λ a. IsNodeSet a.words × (a.count ≡ bit_count a.words) × (a.first ≤ 256) × AreZeroBefore a.words a.first };
+    ghost invariant = { λ a. IsNodeSet a.words × (a.count ≡ bit_count a.words) × (a.first ≤ 256) × AreZeroBefore a.words a.first
+        × (a.end ≤ 256) × AreZeroFrom a.words a.end };
 }
 
 impl NodeSet {
@@ -40,6 +43,7 @@ impl NodeSet {
             words: [0; 256],
             count: 0,
             first: 256,
+            end: 0,
         }
     }
 
@@ -51,6 +55,7 @@ impl NodeSet {
         self.words = [0; 256];
         self.count = 0;
         self.first = 256;
+        self.end = 0;
     }
 
     /// Whether the node is in the set.
@@ -77,6 +82,7 @@ impl NodeSet {
         self.words[node / 64] |= 1 << (node % 64);
         self.count += 1;
         self.first = self.first.min(node / 64);
+        self.end = self.end.max(node / 64 + 1);
         true
     }
 
@@ -121,9 +127,12 @@ impl NodeSet {
         ensures same { self.new ≡ other.now }
         ensures is_set { IsNodeSet self.new }
     {
-        self.words = other.words;
+        let end = self.end.max(other.end);
+        let start = self.first.min(other.first).min(end);
+        self.words[start..end].copy_from_slice(&other.words[start..end]);
         self.count = other.count;
         self.first = other.first;
+        self.end = other.end;
     }
 
     /// Puts the nodes of another set in.
@@ -134,7 +143,8 @@ impl NodeSet {
         let words = both(&self.words, &other.words);
         self.words = words;
         self.first = self.first.min(other.first);
-        self.count = count_bits(&words[self.first..]) as usize;
+        self.end = self.end.max(other.end);
+        self.count = count_between(&words, self.first, self.end);
     }
 
     /// The number of nodes in the set.
@@ -150,6 +160,15 @@ impl NodeSet {
         ensures value { result ≡ bit_count self.now }
         ensures is_set { IsNodeSet self.now }
     {
-        count_bits(&self.words[self.first..]) as usize
+        count_between(&self.words, self.first, self.end)
     }
+}
+
+/// The number of bits that are set in the words, where none is set before the first one, nor from the end on.
+fn count_between(words: &[u64; 256], first: usize, end: usize) -> usize
+    requires { end ≤ 256 }
+    ensures { AreZeroBefore words.now first → AreZeroFrom words.now end → result ≡ bit_count words.now }
+{
+    let start = first.min(end);
+    count_bits(&words[start..end]) as usize
 }

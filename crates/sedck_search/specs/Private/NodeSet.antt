@@ -15,6 +15,10 @@ pub record IsNodeSet (words : List ℕ) : Type 0 where
 abbrev pub AreZeroBefore : List ℕ → ℕ → Type 0
 AreZeroBefore words first = (j : ℕ) → j < first → slice_index words j ≡ 0
 
+-- the words from this one on have no node
+abbrev pub AreZeroFrom : List ℕ → ℕ → Type 0
+AreZeroFrom words end = (j : ℕ) → end ≤ j → slice_index words j ≡ 0
+
 -- the set has no node
 abbrev pub IsEmpty : List ℕ → Type 0
 IsEmpty words = (node : ℕ) → has words node ≡ false

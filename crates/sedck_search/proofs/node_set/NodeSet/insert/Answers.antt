@@ -1,6 +1,6 @@
 use Rattle.std.proofs.Common.{◌≡◌, ◌/◌, subst, false, true, refl, sym, ap, ◌∙◌, set, arith}
 use Rattle.sedck_search.specs.Private.NodeSet.{has, HasChanged}
-use Rattle.sedck_search.proofs.NodeBits.{inserted, inserted_set, with_bit, inserted_before}
+use Rattle.sedck_search.proofs.NodeBits.{inserted, inserted_set, with_bit, inserted_before, inserted_from}
 use Rattle.sedck_search.proofs.NodeSets.{inserted_count, count_within}
 use Rattle.sedck_search.proofs.node_set.NodeSet.insert.Goals as goal
 
@@ -18,6 +18,9 @@ invariant_of-self c =
       omega (arith, c.min-self-inside.ensures, c.self.invariant.2),
       inserted_before c.self.inside.words c.args.node c.self.inside.first c.min-self-inside.result (omega (arith, c.min-self-inside.ensures))
           (omega (arith, c.min-self-inside.ensures)) c.self.invariant.3,
+      omega (arith, c.max-self-inside.ensures, c.self.invariant.4, c.requires),
+      inserted_from c.self.inside.words c.args.node c.self.inside.end c.max-self-inside.result (omega (arith, c.max-self-inside.ensures))
+          (omega (arith, c.max-self-inside.ensures)) c.self.invariant.5,
     )
 
 pub returns-then-has-clause-changed : goal.returns-then-has-clause-changed

@@ -1,9 +1,9 @@
 use Rattle.sedck_search.proofs.Common.{sym, arith}
-use Rattle.sedck_search.proofs.NodeBits.{empty_set, empty_nodes, empty_count, none_before}
+use Rattle.sedck_search.proofs.NodeBits.{empty_set, empty_nodes, empty_count, none_before, none_from}
 use Rattle.sedck_search.proofs.node_set.NodeSet.new.Goals as goal
 
 pub invariant_of-result : goal.invariant_of-result
-invariant_of-result c = (empty_set, sym empty_count, omega arith, none_before 256)
+invariant_of-result c = (empty_set, sym empty_count, omega arith, none_before 256, omega arith, none_from 0)
 
 pub returns-clause-nodes : goal.returns-clause-nodes
 returns-clause-nodes c = empty_nodes

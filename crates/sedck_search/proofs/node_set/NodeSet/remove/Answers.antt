@@ -1,6 +1,6 @@
 use Rattle.std.proofs.Common.{◌≡◌, ◌/◌, subst, false, true, ap, ◌∙◌, set, arith}
 use Rattle.sedck_search.specs.Private.NodeSet.{has, HasChanged}
-use Rattle.sedck_search.proofs.NodeBits.{removed, removed_set, without_bit, removed_before}
+use Rattle.sedck_search.proofs.NodeBits.{removed, removed_set, without_bit, removed_before, removed_from}
 use Rattle.sedck_search.proofs.NodeSets.{removed_count, counts_node}
 use Rattle.sedck_search.proofs.node_set.NodeSet.remove.Goals as goal
 
@@ -19,6 +19,8 @@ invariant_of-self c =
       omega (arith, fewer, c.self.invariant.1),
       c.self.invariant.2,
       removed_before c.self.inside.words c.args.node c.self.inside.first c.requires.inside c.self.invariant.0 c.self.invariant.3,
+      c.self.invariant.4,
+      removed_from c.self.inside.words c.args.node c.self.inside.end c.requires.inside c.self.invariant.0 c.self.invariant.5,
     )
 
 pub returns-clause-changed : goal.returns-clause-changed
