@@ -70,6 +70,11 @@ ROWS = [
     ("a.sh", [], "# sed p\necho sed p # sed d\necho 'sed p' \"sed d\"\nsedation p\n", 0, []),
     ("a.sh", [], "cat <<EOF\nsed p\nEOF\nsed d <<'E'\nsed x\nE\nsh <<E\nsed =\nE\n", 0, [("4:1", A, ["d"]), ("8:1", A, ["="])]),
     ("a.sh", [], "cat <<EOF\n$(sed p)\nEOF\n", 0, [("2:3", A, ["p"])]),
+    # A line that is joined to the one before isn't the delimiter, and keeps its tabs.
+    ("a.sh", ["--deny", "writes"], "sed -f - f <<p\nn;\\\np\nw evil\np\n", 1, [("1:1", "denied", ["-f", "-", "f"])]),
+    ("a.sh", [], "cat <<E\nx\\\nE\nit's\nE\nsed ':x;bx' f # '\n", 1, [("6:1", LOOP, [":x;bx", "f"])]),
+    ("a.sh", [], "cat <<E\nx\\\\\nE\nsed p f\ncat <<'E'\nx\\\nE\nsed d f\n", 0, [("4:1", A, ["p", "f"]), ("8:1", A, ["d", "f"])]),
+    ("a.sh", [], "sed -f - f <<-E\n\ty/a/\\\n\tb/\n\tE\n", 2, [("1:1", REFUSED, ["-f", "-", "f"])]),
     ("a.sh", [], "x=\"$(sed \"s/a/b/\" \"$f\")\"\n", 5, [("1:6", IF, ["s/a/b/", "x"])]),
     ("a.sh", [], "sh -c 'sed p; sed \"s/a b/c/\"'\neval 'sed d'\n", 0, [("1:8", A, ["p"]), ("1:15", A, ["s/a b/c/"]), ("2:7", A, ["d"])]),
     # Names.
@@ -551,6 +556,8 @@ UNREAD = [
     ("a.sh", "((sed p f))\n: &> g sed p f\n: &> g $x p f\nx=${ sed p f; }\n", ["1:3", "2:8", "3:8", "4:3"]),
     ("a.bash", "((sed + 1))\n: &> g sed p f\n[[ a || $x = sed ]]\n", []),
     ("a.sh", "cat <<EOF\nE\\\nOF\nsed p f\nEOF\ncat <<'EOF'\nE\\\nOF\nEOF\n", ["1:7"]),
+    # A line with nothing before the backslash that joins it, and lines that bash joins before it reads the command.
+    ("a.sh", "cat <<-E\n\t\\\n\tx\n\tE\n", ["1:8"]), ("a.sh", "cat <<E\n$(sed 's/a/b\\\n/' f # \\\nsed p g\n)\nE\n", ["2:13", "3:8"]),
     ("a.yml", "a: {run: sed p f}\n? run\n: sed p f\nmy key: {run: sed p f}\n", ["1:10", "3:3", "4:15"]),
     ("a.sh", "echo sed -n p; which sed; apt-get install sed\ngrep sed -n f\n", []), ("a.sh", "sed $'a\\'\n'\n", ["1:8"]),
     ("Dockerfile", 'FROM a\nRUN ["sed", "s/a\\\\./b/"]\nRUN ["sed", "s/\'/b/"]\nENTRYPOINT ["/bin/sed", "p"]\nRUN ["sed", "y/a/\u00e9/"]\n', ["2:7", "3:7", "4:19", "5:7"]), ("ci.yml", "a:\n  - run: >\n      sed p f\n      g\n", ["3:7"]),

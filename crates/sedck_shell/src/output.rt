@@ -3,7 +3,7 @@
 use crate::command::{ShellCommand, ShellText, ShellWord};
 use crate::frame::{Delimiter, Draft, Frame, Quote};
 use crate::groups::{COPIED, inherit};
-use crate::reader::{Form, Job, MISSES, Output, Reader};
+use crate::reader::{Form, Job, MISSES, Output, Reader, length_of};
 use sedck_origin::{Cursor, Result, Text, Unit, byte_at};
 use std::alloc::Global;
 
@@ -208,7 +208,7 @@ impl Reader<'_, '_> {
             return Ok(false);
         };
         self.output.note_if(is_joined, delimiter.start)?;
-        let units = lines_of(self.alloc, self.rest.before(end), pending.is_stripped)?;
+        let units = lines_of(self.alloc, self.rest.before(end), pending)?;
         self.pass(self.here.before(rest).len().saturating_sub(1));
         self.output.jobs.push(Job {
             units,
@@ -221,23 +221,46 @@ impl Reader<'_, '_> {
 }
 
 /// The line of the delimiter with which the here-document ends that begins the text, what is behind it, and whether some shells find the
-/// end before: at lines that are joined by backslashes, and are the delimiter then.
+/// end before, at lines that are joined by backslashes and are the delimiter then, or read such lines otherwise.
 fn body_end<'a>(text: Cursor<'a>, pending: &Pending) -> Option<(Cursor<'a>, Cursor<'a>, bool)> {
     let mut line = text;
     let mut is_joined = false;
+    let mut goes_on = false;
     for _ in 0..text.len().saturating_add(1) {
         let (inner, rest) = line.split_line();
-        match joints_of(line, pending) {
-            Some(0) => return Some((line, rest, is_joined)),
-            Some(_) => is_joined = true,
-            None => {}
+        // A line that is joined to the one before isn't the delimiter (XCU 2.7.4).
+        if !goes_on {
+            match joints_of(line, pending) {
+                Some(0) => return Some((line, rest, is_joined)),
+                Some(_) => is_joined = true,
+                None => is_joined |= is_bare_joint(inner, pending),
+            }
         }
         if inner.len() == line.len() {
             break;
         }
+        goes_on = is_joint(inner, pending);
         line = rest;
     }
     None
+}
+
+/// Whether a backslash at the end of the line joins it to the next one, as it does where the delimiter isn't quoted.
+fn is_joint(line: Cursor, pending: &Pending) -> bool {
+    let mut rest = line;
+    let mut is_quoted = false;
+    for _ in 0..line.len() {
+        is_quoted = !is_quoted && rest.peek() == Some(b'\\');
+        rest = rest.skip(1);
+    }
+    is_quoted && !pending.delimiter.is_quoted
+}
+
+/// Whether the line has nothing but tabs that are left out before a backslash that joins it to the next one: shells differ in it, and in tabs
+/// that begin that one.
+fn is_bare_joint(line: Cursor, pending: &Pending) -> bool {
+    let rest = line.skip(length_of(line, "\t"));
+    pending.is_stripped && rest.is(b"\\") && !pending.delimiter.is_quoted
 }
 
 /// How many lines are joined at most where the delimiter is looked for: more are taken for it.
@@ -270,19 +293,22 @@ fn joints_of(text: Cursor, pending: &Pending) -> Option<usize> {
     Some(JOINED)
 }
 
-/// The units of lines, without the tabs at their beginnings if they are left out.
-fn lines_of(alloc: Global, text: Cursor, is_stripped: bool) -> Result<Vec<Unit>> {
+/// The units of lines, without the tabs at their beginnings if they are left out. A line that is joined to the one before keeps them.
+fn lines_of(alloc: Global, text: Cursor, pending: &Pending) -> Result<Vec<Unit>> {
     let mut lines = Vec::new(alloc);
     let mut rest = text;
     let mut begins_line = true;
+    let mut is_quoted = false;
     for _ in 0..text.len() {
         let Some((unit, next)) = rest.split_first() else {
             break;
         };
         rest = next;
-        let is_left_out = begins_line && is_stripped && unit.byte() == Some(b'\t');
+        let byte = unit.byte();
+        let is_left_out = begins_line && pending.is_stripped && byte == Some(b'\t');
         if !is_left_out {
-            begins_line = unit.byte() == Some(b'\n');
+            begins_line = byte == Some(b'\n') && !is_quoted;
+            is_quoted = byte == Some(b'\\') && !is_quoted && !pending.delimiter.is_quoted;
             lines.push(unit)?;
         }
     }

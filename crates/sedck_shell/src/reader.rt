@@ -174,16 +174,30 @@ impl<'a> Reader<'a, '_> {
                 self.top.quote = Quote::None;
                 Ok(())
             }
-            Quote::Single | Quote::Verbatim => self.add_byte(unit),
+            Quote::Single => {
+                self.note_joint(unit)?;
+                self.add_byte(unit)
+            }
+            Quote::Verbatim => self.add_byte(unit),
             Quote::Double | Quote::Body => self.read_double(unit),
             Quote::Dollar => self.read_dollar(unit),
             Quote::Either => self.read_either(unit),
-            Quote::Comment if unit.byte() != Some(b'\n') => Ok(()),
+            Quote::Comment if unit.byte() != Some(b'\n') => self.note_joint(unit),
             Quote::Comment => {
                 self.top.quote = Quote::None;
                 self.read_bare(unit)
             }
         }
+    }
+
+    /// Notes a backslash and a newline that the text has in single quotes or in a comment, in a command of a here-document: bash joins the lines
+    /// of that first.
+    fn note_joint(&mut self, unit: Unit) -> Result<()> {
+        if unit.byte() != Some(b'\\') || self.rest.peek() != Some(b'\n') {
+            return Ok(());
+        }
+        let is_in_body = matches!(self.frames.first(), Some(frame) if frame.quote == Quote::Body);
+        self.output.note_if(is_in_body, unit.start())
     }
 
     /// Reads a unit that isn't quoted.
