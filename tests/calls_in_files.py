@@ -183,6 +183,8 @@ ROWS = [
     ("a.sh", [], "sed -i '' p f\nsed -i.bak '' f\nsed -i -e '' f\n", 5, [("1:1", UNKNOWN, ["-i", "", "p", "f"]), ("2:1", A, ["-i.bak", "", "f"]), ("3:1", A, ["-i", "-e", "", "f"])]),
     ("a.bash", [], "sh <<< 'sed p f'\neval -- 'sed d f'\ntrap -- 'sed x f' EXIT\nsu --command='sed = f' root\n", 0, [("1:9", A, ["p", "f"]), ("2:10", A, ["d", "f"]), ("3:10", A, ["x", "f"]), ("4:15", A, ["=", "f"])]),
     # What is bash's alone.
+    ("a.bash", [], "sed s+=~/+y+ f\nsed s[x]=~/[y[ f\nsed s+=a:~/+y+ f\nsed 's+=~/+y+' f\n", 5,
+     [("1:1", IF, ["s+=x/+y+", "f"]), ("2:1", IF, ["s[x]=x/[y[", "f"]), ("3:1", IF, ["s+=a:x/+y+", "f"]), ("4:1", A, ["s+=~/+y+", "f"])]),
     ("a.sh", [], "[[ a | sed p f ]]\n[[ x || sed d f || x ]]\n[[ $x = a && $x > sed ]]\n", 0, [("1:8", A, ["p", "f", "]]"]), ("2:9", A, ["d", "f"])]),
     ("a.bash", [], "[[ a || sed ]] && sed p f\n[[ a ||\n sed ]] || sed d f\n", 0, [("1:19", A, ["p", "f"]), ("3:12", A, ["d", "f"])]),
     # What is refused, rejected or not judged.

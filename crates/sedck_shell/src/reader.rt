@@ -3,7 +3,7 @@
 use crate::command::{Pattern, ShellWord};
 use crate::frame::{Draft, Enclosure, Frame, Mark, Quote};
 use crate::output::Pending;
-use sedck_origin::{Cursor, Result, Unit, Way, is_name_byte, name_length};
+use sedck_origin::{Cursor, Result, Unit, Way, is_name_byte};
 use std::alloc::Global;
 
 /// How a text is made into shell text before it runs.
@@ -263,12 +263,10 @@ impl<'a> Reader<'a, '_> {
 
     /// Whether a tilde here stands for a folder: at the beginning of a word, and in a value also behind a colon (XCU 2.6.1).
     fn begins_tilde(&self) -> bool {
-        let units = &self.top.word.units;
-        let length = name_length(units);
-        let is_value = length > 0 && matches!(units.get(length), Some(Unit::Byte(b'=', _)));
-        match units.last() {
-            Some(Unit::Byte(b'=', _)) => is_value && length.saturating_add(1) == units.len(),
-            Some(Unit::Byte(b':', _)) => is_value,
+        let word = Cursor::Units(&self.top.word.units);
+        match self.top.word.units.last() {
+            Some(Unit::Byte(b'=', _)) => begins_value(word),
+            Some(Unit::Byte(b':', _)) => has_value(word),
             _ => !self.top.has_word,
         }
     }
@@ -424,6 +422,29 @@ fn is_part(first: Option<u8>, length: usize, behind: u8) -> bool {
         Some(b'$') if length > 0 => is_name_byte(behind),
         Some(b'$') => !is_in(Some(behind), " \t"),
         _ => is_in(Some(behind), ";&|<>("),
+    }
+}
+
+/// What is behind the name that begins the word; none where it doesn't begin with one.
+fn behind_name(word: Cursor<'_>) -> Option<Cursor<'_>> {
+    let length = word.name_length();
+    (length > 0).then_some(word.skip(length))
+}
+
+/// Whether the `=` that ends the word may be the one before a value: that of `name=`, and in bash of `name+=` and `name[..]=`.
+fn begins_value(word: Cursor) -> bool {
+    match behind_name(word) {
+        // Where a subscript ends isn't looked for, since its quotes are gone.
+        Some(rest) => rest.is(b"=") || rest.is(b"+=") || rest.peek() == Some(b'['),
+        None => false,
+    }
+}
+
+/// Whether the word may have a value, as `name=value`, and in bash `name+=value` and `name[..]=value`.
+fn has_value(word: Cursor) -> bool {
+    match behind_name(word) {
+        Some(rest) => is_in(rest.peek(), "=[") || rest.take(2).is(b"+="),
+        None => false,
     }
 }
 
