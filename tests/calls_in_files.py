@@ -182,6 +182,8 @@ ROWS = [
     ("a.sh", [], "find $d -exec sed p {} \\;\nfind \"$d\" -name '*.c' -exec sed p {} \\;\nfind \"$d\" f -exec sed p {} \\;\n", 5, [("1:15", IF, ["p", "x"]), ("2:29", A, ["p", "x"]), ("3:19", IF, ["p", "x"])]),
     ("a.sh", [], "sed -i '' p f\nsed -i.bak '' f\nsed -i -e '' f\n", 5, [("1:1", UNKNOWN, ["-i", "", "p", "f"]), ("2:1", A, ["-i.bak", "", "f"]), ("3:1", A, ["-i", "-e", "", "f"])]),
     ("a.bash", [], "sh <<< 'sed p f'\neval -- 'sed d f'\ntrap -- 'sed x f' EXIT\nsu --command='sed = f' root\n", 0, [("1:9", A, ["p", "f"]), ("2:10", A, ["d", "f"]), ("3:10", A, ["x", "f"]), ("4:15", A, ["=", "f"])]),
+    # A backslash at the end of a text.
+    ("a.sh", [], "eval 'sed \"w f\"\\'\n", 5, [("1:7", A, ["w f\\"])]),
     # What is bash's alone.
     ("a.bash", [], "sed s+=~/+y+ f\nsed s[x]=~/[y[ f\nsed s+=a:~/+y+ f\nsed 's+=~/+y+' f\n", 5,
      [("1:1", IF, ["s+=x/+y+", "f"]), ("2:1", IF, ["s[x]=x/[y[", "f"]), ("3:1", IF, ["s+=a:x/+y+", "f"]), ("4:1", A, ["s+=~/+y+", "f"])]),
@@ -560,6 +562,7 @@ UNREAD = [
     ("a.sh", "cat <<EOF\nE\\\nOF\nsed p f\nEOF\ncat <<'EOF'\nE\\\nOF\nEOF\n", ["1:7"]),
     # A line with nothing before the backslash that joins it, and lines that bash joins before it reads the command.
     ("a.sh", "cat <<-E\n\t\\\n\tx\n\tE\n", ["1:8"]), ("a.sh", "cat <<E\n$(sed 's/a/b\\\n/' f # \\\nsed p g\n)\nE\n", ["2:13", "3:8"]),
+    ("a.sh", "eval 'sed p f \\'\n", ["1:15"]), ("a.sh", "sed p f\\", ["1:8"]),
     ("a.yml", "a: {run: sed p f}\n? run\n: sed p f\nmy key: {run: sed p f}\n", ["1:10", "3:3", "4:15"]),
     ("a.sh", "echo sed -n p; which sed; apt-get install sed\ngrep sed -n f\n", []), ("a.sh", "sed $'a\\'\n'\n", ["1:8"]),
     ("Dockerfile", 'FROM a\nRUN ["sed", "s/a\\\\./b/"]\nRUN ["sed", "s/\'/b/"]\nENTRYPOINT ["/bin/sed", "p"]\nRUN ["sed", "y/a/\u00e9/"]\n', ["2:7", "3:7", "4:19", "5:7"]), ("ci.yml", "a:\n  - run: >\n      sed p f\n      g\n", ["3:7"]),

@@ -51,13 +51,12 @@ impl Reader<'_, '_> {
         self.top.floor = self.brackets;
     }
 
-    /// Reads a backslash that isn't quoted, and what it quotes: a newline behind it is left out with it.
+    /// Reads a backslash that isn't quoted, and what it quotes: a newline behind it is left out with it. One at the end of a text is itself,
+    /// but bash leaves it out at the end of a file.
     pub fn read_backslash(&mut self, unit: Unit) -> Result<()> {
-        let next = self.rest.get(0);
+        self.output.note_if(self.rest.len() == 0, unit.start())?;
+        let quoted = self.rest.get(0).unwrap_or(unit);
         self.pass(1);
-        let Some(quoted) = next else {
-            return Ok(());
-        };
         match quoted.byte() {
             Some(b'\n') => return Ok(()),
             Some(b'[') if self.has_macros() => {
