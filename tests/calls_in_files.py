@@ -182,6 +182,7 @@ ROWS = [
     ("a.sh", [], "find $d -exec sed p {} \\;\nfind \"$d\" -name '*.c' -exec sed p {} \\;\nfind \"$d\" f -exec sed p {} \\;\n", 5, [("1:15", IF, ["p", "x"]), ("2:29", A, ["p", "x"]), ("3:19", IF, ["p", "x"])]),
     ("a.sh", [], "sed -i '' p f\nsed -i.bak '' f\nsed -i -e '' f\n", 5, [("1:1", UNKNOWN, ["-i", "", "p", "f"]), ("2:1", A, ["-i.bak", "", "f"]), ("3:1", A, ["-i", "-e", "", "f"])]),
     ("a.bash", [], "sh <<< 'sed p f'\neval -- 'sed d f'\ntrap -- 'sed x f' EXIT\nsu --command='sed = f' root\n", 0, [("1:9", A, ["p", "f"]), ("2:10", A, ["d", "f"]), ("3:10", A, ["x", "f"]), ("4:15", A, ["=", "f"])]),
+    ("a.bash", [], ": || x=\"${y[1]#'}\"  #'}\"; sed ':x;bx' f\n", 1, [("1:27", LOOP, [":x;bx", "f"])]),
     # A backslash at the end of a text.
     ("a.sh", [], "eval 'sed \"w f\"\\'\n", 5, [("1:7", A, ["w f\\"])]),
     # What is bash's alone.
@@ -563,6 +564,12 @@ UNREAD = [
     # A line with nothing before the backslash that joins it, and lines that bash joins before it reads the command.
     ("a.sh", "cat <<-E\n\t\\\n\tx\n\tE\n", ["1:8"]), ("a.sh", "cat <<E\n$(sed 's/a/b\\\n/' f # \\\nsed p g\n)\nE\n", ["2:13", "3:8"]),
     ("a.sh", "eval 'sed p f \\'\n", ["1:15"]), ("a.sh", "sed p f\\", ["1:8"]),
+    # A single quote that is one to bash alone, in braces between double quotes and in an expression.
+    ("a.bash", "x=\"${y:-'}\"  #'}\"; sed ':x;bx' f\n", ["1:9"]), ("a.sh", "x=\"${y:='}\"  #'}\"; sed p f\n", ["1:9"]), ("a.sh", "x=\"${y+'}\"  #'}\"; sed p f\n", ["1:8"]),
+    ("a.sh", ": || x=\"${y[1]#'}\"  #'}\"; sed p f\n", ["1:16"]), ("a.sh", ": || x=\"${y/'}\"  #'}\"; sed p f\n", ["1:13"]),
+    ("a.bash", "x=\"${y:-'a'}${y:-'$z @' '*'}${y#'}'}${y:-\"it's\"}${y:-\\'}\"; (( x['k'] )); sed p f\n", []), ("a.bash", "x=\"${y:-'\\''}\"; sed p f #'}\"\n", ["1:12"]),
+    ("a.sh", "x=\"${y:-$'}'}\"; sed p f\n", ["1:9"]), ("a.sh", ": || x=\"$(( ${y:-'}))\"  #'} ))\"; sed p f\n", ["1:18"]), ("a.sh", ": || x=$((' ))  #' )); sed p f\n", ["1:11"]),
+    ("a.bash", ": || x=\"$[ ' ]\"  #' ]\"; sed p f\n", ["1:9"]), ("configure.ac", "AC_INIT([a])\nx=\"$[1]\"\n", []),
     ("a.yml", "a: {run: sed p f}\n? run\n: sed p f\nmy key: {run: sed p f}\n", ["1:10", "3:3", "4:15"]),
     ("a.sh", "echo sed -n p; which sed; apt-get install sed\ngrep sed -n f\n", []), ("a.sh", "sed $'a\\'\n'\n", ["1:8"]),
     ("Dockerfile", 'FROM a\nRUN ["sed", "s/a\\\\./b/"]\nRUN ["sed", "s/\'/b/"]\nENTRYPOINT ["/bin/sed", "p"]\nRUN ["sed", "y/a/\u00e9/"]\n', ["2:7", "3:7", "4:19", "5:7"]), ("ci.yml", "a:\n  - run: >\n      sed p f\n      g\n", ["3:7"]),

@@ -8,6 +8,9 @@ use std::alloc::Global;
 /// How many units are looked at in all for the ends of expressions, so that the time stays linear.
 const LOOKAHEAD: usize = 1_000_000;
 
+/// How many units are looked at for the end of one subscript.
+const SUBSCRIPT: usize = 100;
+
 impl Reader<'_, '_> {
     /// Reads a dollar sign, and the expansion that begins with it.
     pub fn read_expansion(&mut self, unit: Unit) -> Result<()> {
@@ -17,6 +20,8 @@ impl Reader<'_, '_> {
             Some(b'(') => self.open_substitution(),
             Some(b'{') => self.open_parameter(),
             Some(b'\'') if self.top.quote == Quote::None => {
+                // In `${..}` between double quotes shells differ.
+                self.output.note_if(self.top.is_in_double, unit.start())?;
                 self.pass(1);
                 Ok(self.open_dollar_quote(unit))
             }
@@ -30,6 +35,11 @@ impl Reader<'_, '_> {
             // It is as many words as there are, as `@` is; between quotes it is one (XCU 2.5.2).
             Some(b'*') if self.way() == Way::Bare => self.add_hole_over(1, Way::Several),
             byte if is_in(byte, "0123456789*#?-$!") => self.add_hole_over(1, self.way()),
+            // Bash reads an expression there.
+            Some(b'[') if !self.has_macros() => {
+                self.output.unread.push(unit.start())?;
+                self.add(unit)
+            }
             _ => self.add(unit),
         }
     }
@@ -75,8 +85,33 @@ impl Reader<'_, '_> {
             .note_if(is_in(first, " \t\n|"), self.here.start())?;
         let name = self.rest.skip(usize::from(is_in(first, "!#@*?-$")));
         let behind = name.skip(name.name_length());
-        self.top.is_in_double &= !is_in(behind.peek(), "#%/^,");
+        self.top.is_in_double &= !self.begins_pattern(behind);
         self.top.is_several = is_several(first, behind);
+        Ok(())
+    }
+
+    /// Whether a pattern that is taken off or replaced begins behind the name of a parameter. Dash knows the former alone, and no subscripts.
+    fn begins_pattern(&self, behind: Cursor) -> bool {
+        if !self.form.has_dollar_quotes {
+            return is_in(behind.peek(), "#%");
+        }
+        let operator = match behind.peek() {
+            Some(b'[') => behind.take(SUBSCRIPT).behind(b']').unwrap_or(behind),
+            _ => behind,
+        };
+        is_in(operator.peek(), "#%/^,")
+    }
+
+    /// Reads a single quote that quotes to some shells, and is itself to others. It is noted, but for one that has its partner before what
+    /// those others read.
+    fn read_either_quote(&mut self, unit: Unit) -> Result<()> {
+        if self.here.len() == self.top.partner {
+            return Ok(());
+        }
+        match partner_of(self.rest) {
+            Some(partner) => self.top.partner = partner.len(),
+            None => self.output.unread.push(unit.start())?,
+        }
         Ok(())
     }
 
@@ -85,6 +120,7 @@ impl Reader<'_, '_> {
         match unit.byte() {
             Some(b'}') => return self.close(unit.end()),
             Some(b'\'') if !self.top.is_in_double => self.set_quote(Quote::Single),
+            Some(b'\'') => return self.read_either_quote(unit),
             Some(b'"') => self.set_quote(Quote::Double),
             _ => return self.read_within(unit),
         }
@@ -95,6 +131,7 @@ impl Reader<'_, '_> {
     pub fn read_arithmetic(&mut self, unit: Unit) -> Result<()> {
         let open = self.top.parentheses;
         match unit.byte() {
+            Some(b'\'') => return self.read_either_quote(unit),
             Some(b'(') => self.top.parentheses = open.saturating_add(1),
             Some(b')') if open > 0 => self.top.parentheses = open.saturating_sub(1),
             Some(b')') => {
@@ -178,6 +215,21 @@ fn sed_within(text: Cursor) -> Option<usize> {
             return Some(name.start());
         }
         rest = rest.skip(length.max(1));
+    }
+    None
+}
+
+/// What begins with the partner of a single quote before the text; none where what ends an enclosure or begins another may be before it.
+fn partner_of(text: Cursor<'_>) -> Option<Cursor<'_>> {
+    let mut rest = text;
+    for _ in 0..text.len() {
+        if rest.peek() == Some(b'\'') {
+            return Some(rest);
+        }
+        if is_in(rest.peek(), "}\"`()") {
+            break;
+        }
+        rest = rest.skip(1);
     }
     None
 }

@@ -109,7 +109,7 @@ pub(crate) struct Frame {
     pub is_plain: bool,
     /// The offset in the file where it begins.
     pub opened: usize,
-    /// Whether a single quote in it is itself, since double quotes are around it.
+    /// Whether a single quote in it is itself, since double quotes or an arithmetic expression are around it.
     pub is_in_double: bool,
     /// How many brackets of M4 are around it, and around the last quote in it.
     pub brackets: usize,
@@ -131,6 +131,8 @@ pub(crate) struct Frame {
     pub is_test: bool,
     /// How many parentheses of an arithmetic expression or of a pattern are open.
     pub parentheses: usize,
+    /// How many units are left from the partner on of a single quote that is one to some shells alone; 0 where there is none.
+    pub partner: usize,
     /// Whether what is between `${` and `}` may be several words.
     pub is_several: bool,
     /// Whether it is `<( )` or `>( )`, in whose place one path comes.
@@ -195,6 +197,7 @@ impl Frame {
             is_pattern: false,
             is_test: false,
             parentheses: 0,
+            partner: 0,
             is_several: false,
             is_process: false,
             braces: Braces::default(),

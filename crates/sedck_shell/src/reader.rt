@@ -320,7 +320,9 @@ impl<'a> Reader<'a, '_> {
         frame.is_plain = self.top.is_plain && self.top.quote == Quote::None && is_group;
         frame.opened = self.here.start();
         frame.is_in_double = enclosure == Enclosure::Parameter
-            && (self.top.is_in_double || matches!(self.top.quote, Quote::Double | Quote::Body));
+            && (self.top.is_in_double
+                || self.top.enclosure == Enclosure::Arithmetic
+                || matches!(self.top.quote, Quote::Double | Quote::Body));
         frame.brackets = self.brackets;
         frame.floor = self.brackets;
         frame.flow.group = self.top.flow.group;
