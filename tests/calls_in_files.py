@@ -564,6 +564,7 @@ UNREAD = [
     # A line with nothing before the backslash that joins it, and lines that bash joins before it reads the command.
     ("a.sh", "cat <<-E\n\t\\\n\tx\n\tE\n", ["1:8"]), ("a.sh", "cat <<E\n$(sed 's/a/b\\\n/' f # \\\nsed p g\n)\nE\n", ["2:13", "3:8"]),
     ("a.sh", "eval 'sed p f \\'\n", ["1:15"]), ("a.sh", "sed p f\\", ["1:8"]),
+    ("a.bash", "coproc sed p f\n", ["1:1"]),
     # A single quote that is one to bash alone, in braces between double quotes and in an expression.
     ("a.bash", "x=\"${y:-'}\"  #'}\"; sed ':x;bx' f\n", ["1:9"]), ("a.sh", "x=\"${y:='}\"  #'}\"; sed p f\n", ["1:9"]), ("a.sh", "x=\"${y+'}\"  #'}\"; sed p f\n", ["1:8"]),
     ("a.sh", ": || x=\"${y[1]#'}\"  #'}\"; sed p f\n", ["1:16"]), ("a.sh", ": || x=\"${y/'}\"  #'}\"; sed p f\n", ["1:13"]),

@@ -224,6 +224,9 @@ impl Reader<'_, '_> {
         if self.form.has_dollar_quotes && is_text(units, "[[") {
             self.top.is_test = !self.has_macros();
         }
+        // A name may follow, and a group then, in bash alone.
+        self.output
+            .note_if(is_text(units, "coproc"), Cursor::Units(units).start())?;
         self.note_flow(units)?;
         Ok(is_one_of(units, RESERVED))
     }
