@@ -213,6 +213,12 @@ ROWS = [
     ("Dockerfile", [], "# syntax=a\n# escape=`\nFROM a\nRUN sed p f\n", 5, []),
     # What isn't a list is a line for a shell; a list needs none of the shells of POSIX.
     ("Dockerfile", [], 'FROM a\nRUN ["sed", "p", "f",]\nSHELL ["cmd"]\nRUN ["sed", "p", "f"]\nRUN sed p f\n', 0, [("4:6", A, ["p", "f"])]),
+    # A here-document's redirection is a whole word.
+    ("Dockerfile", [], "FROM a\nRUN echo $((1<<2)) \"a <<b\" <<<c\nCOPY a<<b /x\nRUN sed ':x;bx' f\n", 1, [("4:5", LOOP, [":x;bx", "f"])]),
+    ("Dockerfile", [], "FROM a\nRUN <<A.B\nsed ':x;bx' f\nA.B\nRUN sed p f\n", 1, [("3:1", LOOP, [":x;bx", "f"]), ("5:5", A, ["p", "f"])]),
+    ("Dockerfile", [], "FROM a\nCOPY <<a <<'b' /d/\nRUN <<c\na\nRUN <<d\nb\nRUN sh <<-E && cat <<F\n\tsed p f\n\tE\nx\nF\n", 0, [("8:2", A, ["p", "f"])]),
+    # A stage has the shell of the one that it begins with, or else its image's.
+    ("Dockerfile", [], "FROM w AS b\nSHELL [\"cmd\"]\nFROM B\nRUN sed p f\nFROM a\nRUN sed ':x;bx' f\n", 1, [("6:5", LOOP, [":x;bx", "f"])]),
     ("ci.yml", [], "jobs:\n  a:\n    steps:\n      - run: sed p f\n      - name: x\n        run: |\n          sed 's/a/b/' f\n          sed d\n", 0, [("4:14", A, ["p", "f"]), ("7:11", A, ["s/a/b/", "f"]), ("8:11", A, ["d"])]),
     ("ci.yml", [], "a:\n  script:\n    - sed p f\n    - \"sed \\\"s/a/b/\\\"\"\n    - 'sed ''s/c/d/'''\n", 0, [("3:7", A, ["p", "f"]), ("4:8", A, ["s/a/b/"]), ("5:8", A, ["s/c/d/"])]),
     ("a.spec", [], "Name: a\n%prep\nsed -i 's/%%a/b/' f\n%build\nsed p\n%files\nsed\n", 0, [("3:1", A, ["-i", "s/%a/b/", "f"]), ("5:1", A, ["p"])]),
@@ -572,6 +578,7 @@ UNREAD = [
     ("a.sh", "x=\"${y:-$'}'}\"; sed p f\n", ["1:9"]), ("a.sh", ": || x=\"$(( ${y:-'}))\"  #'} ))\"; sed p f\n", ["1:18"]), ("a.sh", ": || x=$((' ))  #' )); sed p f\n", ["1:11"]),
     ("a.bash", ": || x=\"$[ ' ]\"  #' ]\"; sed p f\n", ["1:9"]), ("configure.ac", "AC_INIT([a])\nx=\"$[1]\"\n", []),
     ("a.yml", "a: {run: sed p f}\n? run\n: sed p f\nmy key: {run: sed p f}\n", ["1:10", "3:3", "4:15"]),
+    ("Dockerfile", "FROM a\nRUN sh <<E\"O\"F\nsed ':x;bx' f\nEOF\nRUN sed p f\n", ["3:1"]),
     ("a.sh", "echo sed -n p; which sed; apt-get install sed\ngrep sed -n f\n", []), ("a.sh", "sed $'a\\'\n'\n", ["1:8"]),
     ("Dockerfile", 'FROM a\nRUN ["sed", "s/a\\\\./b/"]\nRUN ["sed", "s/\'/b/"]\nENTRYPOINT ["/bin/sed", "p"]\nRUN ["sed", "y/a/\u00e9/"]\n', ["2:7", "3:7", "4:19", "5:7"]), ("ci.yml", "a:\n  - run: >\n      sed p f\n      g\n", ["3:7"]),
     ("configure.ac", "AC_MSG_ERROR([sed not found])\nx=`sed -n p f`\n", []),

@@ -25,6 +25,12 @@ struct Docker<'a> {
     rest: Part<'a>,
     /// Whether the commands are those of another shell.
     is_foreign: bool,
+    /// The name of the stage that is read, or nothing.
+    stage: &'a [u8],
+    /// The names of stages with another shell, which those that begin with one of them have too.
+    foreign: Vec<&'a [u8]>,
+    /// Whether a here-document isn't ended: BuildKit refuses the file then, and where it is read there are none.
+    is_without_heres: bool,
 }
 
 /// The shell text of a Dockerfile; none where a directive among the comments at its top changes how lines are continued.
@@ -38,6 +44,9 @@ pub(crate) fn host_of_docker(alloc: Global, file: &[u8]) -> Result<Host> {
         host: Host::new(alloc),
         rest: whole.to(unread.start),
         is_foreign: false,
+        stage: &[],
+        foreign: Vec::new(alloc),
+        is_without_heres: false,
     };
     for _ in 0..file.len() {
         docker.read_instruction()?;
@@ -89,14 +98,15 @@ impl<'a> Docker<'a> {
                     false => self.add(rest),
                 };
             }
+            if is("FROM") {
+                return self.begin_stage(words);
+            }
             if is("SHELL") {
                 self.is_foreign = is_foreign(words);
                 break;
             }
-            if (is("COPY") || is("ADD"))
-                && let Some(here) = here_of(rest, line)
-            {
-                self.take_here(here, &mut Vec::new(self.alloc))?;
+            if is("COPY") || is("ADD") {
+                self.take_heres(rest, line, &mut Vec::new(self.alloc))?;
             }
             if !is("ONBUILD") && !is("HEALTHCHECK") {
                 break;
@@ -105,10 +115,25 @@ impl<'a> Docker<'a> {
         Ok(())
     }
 
-    /// Reads the command of `RUN`, behind whose last line a here-document may stand. A text with one isn't shell text if another
+    /// Begins a stage by the words of `FROM`: it has the shell of the stage that is named there, or else its image's.
+    fn begin_stage(&mut self, words: Part<'a>) -> Result<()> {
+        if self.is_foreign && !self.stage.is_empty() {
+            self.foreign.push(self.stage)?;
+        }
+        let (image, behind) = words
+            .after_words(8, |word| word.starts_with(b"--"))
+            .split_word();
+        let (_, name) = behind.split_word();
+        self.stage = name.split_word().0;
+        let is_image = |stage: &&[u8]| stage.eq_ignore_ascii_case(image);
+        self.is_foreign = self.foreign.iter().any(is_image);
+        Ok(())
+    }
+
+    /// Reads the command of `RUN`, behind whose last line here-documents may stand. A text with one isn't shell text if another
     /// interpreter's name is at its beginning.
     fn read_run(&mut self, command: &[Unit], line: Part<'a>) -> Result<()> {
-        let Some(here) = here_of(command, line) else {
+        let Some((here, _)) = here_of(command, line) else {
             return self.add(command);
         };
         let mut units = Vec::new(self.alloc);
@@ -116,10 +141,46 @@ impl<'a> Docker<'a> {
             units.extend_from_slice(command)?;
             line.push_newline(&mut units)?;
         }
-        if self.take_here(here, &mut units)? && !has_other_interpreter(line.file, &units) {
-            self.add(&units)?;
+        if !self.take_heres(command, line, &mut units)? {
+            return self.add(command);
         }
-        Ok(())
+        if has_other_interpreter(line.file, &units) {
+            return Ok(());
+        }
+        self.add(&units)
+    }
+
+    /// Takes the here-documents of an instruction off what isn't read, and adds their lines; answers whether each is ended. Where one isn't,
+    /// the lines behind the instruction are read as others, and a call of sed in them is noted once.
+    fn take_heres(
+        &mut self,
+        command: &[Unit],
+        line: Part<'a>,
+        units: &mut Vec<Unit>,
+    ) -> Result<bool> {
+        let behind_line = self.rest;
+        let mut words = command;
+        for _ in 0..command.len() {
+            let Some((here, behind)) = here_of(words, line) else {
+                break;
+            };
+            let is_script = here.is_script && words.len() == command.len();
+            if self.is_without_heres || !self.take_here(Here { is_script, ..here }, units)? {
+                self.rest = behind_line;
+                return self.pass_heres();
+            }
+            words = behind;
+        }
+        Ok(true)
+    }
+
+    /// Answers that a here-document isn't ended. From the first one on the file is read as if it had none.
+    fn pass_heres(&mut self) -> Result<bool> {
+        if !self.is_without_heres {
+            self.is_without_heres = true;
+            self.host.note(self.rest.mention_of_sed())?;
+        }
+        Ok(false)
     }
 
     /// Takes the lines of a here-document off what isn't read, and adds them; answers whether it is ended. The last line is added only
@@ -134,6 +195,7 @@ impl<'a> Docker<'a> {
             if stripped.bytes() == here.delimiter {
                 if !here.is_script {
                     line.push(units)?;
+                    line.push_newline(units)?;
                 }
                 return Ok(true);
             }
@@ -220,43 +282,65 @@ fn has_other_interpreter(file: &[u8], units: &[Unit]) -> bool {
     })
 }
 
-/// The first here-document of an instruction with this last line. It is shell text by itself if nothing else stands in the instruction.
-fn here_of<'a>(units: &[Unit], line: Part<'a>) -> Option<Here<'a>> {
-    let mut before = None;
-    for (index, unit) in units.iter().enumerate() {
-        if unit.byte() == Some(b'<') && before != Some(b'<') {
-            let found = here_at(line.from(unit.start()), index == 0);
-            if found.is_some() {
-                return found;
-            }
+/// The first here-document in the words of an instruction with this last line, and the words behind its own. It is shell text by itself if
+/// nothing else stands there.
+fn here_of<'a, 'b>(units: &'b [Unit], line: Part<'a>) -> Option<(Here<'a>, &'b [Unit])> {
+    let mut rest = units;
+    for _ in 0..units.len() {
+        let count = word_length(rest);
+        let word = rest.get(..count).unwrap_or(&[]);
+        let behind = until_blank(rest.get(count..).unwrap_or(&[]), false);
+        let is_script = rest.len() == units.len() && behind.is_empty();
+        if let (Some(first), Some(last)) = (word.first(), word.last())
+            && let Some(here) = here_at(line.between(first.start(), last.end()), is_script)
+        {
+            return Some((here, behind));
         }
-        before = unit.byte();
+        rest = behind;
     }
     None
 }
 
-/// The here-document whose redirection begins the part: `<<`, perhaps `-`, and a name, perhaps quoted.
-fn here_at(whole: Part, is_first: bool) -> Option<Here<'_>> {
-    if !whole.starts_with("<<") {
-        return None;
+/// How many units are before a blank outside of quotes.
+fn word_length(units: &[Unit]) -> usize {
+    let mut quote = None;
+    let mut is_escaped = false;
+    for (index, unit) in units.iter().enumerate() {
+        let byte = unit.byte().unwrap_or(b'x');
+        if quote.is_none() && !is_escaped && is_in(byte, " \t") {
+            return index;
+        }
+        if is_escaped {
+            is_escaped = false;
+        } else if byte == b'\\' {
+            is_escaped = quote != Some(b'\'');
+        } else if quote == Some(byte) {
+            quote = None;
+        } else if quote.is_none() && is_in(byte, "\"'") {
+            quote = Some(byte);
+        }
     }
-    let hyphen = whole.skip(2);
-    let is_stripped = hyphen.begins_with(b'-');
-    let name = after_quote(hyphen.skip(usize::from(is_stripped)));
-    let behind = name.after_name();
-    if behind.start == name.start {
-        return None;
-    }
-    Some(Here {
-        delimiter: name.before(behind),
-        blanks: if is_stripped { "\t" } else { "" },
-        is_script: is_first && after_quote(behind).is_ended(),
-    })
+    units.len()
 }
 
-/// The part without a quote at its beginning.
-fn after_quote(part: Part) -> Part<'_> {
-    part.skip(usize::from(part.begins_with(b'"') || part.begins_with(b'\'')))
+/// The here-document whose redirection the word is: perhaps digits, `<<`, perhaps `-`, and a delimiter, perhaps quoted.
+fn here_at(word: Part, is_script: bool) -> Option<Here<'_>> {
+    let sign = word.after_any("0123456789");
+    let hyphen = sign.skip(2);
+    let is_stripped = hyphen.begins_with(b'-');
+    let name = hyphen.skip(usize::from(is_stripped));
+    if !sign.starts_with("<<") || name.len() == 0 || name.from_any("<").len() > 0 {
+        return None;
+    }
+    let delimiter = match name.bytes() {
+        [b'"', inner @ .., b'"'] | [b'\'', inner @ .., b'\''] => inner,
+        other => other,
+    };
+    Some(Here {
+        delimiter,
+        blanks: if is_stripped { "\t" } else { "" },
+        is_script,
+    })
 }
 
 /// Whether the line is a directive that has a backquote continue lines.
