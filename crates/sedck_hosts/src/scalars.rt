@@ -23,14 +23,28 @@ fn quoted_unit(part: Part, quote: u8) -> Option<Unit> {
     }
 }
 
-/// The unit for which an escape sequence between double quotes stands: a hole where that isn't one byte.
+/// The unit for which an escape sequence between double quotes stands: a hole where that isn't one byte, or the byte is given by digits.
 fn escaped_unit(part: Part) -> Unit {
     let next = part.start.saturating_add(1);
-    match part.file.get(next) {
-        Some(byte) if is_in(*byte, "\\\"/") => Unit::Byte(*byte, next),
-        Some(b'n') => Unit::Escape(b'\n', part.start),
-        Some(b't') => Unit::Escape(b'\t', part.start),
-        _ => Unit::made(part.start, next.saturating_add(1)),
+    let digits = match part.file.get(next) {
+        Some(byte) if is_in(*byte, "\\\"/ \t") => return Unit::Byte(*byte, next),
+        Some(b'n') => return Unit::Escape(b'\n', part.start),
+        Some(b't') => return Unit::Escape(b'\t', part.start),
+        Some(b'x') => 2,
+        Some(b'u') => 4,
+        Some(b'U') => 8,
+        _ => 0,
+    };
+    Unit::made(part.start, part.skip(2).skip(digits).start.min(part.end))
+}
+
+/// Whether an escape sequence stands for one of ASCII's bytes by its digits: it may be a part of the name of sed, or end it.
+pub(crate) fn is_ascii_escape(written: &[u8]) -> bool {
+    match written {
+        [b'\\', b'x' | b'u' | b'U', zeros @ .., high, _] => {
+            matches!(*high, b'0'..=b'7') && zeros.iter().all(|digit| *digit == b'0')
+        }
+        _ => false,
     }
 }
 

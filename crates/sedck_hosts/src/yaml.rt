@@ -2,8 +2,8 @@
 
 use crate::host::Host;
 use crate::parts::{Part, is, is_in, is_word_of};
-use crate::scalars::{header, line_unit, plain_scalar, quoted_units};
-use sedck_origin::Result;
+use crate::scalars::{header, is_ascii_escape, line_unit, plain_scalar, quoted_units};
+use sedck_origin::{Result, Unit};
 use std::alloc::Global;
 use std::collections::BTreeMap;
 
@@ -183,12 +183,24 @@ impl<'a> Yaml<'a> {
             }
             Some(sign @ (b'|' | b'>')) => self.read_block(value, sign),
             Some(quote @ (b'\'' | b'"')) => match quoted_units(self.alloc, value.text, quote)? {
-                Some(units) => self.host.add(units),
+                Some(units) => self.add_quoted(value.text, units),
                 None => self.pass_value(value),
             },
             Some(sign) if is_in(sign, "[{!%@`") => self.pass_value(value),
             _ => self.read_plain(value),
         }
+    }
+
+    /// Adds the text of a quoted scalar, and notes the first escape sequence in it that gives one of ASCII's bytes by its digits.
+    fn add_quoted(&mut self, scalar: Part, units: Vec<Unit>) -> Result<()> {
+        for unit in &units {
+            let written = scalar.between(unit.start(), unit.end()).bytes();
+            if is_ascii_escape(written) {
+                self.host.unread.push(unit.start())?;
+                break;
+            }
+        }
+        self.host.add(units)
     }
 
     /// Notes a call of sed in the node, with its anchor, of the alias that begins the text. Where no more may be looked at, the end of the
