@@ -222,6 +222,9 @@ ROWS = [
     ("ci.yml", [], "jobs:\n  a:\n    steps:\n      - run: sed p f\n      - name: x\n        run: |\n          sed 's/a/b/' f\n          sed d\n", 0, [("4:14", A, ["p", "f"]), ("7:11", A, ["s/a/b/", "f"]), ("8:11", A, ["d"])]),
     ("ci.yml", [], "a:\n  script:\n    - sed p f\n    - \"sed \\\"s/a/b/\\\"\"\n    - 'sed ''s/c/d/'''\n", 0, [("3:7", A, ["p", "f"]), ("4:8", A, ["s/a/b/"]), ("5:8", A, ["s/c/d/"])]),
     ("a.spec", [], "Name: a\n%prep\nsed -i 's/%%a/b/' f\n%build\nsed p\n%files\nsed\n", 0, [("3:1", A, ["-i", "s/%a/b/", "f"]), ("5:1", A, ["p"])]),
+    # Lines that a directive leaves out may be a part of a script or a call.
+    ("a.spec", [], "%build\nsed '\n%if 0\nb\n%endif\n:a\nba\n' f\nsed \\\n%if 0\n -n \\\n%endif\n p f\n", 5, [("2:1", UNKNOWN, None), ("9:1", UNKNOWN, None)]),
+    ("a.spec", [], "%build\n%if 0\nsed p f\n%else\nsed d f\n%endif\nsed x f\nsed '\np\n%dnl b\nd' f\n", 0, [("3:1", A, ["p", "f"]), ("5:1", A, ["d", "f"]), ("7:1", A, ["x", "f"]), ("8:1", A, ["\np\nd", "f"])]),
     ("ci.yml", [], "a:\n  - run: \"sed ':a;s/aa\\x62/aab/;ta' f\"\n  - run: \"sed\\ p f; echo \\U0001F600\"\n", 1, [("2:11", LOOP, None), ("3:11", A, ["p", "f"])]),
     ("Makefile.in", [], "SED = @SED@\nX = @X@\nall:\n\t$(SED) 1d f\n\tsed 's/$(X)/b/' f\n", 5, [("4:2", IF, ["1d", "f"]), ("5:2", IF, None)]),
     ("Makefile", [], "X = a ;\\\n\tsed -i 1d f\nY ?= b\nall:\n\tsed 's/$(Y)/c/' f\n", 5, [("2:2", A, ["-i", "1d", "f"]), ("5:2", IF, None)]),

@@ -23,7 +23,9 @@ enum Sort {
     Section,
     /// It is left out of a section's text ..
     Directive,
-    /// .. and gives a macro its text.
+    /// .. and other lines or a file's take its place, or leave it ..
+    Branch,
+    /// .. or it gives a macro its text.
     Definition,
 }
 
@@ -39,9 +41,9 @@ static WORDS: &'static [(Sort, &'static str)] = &[
     (Sort::Script, "%transfiletriggerun %transfiletriggerpostun"),
     (Sort::Section, "%files %description %changelog %package"),
     (Sort::Section, "%sourcelist %patchlist %sepolicy"),
-    (Sort::Directive, "%if %ifarch %ifnarch %ifos %ifnos %else"),
-    (Sort::Directive, "%elif %elifarch %elifos %endif %undefine"),
-    (Sort::Directive, "%include %dnl"),
+    (Sort::Branch, "%if %ifarch %ifnarch %ifos %ifnos %else"),
+    (Sort::Branch, "%elif %elifarch %elifos %endif %include"),
+    (Sort::Directive, "%undefine %dnl"),
     (Sort::Definition, "%define %global"),
 ];
 
@@ -93,6 +95,7 @@ impl Spec {
         let (directive, _) = line.after_blanks().split_word();
         let (word, rest) = line.split_word();
         match (named(WORDS, directive), named(WORDS, word)) {
+            (Some(Sort::Branch), _) => self.read_branch(line),
             (Some(sort @ (Sort::Directive | Sort::Definition)), _) => {
                 self.is_definition = matches!(sort, Sort::Definition);
                 self.read_text(line, true)
@@ -101,6 +104,17 @@ impl Spec {
             (_, Some(Sort::Section)) => self.end_section(line, false),
             _ => self.read_text(line, self.is_continued),
         }
+    }
+
+    /// Reads a directive by which lines are left out or put in: a line by itself that isn't known, since a command or a quote may be open.
+    fn read_branch(&mut self, line: Part) -> Result<()> {
+        self.is_left_out = false;
+        self.add(Unit::made(line.start, line.end))?;
+        if self.is_text() {
+            line.push_newline(&mut self.units)?;
+        }
+        self.is_definition = false;
+        self.read_text(line, true)
     }
 
     /// Reads a line of a section.
