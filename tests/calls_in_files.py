@@ -204,6 +204,16 @@ ROWS = [
     ("Makefile", [], "SED = sed\nP = u\nall: ; $(SED) 's/$(P)/$(Q)/'\n", 5, [("3:8", IF, None)]),
     ("x.mk", [], "ifdef A\nall:\n\tif sed p; then \\\n\t  sed d; fi\nendif\n", 0, [("3:5", A, ["p"]), ("4:4", A, ["d"])]),
     ("Makefile.in", [], "all:\n\t@SED@ 's/@a@/b/'\n", 5, [("2:2", IF, None)]),
+    # What `$(eval ..)` reads is expanded twice, so that `$$` may begin a reference of make's. No other file is read so, nor is a recipe of a rule.
+    ("Makefile", [], "S = aaaaaa\ndefine T\nall:\n\tsed ':a;s/aaaaaa/$$(S)/;ta' f\n\tsed '$$d' f\n\tsed p $$f $$@\nendef\n$(eval $(T))\n", 1, [("4:2", LOOP, [":a;s/aaaaaa/x/;ta", "f"]), ("5:2", UNKNOWN, None), ("6:2", IF, None)]),
+    ("Makefile", [], "S = a\nT = all: ; sed 's/x/$$S/' f\n${eval $(T)}\n", 5, [("2:12", IF, ["s/x/x/", "f"])]),
+    ("Makefile", [], "define T\nsed 's/a$$/b/' f\nendef\nall:\n\t$(T)\n", 0, [("2:1", A, ["s/a$/b/", "f"])]),
+    ("Makefile", [], "$(eval X = 1)\nall:\n\tsed 's/a$$/b/' f\n", 0, [("3:2", A, ["s/a$/b/", "f"])]),
+    # Between `define` and `endef` make joins lines by a space, and halves backslashes before the one that joins them.
+    ("Makefile", [], "define T\nsed 's/x/b\\\n/' f\nsed -n\\\np f\nsed 's/a\\\\\\\n\tb/c/' f\nendef\nall:\n\t$(T)\n", 5, [("2:1", IF, ["s/x/bx/", "f"]), ("4:1", UNKNOWN, ["-nxp", "f"]), ("6:1", UNKNOWN, None)]),
+    ("Makefile", [], "define T\nsed -n \\\n\t's/a/b/; \\\np' f # x \\\n p\nif x; then \\\n\tsed p f; \\\nfi\nendef\nall:\n\t$(T)\n", 0, [("2:1", A, ["-n", "s/a/b/; p", "f"]), ("7:2", A, ["p", "f"])]),
+    # Another program than a shell may run the recipes.
+    ("Makefile", [], "SHELL := /bin/bash -e\nall: SHELL = $(X)\nall:\n\tSHELL=perl sed p f\n", 0, [("4:13", A, ["p", "f"])]),
     # Dockerfiles, files of continuous integration, spec files, sources of Autoconf.
     ("Dockerfile", [], "FROM a\nRUN a && \\\n    # b\n    sed -i 's/a/b/' f\nRUN [\"sed\", \"p\"]\n", 0, [("4:5", A, ["-i", "s/a/b/", "f"]), ("5:6", A, ["p"])]),
     ("Dockerfile", [], 'FROM a\nRUN ["sed", "-n", "s/a b/$x*/", "f", \\\n "~"]\nCMD [ "sh" , "-c" , "sed p f" ]\nHEALTHCHECK CMD ["sed","d","$f"]\n', 0,
@@ -582,6 +592,8 @@ UNREAD = [
     ("a.sh", "x=\"${y:-$'}'}\"; sed p f\n", ["1:9"]), ("a.sh", ": || x=\"$(( ${y:-'}))\"  #'} ))\"; sed p f\n", ["1:18"]), ("a.sh", ": || x=$((' ))  #' )); sed p f\n", ["1:11"]),
     ("a.bash", ": || x=\"$[ ' ]\"  #' ]\"; sed p f\n", ["1:9"]), ("configure.ac", "AC_INIT([a])\nx=\"$[1]\"\n", []),
     ("a.yml", "a: {run: sed p f}\n? run\n: sed p f\nmy key: {run: sed p f}\n", ["1:10", "3:3", "4:15"]),
+    ("Makefile", "define T\nall:\n\tsed 's/x$$//' f\n\tx=$$(sed p f)\nendef\n$(eval $(T))\n", ["3:2", "4:7"]),
+    ("Makefile", "all: export SHELL = /usr/bin/python3 # x\nall:\n\tsed p f\nX := $(shell sed d f)\n", ["3:2", "4:14"]),
     ("Dockerfile", "FROM a\nRUN sh <<E\"O\"F\nsed ':x;bx' f\nEOF\nRUN sed p f\n", ["3:1"]),
     ("ci.yml", "a:\n  - run: \"sed\\x20p f\"\n  - run: \"s\\u0065d p f\"\n", ["2:14", "3:12"]),
     ("a.sh", "echo sed -n p; which sed; apt-get install sed\ngrep sed -n f\n", []), ("a.sh", "sed $'a\\'\n'\n", ["1:8"]),

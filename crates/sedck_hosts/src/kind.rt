@@ -178,8 +178,19 @@ pub(crate) fn interpreter_kind(bytes: &[u8]) -> Option<Kind> {
 fn interpreter(bytes: &[u8]) -> Option<&[u8]> {
     let rest = Part::whole(bytes.strip_prefix(b"#!")?);
     let line = rest.to(rest.from_any("\n\r").start).after_blanks();
-    let (word, _) = line.after_words(7, is_passed).split_word();
-    Some(without_path(word))
+    Some(program_of(line))
+}
+
+/// The name of the program that the words run, without the path to it.
+fn program_of(words: Part) -> &[u8] {
+    let (word, _) = words.after_words(7, is_passed).split_word();
+    without_path(word)
+}
+
+/// Whether the words run a shell of POSIX's, which may be a program of Windows.
+pub(crate) fn is_shell(words: Part) -> bool {
+    let name = program_of(words);
+    program_kind(name.strip_suffix(b".exe").unwrap_or(name)) == Some(Kind::Shell)
 }
 
 /// Whether the word of a first line isn't the interpreter's: a program that runs the next one, an option, or an assignment.

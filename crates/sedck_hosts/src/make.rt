@@ -1,7 +1,10 @@
 //! Makefiles: lines of recipes, `$(shell ..)`, and assignments (POSIX.1-2024 XCU make, and GNU make).
 
 use crate::host::{Assignment, Host};
-use crate::make_text::{Arguments, Reading, after_conditionals, read_make_text, reference_end};
+use crate::kind::is_shell;
+use crate::make_text::{
+    Arguments, Reading, after_conditionals, called_name, read_make_text, reference_end,
+};
 use crate::parts::{Part, is, is_in, is_word_of};
 use sedck_origin::{Result, Unit};
 use std::alloc::Global;
@@ -40,6 +43,10 @@ struct Make {
     defines: usize,
     /// Whether lines of recipes may begin with another byte than a tab, from a line before on.
     is_prefixed: bool,
+    /// Whether the file has `$(eval ..)`, which expands what is defined a second time.
+    is_evaluated: bool,
+    /// Whether a line of the file names another program than a shell of POSIX's that runs recipes.
+    is_foreign: bool,
 }
 
 /// The shell text of a makefile.
@@ -50,6 +57,8 @@ pub(crate) fn host_of_make(alloc: Global, file: &[u8]) -> Result<Host> {
         is_in_rule: false,
         defines: 0,
         is_prefixed: false,
+        is_evaluated: has_eval(Part::whole(file)),
+        is_foreign: has_foreign_shell(Part::whole(file)),
     };
     let mut rest = Part::whole(file);
     for _ in 0..file.len() {
@@ -60,6 +69,51 @@ pub(crate) fn host_of_make(alloc: Global, file: &[u8]) -> Result<Host> {
         make.read_line(line)?;
     }
     Ok(make.host)
+}
+
+/// Whether make evaluates a text of the file as lines of a makefile.
+fn has_eval(file: Part) -> bool {
+    (file.start..file.end).any(|offset| is_eval(file.from(offset)))
+}
+
+/// Whether `$(eval ..)` begins the part, or what is behind the bracket of `$(call eval,..)`.
+fn is_eval(part: Part) -> bool {
+    if part.starts_with("$(") || part.starts_with("${") {
+        return is(called_name(part.skip(2)), "eval");
+    }
+    part.starts_with("call ") && part.skip(5).after_blanks().starts_with("eval,")
+}
+
+/// Whether a line of the file sets SHELL to what is known to be no shell of POSIX's. It runs all recipes, also those before that line.
+fn has_foreign_shell(file: Part) -> bool {
+    let mut rest = file;
+    for _ in 0..file.len() {
+        let Some((line, next)) = rest.split_line(true) else {
+            break;
+        };
+        if sets_foreign_shell(line) {
+            return true;
+        }
+        rest = next;
+    }
+    false
+}
+
+/// Whether the line sets SHELL so, perhaps for its targets alone. A value that isn't known as a whole may be a shell.
+fn sets_foreign_shell(line: Part) -> bool {
+    let statement = after_modifiers(after_conditionals(line));
+    let behind = until(statement, ":#;").after_any(":");
+    let found = definition_at(statement).or(definition_at(after_modifiers(behind)));
+    let Some(definition) = found else {
+        return false;
+    };
+    let value = definition.value.to(definition.value.from_any("#").start);
+    !line.starts_with("\t")
+        && is(definition.name.bytes(), "SHELL")
+        && !is_word_of(definition.sign, "+= !=")
+        && value.from_any("$@").len() == 0
+        && !value.is_ended()
+        && !is_shell(value)
 }
 
 impl Make {
@@ -96,7 +150,7 @@ impl Make {
         match word {
             b"endef" => self.defines = self.defines.saturating_sub(1),
             b"define" => self.defines = self.defines.saturating_add(1),
-            _ => return self.add(command_of(line), Reading::Recipe),
+            _ => return self.add(command_of(line), Reading::Defined),
         }
         Ok(())
     }
@@ -150,13 +204,22 @@ impl Make {
 
     /// Adds a part, if it is a text that the shell reads, and answers the arguments of `$(shell ..)` in it.
     fn add_text<'a>(&mut self, part: Part<'a>, reading: Reading) -> Result<Arguments<'a>> {
-        let text = read_make_text(self.alloc, part, reading)?;
+        let is_twice = self.is_evaluated && matches!(reading, Reading::Defined);
+        let text = read_make_text(self.alloc, part, reading, is_twice)?;
         let (units, arguments, mut unread) = (text.units, text.arguments, text.unread);
         self.host.unread.append(&mut unread)?;
-        if matches!(reading, Reading::Recipe | Reading::Argument(_)) {
-            self.host.add(units)?;
+        if !matches!(reading, Reading::Value | Reading::Unread) {
+            self.add_units(part, units)?;
         }
         Ok(arguments)
+    }
+
+    /// Adds the units of a part as a text that the shell reads. A call of sed in one that another program reads is noted.
+    fn add_units(&mut self, part: Part, units: Vec<Unit>) -> Result<()> {
+        if self.is_foreign {
+            return self.host.note(part.mention_of_sed());
+        }
+        self.host.add(units)
     }
 
     /// Reads an assignment. With `!=` its value is shell text; after `+=` and `!=` the value of the name isn't known. Behind one that changes
@@ -172,9 +235,11 @@ impl Make {
             return self.add_unknown(line, definition);
         }
         self.add(line, Reading::Value)?;
-        let text = read_make_text(self.alloc, value, Reading::Value)?;
+        let text = read_make_text(self.alloc, value, Reading::Value, self.is_evaluated)?;
+        let mut unread = text.unread;
+        self.host.unread.append(&mut unread)?;
         if is(definition.sign, "!=") {
-            self.host.add(text.units)?;
+            self.add_units(value, text.units)?;
             return self.assign_unknown(name, line);
         }
         self.assign(name, text.units)

@@ -15,6 +15,8 @@ pub(crate) enum Reading {
     Unread,
     /// The argument of `$(shell ..)`: continued lines are joined by a space. So many of these are around it, with its own.
     Argument(usize),
+    /// A line between `define` and `endef`: continued lines are joined by a space.
+    Defined,
 }
 
 /// A reference that isn't closed.
@@ -70,6 +72,10 @@ pub(crate) struct MakeText<'a> {
     pub unread: Vec<usize>,
     whole: Part<'a>,
     reading: Reading,
+    /// Whether make may expand the part twice, as `$(eval ..)` does: then `$$` begins a reference.
+    is_twice: bool,
+    /// Whether a byte of it may be lost then.
+    is_lossy: bool,
     opens: Vec<Open>,
     /// How many of them are `$(shell ..)` whose argument is read by itself, with those around the part.
     shells: usize,
@@ -80,11 +86,12 @@ pub(crate) struct MakeText<'a> {
     rest: Part<'a>,
 }
 
-/// Reads a part of a makefile.
+/// Reads a part of a makefile, which may be expanded twice.
 pub(crate) fn read_make_text<'a>(
     alloc: Global,
     whole: Part<'a>,
     reading: Reading,
+    is_twice: bool,
 ) -> Result<MakeText<'a>> {
     let mut text = MakeText {
         units: Vec::new(alloc),
@@ -92,6 +99,8 @@ pub(crate) fn read_make_text<'a>(
         unread: Vec::new(alloc),
         whole,
         reading,
+        is_twice,
+        is_lossy: false,
         opens: Vec::new(alloc),
         shells: match reading {
             Reading::Argument(level) => level,
@@ -117,13 +126,16 @@ impl<'a> MakeText<'a> {
         self.end_part()
     }
 
-    /// Ends the part, where a reference may be open.
+    /// Ends the part, where a reference may be open. A call of sed is noted where a byte may be lost.
     fn end_part(&mut self) -> Result<()> {
         if let Some(Open { start, .. }) = self.opens.first().copied() {
             self.units.push(Unit::made(start, self.whole.end))?;
             if !self.is_noted {
-                return self.note(self.whole.from(start).mention_of_sed());
+                self.note(self.whole.from(start).mention_of_sed())?;
             }
+        }
+        if self.is_lossy {
+            return self.note(self.whole.mention_of_sed());
         }
         Ok(())
     }
@@ -168,11 +180,14 @@ impl<'a> MakeText<'a> {
     fn read_outside(&mut self, here: Part<'a>, byte: u8) -> Result<()> {
         match byte {
             b'\\' => self.read_backslash(here),
-            b'#' if matches!(self.reading, Reading::Value | Reading::Unread) => {
-                Ok(self.end_text())
-            }
+            b'#' if self.has_comments() => Ok(self.end_text()),
             _ => self.add(Unit::Byte(byte, here.start)),
         }
+    }
+
+    /// Whether a `#` begins a comment of make's in the part.
+    fn has_comments(&self) -> bool {
+        matches!(self.reading, Reading::Value | Reading::Unread)
     }
 
     /// Leaves the rest of the part.
@@ -199,6 +214,7 @@ impl<'a> MakeText<'a> {
         let (next, after) = (here.skip(1), here.skip(2));
         match next.first() {
             None => self.add(Unit::made(here.start, next.start)),
+            Some(b'$') if self.is_twice && self.opens.is_empty() => self.read_twice(here),
             Some(b'$') => self.add_before(after, Unit::Byte(b'$', next.start)),
             Some(byte @ (b'(' | b'{')) => self.open(here, Brackets::new(byte)),
             Some(b'\\') if !matches!(self.reading, Reading::Recipe) && after.starts_with("\n") => {
@@ -208,6 +224,24 @@ impl<'a> MakeText<'a> {
             }
             Some(_) => self.add_before(after, Unit::made(here.start, after.start)),
         }
+    }
+
+    /// Reads several dollar signs of a part that may be expanded twice: with their reference they are a hole, in which a call of sed is noted.
+    /// Where they have none a byte behind them may be lost.
+    fn read_twice(&mut self, here: Part<'a>) -> Result<()> {
+        self.quoting.pass(&self.units);
+        let behind = here.after_any("$");
+        let name = behind.after_name();
+        let mut end = name.start;
+        if behind.begins_with_any("({") {
+            end = reference_end(here.from(behind.start.saturating_sub(1)));
+        } else if self.quoting.is_bare() && behind.begins_with_any("@<^*?") {
+            end = behind.skip(1).start;
+        } else if end == behind.start {
+            self.is_lossy = true;
+        }
+        self.note(here.to(end).mention_of_sed())?;
+        self.add_before(here.from(end), Unit::made(here.start, end))
     }
 
     /// Begins a reference with a bracket.
@@ -281,20 +315,24 @@ impl<'a> MakeText<'a> {
                 here.to(after.start).push(&mut self.units)
             }
             _ if has_newline => self.join_lines(here, after),
-            Reading::Value | Reading::Unread => self.read_backslashes(here),
+            Reading::Value | Reading::Unread | Reading::Defined => self.read_backslashes(here),
             _ => self.add(Unit::Byte(b'\\', here.start)),
         }
     }
 
-    /// Reads backslashes in a value: before `#` each two are one, and one more makes that a `#`, which begins a comment otherwise.
+    /// Reads backslashes in lines that are joined: before a newline each two are one, and one more joins the lines. So it is before `#` in a
+    /// value, where one more makes that a `#`, which begins a comment otherwise.
     fn read_backslashes(&mut self, here: Part<'a>) -> Result<()> {
         let behind = here.after_any("\\");
         let count = here.before(behind).len();
-        if behind.first() != Some(b'#') {
-            // The last one may be before a newline.
-            let count = count.saturating_sub(1).max(1);
-            self.rest = here.skip(count);
-            return here.to(self.rest.start).push(&mut self.units);
+        if behind.first() == Some(b'\n') {
+            // The last one is read with the newline.
+            self.rest = here.skip(count.saturating_sub(1));
+            return here.to(here.skip(count / 2).start).push(&mut self.units);
+        }
+        if behind.first() != Some(b'#') || !self.has_comments() {
+            self.rest = behind;
+            return here.to(behind.start).push(&mut self.units);
         }
         here.to(here.skip(count / 2).start).push(&mut self.units)?;
         if count % 2 == 0 {
@@ -365,7 +403,7 @@ fn first_blank(blanks: Part) -> Option<Unit> {
 }
 
 /// The name of the function whose call begins the part: it is followed by a blank or the end of a line that is continued.
-fn called_name(part: Part) -> &[u8] {
+pub(crate) fn called_name(part: Part) -> &[u8] {
     let name = part.after_any("abcdefghijklmnopqrstuvwxyz-");
     let is_called = name.begins_with_any(" \t\n") || name.starts_with("\\\n");
     if is_called { part.before(name) } else { &[] }
