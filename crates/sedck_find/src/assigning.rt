@@ -98,13 +98,23 @@ impl Names<'_> {
     pub fn note_command(&mut self, words: &[ShellWord]) -> Result<()> {
         let name = words.iter().position(|word| !is_assignment(&word.units));
         let count = name.unwrap_or(words.len());
+        let called = without_prefixes(rest(words, count));
+        let is_reading = self.is_reading(called)?;
         for word in words.iter().take(count) {
-            // Before a command IFS is set for that alone, and another variable for all that it runs, but not for its own words.
-            if !self.is_make() && (name.is_none() || !begins_with(&word.units, "IFS=")) {
+            // A variable before a command is set for all that it runs, but not for its own words; and `read` runs nothing.
+            if !self.is_make() && !(is_reading && begins_with(&word.units, "IFS=")) {
                 self.note_word(word, name.is_none())?;
             }
         }
-        self.note_utility(without_prefixes(rest(words, count)))
+        self.note_utility(called)
+    }
+
+    /// Whether the command is `read`, and no function of that name.
+    fn is_reading(&self, called: &[ShellWord]) -> Result<bool> {
+        match called {
+            [name, ..] if name.is("read") => Ok(!self.is_function(&name.units)?),
+            _ => Ok(false),
+        }
     }
 
     /// Notes what a command with these words sets by its operands.
