@@ -46,8 +46,8 @@ static WRAPPERS: &'static [(&'static str, &'static str, &'static str, usize)] = 
     ("exec", "a", "", 0),
     ("command", "", "vV", 0),
     ("xargs", "adEILnPsJ", "", 0),
-    ("sudo", "ugpChrtTUDRac", "el", 0),
-    ("doas", "uCa", "", 0),
+    ("sudo", "ugpChrtTUDRac", "elsi", 0),
+    ("doas", "uCa", "s", 0),
     ("nice", "n", "", 0),
     ("ionice", "cn", "pPu", 0),
     ("nohup setsid builtin busybox toybox", "", "", 0),
@@ -111,9 +111,16 @@ pub(crate) fn before_command(wrapper: Wrapper, word: &[Unit]) -> Before {
         _ if is_word_in(word, LONG) => Before::Awaiting,
         // What is split there may be another command.
         _ if wrapper.names == "env" && begins_with(word, "--s") => Before::Stop,
+        // That is `--shell` or `--login`: a shell expands `$` in the words.
+        _ if wrapper.names == "sudo" && is_of_shell(word) => Before::Stop,
         _ if word.len() > 2 => Before::Option,
         _ => Before::End,
     }
+}
+
+/// Whether the option of `sudo` has a shell run the command, or runs none.
+fn is_of_shell(word: &[Unit]) -> bool {
+    begins_with(word, "--sh") || begins_with(word, "--l")
 }
 
 impl Wrapper {
