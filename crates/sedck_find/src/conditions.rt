@@ -5,7 +5,7 @@ use crate::parts::Runner;
 use crate::script::Around;
 use crate::words::CallWord;
 use sedck_call::{Call, CallOption, Given, Piece, Taken};
-use sedck_origin::{Hole, Result, Way};
+use sedck_origin::{Hole, Origin, Result, Way};
 use sedck_shell::Pattern;
 use std::alloc::Global;
 
@@ -72,8 +72,10 @@ impl Conditions {
             }
             Given::Alone(_, _) => self.add_word(word),
             Given::Operand(number) if self.script == Some(number) => self.add_pattern(word),
-            // After the word that ends the options there are none.
-            Given::Operand(number) if self.end.is_some_and(|end| end < number) => Ok(()),
+            // After the word that ends the options there are none, but what is put in before a shell reads the line may end the command.
+            Given::Operand(number) if self.end.is_some_and(|end| end < number) => {
+                self.add_holes(word, Role::Operand, true)
+            }
             Given::Operand(_) => self.add_operand(word),
         }
     }
@@ -82,9 +84,26 @@ impl Conditions {
     fn add_word(&mut self, word: &CallWord) -> Result<()> {
         if let Some(hole) = word.open_hole() {
             self.is_unknown |= word.is_hole(0) || hole.way == Way::Several;
-            self.push(hole, Role::Word)?;
+            self.add_holes(word, Role::Word, false)?;
         }
         self.add_pattern(word)
+    }
+
+    /// Adds this condition on each hole of the word of which a shell may make several words, or on those alone that are put in before a
+    /// shell reads the line.
+    fn add_holes(&mut self, word: &CallWord, role: Role, are_made: bool) -> Result<()> {
+        let mut last = None;
+        for origin in &word.traced.origins {
+            let Origin::Hole(hole) = *origin else {
+                continue;
+            };
+            let is_open = hole.way.is_made() || (hole.way != Way::Quoted && !are_made);
+            if is_open && last != Some(hole) {
+                self.push(hole, role)?;
+            }
+            last = Some(hole);
+        }
+        Ok(())
     }
 
     /// Adds the condition on a word that is a pattern.
@@ -97,12 +116,15 @@ impl Conditions {
 
     /// Adds the conditions on an operand, which must be no option. A name that `find` gives begins with where it began.
     fn add_operand(&mut self, word: &CallWord) -> Result<()> {
-        let first = word.hole_at(0).filter(|_| !word.is_path);
-        match word.open_hole().or(first) {
-            Some(hole) => self.push(hole, Role::Operand),
-            None if word.pattern == Pattern::First => self.push(word.place, Role::Names),
-            None => Ok(()),
+        let is_quoted = |hole: &Hole| !word.is_path && hole.way == Way::Quoted;
+        match word.hole_at(0).filter(is_quoted) {
+            Some(hole) => self.push(hole, Role::Operand)?,
+            None if word.pattern == Pattern::First && word.open_hole().is_none() => {
+                self.push(word.place, Role::Names)?
+            }
+            None => {}
         }
+        self.add_holes(word, Role::Operand, false)
     }
 }
 
