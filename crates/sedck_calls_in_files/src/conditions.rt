@@ -134,9 +134,12 @@ impl Conditions {
 /// Of which kind the condition is on a hole of this role.
 fn kind_of_role(role: Role) -> ConditionKind {
     match role {
-        Role::Expression | Role::List | Role::Replacement | Role::Text | Role::TextBegin => {
-            ConditionKind::Script
-        }
+        Role::Expression
+        | Role::List
+        | Role::Replacement
+        | Role::Text
+        | Role::TextBegin
+        | Role::Comment => ConditionKind::Script,
         Role::Word => ConditionKind::Word,
         Role::Operand | Role::Names | Role::Added => ConditionKind::Operand,
         Role::Pattern => ConditionKind::Pattern,

@@ -260,6 +260,7 @@ fn condition(alloc: Global, written: &str, hole: OpenHole) -> Result<String, All
 fn words_of_role(role: Role) -> &'static str {
     match role {
         Role::TextBegin => "it isn't empty, begins with no blank, and has no newline and no `\\`",
+        Role::Comment => "it has no newline, no carriage return and no `\\`",
         Role::Word => "it is a part of one word",
         Role::Operand => "no word of it begins with `-`",
         Role::Pattern =>

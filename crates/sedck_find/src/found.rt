@@ -165,6 +165,8 @@ pub enum Role {
     Text,
     /// The beginning of such a text.
     TextBegin,
+    /// A comment, which a carriage return ends for BusyBox.
+    Comment,
     /// A word of the call that isn't the script: there must be just one.
     Word,
     /// A word that must be an operand, and no option.

@@ -101,8 +101,8 @@ impl Roles {
                 (Role::List, "x")
             }
             Place::Replacement => (Role::Replacement, "&x"),
-            // A newline in the value would end a comment.
-            Place::Text | Place::Comment => (Role::Text, "x"),
+            Place::Text => (Role::Text, "x"),
+            Place::Comment => (Role::Comment, "x"),
             Place::TextBegin => (Role::TextBegin, "x"),
             _ => (Role::Text, ""),
         };
