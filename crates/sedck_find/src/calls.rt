@@ -7,7 +7,7 @@ use crate::found::{
 use crate::macros::Macros;
 use crate::mentions::{editor_in, mention_in};
 use crate::names::Names;
-use crate::overwriting::overwritten_by;
+use crate::overwriting::{overwritten_by, runs_elsewhere};
 use crate::parts::{Part, Runner, parts_of};
 use crate::programs::Program;
 use crate::replaced::with_holes;
@@ -219,6 +219,7 @@ fn found_call(
         name,
         runner: part.run.runner,
         here,
+        is_elsewhere: runs_elsewhere(part.before),
     };
     let mut script = match changed.or((!are_known).then_some(Unknown::Words)) {
         Some(unknown) => FoundScript::Unknown(unknown),

@@ -5,26 +5,32 @@ use crate::names::{Names, replaced_name};
 use crate::parts::Runner;
 use crate::script::Around;
 use crate::texts::Held;
-use crate::units::is_one_in;
+use crate::units::{is_one_in, is_word_in, last_part};
 use crate::words::{Filler, STANDARD};
 use sedck_call::{Call, CallOption, Given, path_of};
-use sedck_origin::{Origin, Result, Traced, hole_name};
+use sedck_origin::{Origin, Result, Traced, begins_with, hole_name, is_text};
+use sedck_parts::{Place, Reading};
 use sedck_shell::{ShellWord, Target};
+use std::alloc::Global;
 
 /// The most redirections of a call that are looked at, so that the time stays linear.
 const MOST: usize = 100;
 
-/// A file that is opened for writing where a call with these words runs, if the call reads it, as an operand or as its standard input: one
-/// to which its output goes, or that the shell empties.
+/// A file that is opened for writing where a call with these words runs, if the call reads it, as an operand, by `r` or as its standard
+/// input: one to which its output goes, or that the shell empties.
 pub(crate) fn overwritten_by(
     filler: &mut Filler<'_>,
     held: &Held,
     script: &FoundScript,
     around: Around<'_>,
 ) -> Result<Option<Overwritten>> {
-    let FoundScript::Text { call, .. } = script else {
+    let FoundScript::Text { call, text, .. } = script else {
         return Ok(None);
     };
+    if held.command.targets.is_empty() {
+        return Ok(None);
+    }
+    let others = paths_read(filler.names.alloc, &text.bytes)?;
     // With -i no line goes to the output.
     let has_no_output = call.given.iter().any(is_in_place);
     for target in held.command.targets.iter().take(MOST) {
@@ -32,7 +38,12 @@ pub(crate) fn overwritten_by(
             continue;
         }
         if let Some(path) = path_at(filler, &target.word)? {
-            if is_read(filler, held, call, around, &path)? {
+            // Where the call runs in another folder, a path that begins there is none from here.
+            let is_same = !around.is_elsewhere || path.starts_with(b"/");
+            let is_other = others
+                .iter()
+                .any(|other| other.as_slice() == path.as_slice());
+            if is_same && (is_other || is_read(filler, held, call, around, &path)?) {
                 return Ok(overwritten(target));
             }
         }
@@ -48,6 +59,41 @@ fn overwritten(target: &Target) -> Option<Overwritten> {
         end: units.last()?.end(),
         is_emptied: target.is_emptied,
         is_output: target.is_output,
+    })
+}
+
+/// The paths of the files that the script reads by `r`. A name has no part that isn't known.
+fn paths_read(alloc: Global, script: &[u8]) -> Result<Vec<Vec<u8>>> {
+    let mut paths = Vec::new(alloc);
+    let mut name = Vec::new(alloc);
+    let mut reading = Reading::SCRIPT;
+    for byte in script {
+        let is_inside = reading.place == Place::Line && reading.command == b'r';
+        let is_blank = matches!(*byte, b' ' | b'\t') && name.is_empty();
+        reading = reading.after(*byte);
+        if is_inside && reading.place == Place::Line {
+            if !is_blank {
+                name.push(*byte)?;
+            }
+        } else if !name.is_empty() {
+            paths.push(path_of(alloc, &name)?)?;
+            name.clear();
+        }
+    }
+    if !name.is_empty() {
+        paths.push(path_of(alloc, &name)?)?;
+    }
+    Ok(paths)
+}
+
+/// Whether a command that these words call runs another one in another folder: `find -execdir`, `chroot`, and `env -C`.
+pub(crate) fn runs_elsewhere(words: &[ShellWord]) -> bool {
+    let is_env = words
+        .iter()
+        .any(|word| is_text(last_part(&word.units), "env"));
+    words.iter().any(|word| {
+        let is_moving = begins_with(&word.units, "-C") || begins_with(&word.units, "--c");
+        is_word_in(last_part(&word.units), "-execdir -okdir chroot") || (is_env && is_moving)
     })
 }
 

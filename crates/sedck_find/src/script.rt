@@ -21,6 +21,8 @@ pub(crate) struct Around<'a> {
     pub runner: Runner,
     /// The text that is its standard input.
     pub here: Option<&'a CallWord>,
+    /// Whether it may run in another folder than where its command stands.
+    pub is_elsewhere: bool,
 }
 
 /// The script of a call with these words.
