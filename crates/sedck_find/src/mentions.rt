@@ -143,6 +143,13 @@ fn has_text(units: &[Unit], is_run: bool) -> bool {
     })
 }
 
+/// Whether the units have a call of sed as a word of a text: what looks like one, where it isn't known that the text is run.
+pub(crate) fn may_have_call(units: &[Unit], is_run: bool) -> bool {
+    (0..units.len()).any(|index| {
+        begins_call(units, index) && (is_run || has_script(rest(units, index)))
+    })
+}
+
 /// Whether an option or a script may be after the name and the blank that begin the units: no word of letters, but for a single one.
 fn has_script(units: &[Unit]) -> bool {
     let is_letter = byte_at(units, 4).is_some_and(|byte| byte.is_ascii_alphabetic());

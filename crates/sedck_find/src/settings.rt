@@ -14,7 +14,7 @@ pub(crate) struct Settings {
     pub has_keywords: bool,
     /// A pattern without a match may vanish: `nullglob`.
     pub has_no_match: bool,
-    /// Quotes or signs of zsh may mean something else than elsewhere.
+    /// Quotes or signs of zsh, or `!` of bash, may mean something else than elsewhere.
     pub has_signs: bool,
     /// Another program may run in place of any that is named without a path.
     pub has_tables: bool,
@@ -38,13 +38,20 @@ pub(crate) fn settings_of(alloc: Global, file: &[u8]) -> Result<Settings> {
     let first = lines.next().unwrap_or(&[]);
     let line = if first.starts_with(b"#!") { first } else { &[] };
     let mut words = line.split(|byte| matches!(*byte, b' ' | b'\t'));
+    let mut others = line.split(|byte| matches!(*byte, b' ' | b'\t'));
     let tables_of_zsh = has_names(alloc, line, "zsh")? && has_names(alloc, file, TABLES_OF_ZSH)?;
     Ok(Settings {
         has_keywords: words.any(|word| word.starts_with(b"-") && word.contains(&b'k')),
         has_no_match: has_names(alloc, file, "nullglob")?,
-        has_signs: has_names(alloc, file, SIGNS)?,
+        // With -i bash keeps a history.
+        has_signs: has_names(alloc, file, SIGNS)? || others.any(is_interactive),
         has_tables: has_names(alloc, file, TABLES)? || tables_of_zsh,
     })
+}
+
+/// Whether the word of a first line has the option -i.
+fn is_interactive(word: &[u8]) -> bool {
+    word.starts_with(b"-") && !word.starts_with(b"--") && word.contains(&b'i')
 }
 
 /// Whether one of the names, which have spaces between, is in these bytes: in any letters, and with underscores, as zsh has them.
@@ -59,11 +66,14 @@ fn has_names(alloc: Global, bytes: &[u8], names: &str) -> Result<bool> {
 }
 
 impl Names<'_> {
-    /// Notes what `set` and `shopt` set by these operands. What isn't known may be any option.
+    /// Notes what `set`, `shopt` and a shell set by these operands. What isn't known may be any option.
     pub fn note_options(&mut self, operands: &[ShellWord]) {
-        let mut options = operands.split(|word| word.is("--"));
-        let mut options = options.next().unwrap_or(operands).iter();
-        self.settings.has_keywords |= options.any(|word| is_keyword_option(&word.units));
+        let mut parts = operands.split(|word| word.is("--"));
+        let options = parts.next().unwrap_or(operands);
+        let mut words = options.iter();
+        self.settings.has_keywords |= words.any(|word| is_keyword_option(&word.units));
+        // With a history bash may put other text in place of `!` and what follows.
+        self.settings.has_signs |= options.iter().any(|word| word.is("history"));
     }
 
     /// Notes that `hash` and `enable` put other programs in place of some: with an option `-p` or `-f`, or as `name=path`.
@@ -98,6 +108,6 @@ impl Names<'_> {
 }
 
 /// Whether a word after `set`, `shopt` or the name of a shell may set the option `keyword`.
-pub(crate) fn is_keyword_option(units: &[Unit]) -> bool {
+fn is_keyword_option(units: &[Unit]) -> bool {
     begins_open(units) || is_text(units, "keyword") || has_letter(units, "k")
 }

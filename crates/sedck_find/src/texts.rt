@@ -1,18 +1,24 @@
 //! The texts of a file, and those in them that are handed to a shell.
 
 use crate::assigning::may_fix_locale;
+use crate::mentions::may_have_call;
 use crate::names::Names;
 use crate::parts::{Part, parts_of};
 use crate::programs::Program;
 use crate::replaced::with_holes;
-use crate::settings::is_keyword_option;
 use crate::units::{
-    after, begins_open, bytes_of, has_letter, is_letters, is_word_in, last_part, rest, without,
+    after, begins_open, bytes_of, has_hole, has_letter, is_letters, is_word_in, last_part, rest,
+    without,
 };
 use sedck_hosts::is_dollar_quoting;
 use sedck_origin::{Result, Text, Unit, Way, begins_with, byte_at, is_text};
 use sedck_shell::{Form, ShellCommand, ShellWord, read_shell};
 use std::alloc::Global;
+
+/// Commands that hand their standard input to a shell, of which one may be elsewhere; and shells that read other languages.
+const HANDING: &str = "ssh rsh su runuser sudo doas chroot fakeroot docker podman kubectl script \
+    nsenter unshare setpriv pkexec newgrp sg at batch crontab parallel screen lxc-attach \
+    systemd-run vagrant csh tcsh fish yash";
 
 /// How many levels of texts in texts are read.
 const LEVELS: usize = 6;
@@ -92,6 +98,30 @@ impl Texts<'_> {
         for part in &parts {
             self.note_part(part, command, form)?;
         }
+        // `chroot` and the like run a shell where no command is named.
+        let is_known = match parts.as_slice() {
+            [] => words.iter().any(is_handing),
+            _ => parts.iter().any(|part| is_handing(part.name)),
+        };
+        if is_known || parts.iter().any(is_open) {
+            self.note_handed(command, is_known)?;
+        }
+        Ok(())
+    }
+
+    /// Notes the here-document and the here-string of a command that may hand them to a shell, where they have a call of sed; it may be known
+    /// to do so.
+    fn note_handed(&mut self, command: &ShellCommand, is_known: bool) -> Result<()> {
+        let document = command.here.as_deref().unwrap_or(&[]);
+        let string = match &command.here_string {
+            Some(word) => word.units.as_slice(),
+            None => &[],
+        };
+        for text in [document, string] {
+            if may_have_call(text, is_known) {
+                self.miss(text)?;
+            }
+        }
         Ok(())
     }
 
@@ -118,9 +148,7 @@ impl Texts<'_> {
 
     /// Notes the text that a shell is called with, which it reads in this form.
     fn note_shell(&mut self, part: &Part, command: &ShellCommand, other: Form) -> Result<()> {
-        let mut words = part.others.iter();
-        let has_keywords = words.any(|word| is_keyword_option(&word.units));
-        self.names.settings.has_keywords |= has_keywords;
+        self.names.note_options(part.others);
         match (shell_text(part.others), &command.here, &command.here_string) {
             (Input::Word(units), _, _) => self.note_other(units, part, other),
             (Input::Standard, Some(units), _) => self.note_text(units, other),
@@ -182,6 +210,16 @@ fn may_call(words: &[ShellWord]) -> bool {
         let is_open = begins_open(&word.units) && (next.is_empty() || begins_open(next));
         is_open || word.units.windows(3).any(|part| is_text(part, "sed"))
     })
+}
+
+/// Whether a command with this name hands its standard input to a shell.
+fn is_handing(name: &ShellWord) -> bool {
+    is_word_in(last_part(&name.units), HANDING)
+}
+
+/// Whether it isn't known which command it is.
+fn is_open(part: &Part) -> bool {
+    matches!(part.program, Program::Other) && has_hole(last_part(&part.name.units))
 }
 
 /// Whether a shell may read commands from a here-document or a here-string of this command.
