@@ -115,6 +115,18 @@ ROWS = [
     # What is set for one command alone isn't seen by its own words, and what is private isn't seen by recipes.
     ("a.sh", [], 'a=u sed "s/$a/b/"\n', 5, [("1:5", IF, ["s/x/b/"])]),
     ("a.sh", [], 'a=u\na=v sed "s/$a/b/"\n', 5, [("2:5", IF, ["s/x/b/"])]),
+    # IFS is, where the command isn't `read`.
+    ("a.sh", [], "x=bac\nIFS=a eval 'sed s/$x/y/ f'\n", 5, [("2:13", IF, ["s/x/y/", "f"])]),
+    ("a.sh", [], "f() { x=bac; sed s/$x/y/ f; }\nIFS=a f\n", 5, [("1:14", IF, ["s/x/y/", "f"])]),
+    ("a.sh", [], "x=bac\nIFS=a :\nsed s/$x/y/ f\n", 5, [("3:1", IF, ["s/x/y/", "f"])]),
+    ("a.sh", [], "x=bac\nwhile IFS= read -r l; do sed s/$x/y/ f; done\nIFS=: command read l\n", 5, [("2:26", IF, ["s/bac/y/", "f"])]),
+    # With a history bash may put other text in place of `!`.
+    ("a.bash", [], "set -o history -o histexpand\nprintf \"%s\\n\" x\nsed \"1!p\" f\n", 5, [("3:1", UNKNOWN, ["1!p", "f"])]),
+    ("a.bash", [], "#!/bin/bash -i\nsed \"1!p\" f\n", 5, [("2:1", UNKNOWN, ["1!p", "f"])]),
+    ("a.bash", [], "#!/bin/bash --posix\nset -H\nset -- history\nsed \"1!p\" f\n", 0, [("4:1", A, ["1!p", "f"])]),
+    # After the word that ends the options what is put in before a shell reads the line may end the command.
+    ("a.sh", [], "eval \"sed -e p -- $1 f\"\n", 5, [("1:7", IF, None)]),
+    ("Makefile", [], "all:\n\tsed -e p -- $(X) f\n", 5, [("2:2", IF, None)]),
     ("Makefile", [], "A = u\nprivate A = v\nB = w\nall:\n\tsed 's/$(A)/$(B)/' f\n", 5, [("5:2", IF, ["s/x/w/", "f"])]),
     ("Makefile", [], "export private A = u\nall:\n\tsed 's/$(A)/b/' f\n", 5, [("3:2", IF, ["s/x/b/", "f"])]),
     ("a.sh", [], 'a=\nsed "s/$a$a/b/"\nsed p f\n', 2, [("2:1", REFUSED, ["s//b/"]), ("3:1", A, ["p", "f"])]),
@@ -277,6 +289,7 @@ PLACES = [
     ("sed 'w /etc/x' f\n", ["1:6 absolute-name"]),
     ("sed \"s/a/$b/;s/$c/d/\"\n", ["1:10 open-hole", "1:16 open-hole", "1:6 no-space-bound"]),
     ("sed p \"$f\" -l5$x g\n", ["1:8 open-hole", "1:15 open-hole"]),
+    ("sed p \"$1\"$2 f -l5$x$y\n", ["1:8 open-hole", "1:11 open-hole", "1:19 open-hole", "1:21 open-hole"]),
     ("sed -e p -e \"$x\"\n", ["1:1 unknowable"]),
     ("a='s/x'\nsed \"$a\"\n", ["1:4 unterminated", "2:6 known-value"]),
     ("a=u\nb=\nsed \"s/$a/$b/\" f\nsed p\n", ["3:8 known-value", "3:11 known-value"]),
@@ -295,6 +308,9 @@ PLACES = [
     ("sed p g d/../f > ./f\n", ["1:18 writes-its-input"]),
     ("sed p f <<E >> f\nE\n", ["1:16 writes-its-input"]),
     ("sed p <<E < f > f\nE\n", ["1:17 writes-its-input"]),
+    ("sed 'r f' g >> f\n", ["1:16 writes-its-input"]),
+    ("{ sed '1r  ./f\np' g; } > f\n", ["2:11 writes-its-input"]),
+    ("env -C x sed p /f > /f\n", ["1:21 writes-its-input"]),
     ("sed p - < f 1>> f 2>&1\n", ["1:17 writes-its-input"]),
     ("sed p f > g > f\n", ["1:15 writes-its-input"]),
     # Each redirection that empties a file does so, also where the output goes elsewhere.
@@ -336,6 +352,7 @@ PLACES = [
     "sed p f < g >> g", "xargs sed -e p -- < f >> f", "sed p \"d/$(a)\" > \"d/$(a)\"", "sed p F > f", "sed p f <<< f > g", "sed p f 3>> f", "sed p f 0<> f",
     "{ sed p f | cat; } >> f", "{ sed p f >> g; } >> f", "{ x=$(sed p f); } >> f", "{ x=`sed p f`; } >> f", "{ cat g | sed p; } < f > f", "cat g | { sed p; } < g >> f",
     "{ sed p; } < f", "{ :; } > f; sed p f", "sed p f; { :; } > f", "{ sed p < g; } < f > f", "{ sed p f; } > g; { :; } > f",
+    "sed 'r g' h >> f", "env -C x sed p f > f", "chroot /m sed p f > f", "find x -execdir sed p f \\; > f",
     "a | (b)\n> f\nsed p f", "{ sed p f; } >&2", "{ { sed p f; } | cat; } >> f", "run() { sed p f; }\n{ run; } > f",
 )]
 
@@ -484,6 +501,9 @@ def conditions():
             fail("conditions in json: %s" % got)
         if [(kind["kind"], kind["conditions"], kind["calls"]) for kind in lines[-1]["conditions"]] != KINDS:
             fail("kinds of conditions: %s" % lines[-1]["conditions"])
+        message = explained('sed "p;#$x" f\n', "a.sh")[1][0]["findings"][0]["message"]
+        if "no newline, no carriage return" not in message:
+            fail("the condition on a comment: %s" % message)
         status, out, _ = run(folder, "--calls", ".")
         last = out.decode().splitlines()[-1]
         if status != 5 and last != "5 files with calls: 1 all accepted, 1 all accepted if what isn't known is as said, 3 with others":
@@ -579,6 +599,10 @@ UNREAD = [
     ("a.sh", "c=(sed p)\n\"${c[@]}\"\n", ["1:4"]), ("a.sh", ". /dev/stdin <<E\nsed p\nE\n", ["1:1"]), ("a.sh", "run sed -n p\n", ["1:5"]), ("a.sh", "sed p\0\n", ["1:6"]),
     ("a.sh", "run sed p f\nfind . -exec run sed p {} \\; -exec sed p {} \\;\nalias s='sed -n'\nssh h 'sed p'\nEDITOR='sed -i p' git commit\n", ["1:5", "2:18", "3:7", "4:7", "5:1"]),
     ("a.sh", "((sed p f))\n: &> g sed p f\n: &> g $x p f\nx=${ sed p f; }\n", ["1:3", "2:8", "3:8", "4:3"]),
+    ("a.sh", "sudo -s sed '$d' f\nsudo -Hi sed '$d' f\nsudo --login -u x sed '$d' f\nsudo -u si sed '$d' f\n", ["1:9", "2:10", "3:19"]),
+    ("a.sh", "su - u <<E\nsed p f\nE\nsudo -s <<E\nsed p f\nE\nssh h bash -s <<E\nsed p f\nE\nchroot /m <<E\nsed p f\nE\n\"$x\" <<E\nsed p f\nE\nssh h <<< 'sed p f'\n",
+     ["2:1", "5:1", "8:1", "11:1", "14:1", "16:12"]),
+    ("a.sh", "cat <<E\nsed p f\nE\nsudo tee f <<E\nsed p f\nE\n\"$x\" <<E\nuse sed to edit\nE\nssh h <<E\nuptime\nE\n", []),
     ("a.bash", "((sed + 1))\n: &> g sed p f\n[[ a || $x = sed ]]\n", []),
     ("a.sh", "cat <<EOF\nE\\\nOF\nsed p f\nEOF\ncat <<'EOF'\nE\\\nOF\nEOF\n", ["1:7"]),
     # A line with nothing before the backslash that joins it, and lines that bash joins before it reads the command.
