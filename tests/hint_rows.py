@@ -194,7 +194,7 @@ ADDRESSES = [
     Row("up to a multiple", "3,~4p\n", "for `5,~4` write `5,8`", "3,4p\n", LINES),
     Row("steps of s", "0~3s/./x/\n", "write `n`, `n` and `p`", "n\nn\ns/./x/\n", LINES, wrong=("n\nn\nd\ns/./x/\n",)),
     Row("later steps of p", "2~5p\n", "`n`, `p`, `n`, `n` and `n`", "n\np\nn\nn\nn\n", LINES),
-    Row("following lines of d", "/x/,+2d\n", "`$!N`, `$!N`, `d`", "/x/{\n$!N\n$!N\nd\n}\n", FOUND, wrong=("/x/{\nN\nN\nd\n}\n", "/x/,2d\n")),
+    Row("following lines of d", "/x/,+2d\n", "for `/x/,+2d` alone in a script write `/x/{`, `$!N`, `$!N`, `d`", "/x/{\n$!N\n$!N\nd\n}\n", FOUND, wrong=("/x/{\nN\nN\nd\n}\n", "/x/,2d\n")),
     Row("following lines of p", "/x/,+2p\n", "`p`, `n`, `p`, `n`, `p`", "/x/{\np\nn\np\nn\np\n}\n", FOUND),
     Row("following lines of a number", "2,+2p\n", "for `6,+2` write `6,8`", "2,4p\n", FOUND),
     Row("all but following lines", "/x/,+2!d\n", "for `/x/,+2!d` alone in a script write", "/x/{\nn\nn\nb\n}\nd\n", FOUND, wrong=("/x/!d\n",)),
