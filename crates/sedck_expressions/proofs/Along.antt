@@ -1,6 +1,7 @@
 -- Going through a list of items: what is left of it, and that nothing before is sought.
-use Rattle.sedck_expressions.proofs.Common.{◌≡◌, ℕ, ◌+◌, ◌≤◌, Bool, true, false, List, [], ◌∷◌, ◌++◌, drop, Option, Some, inl, inr, refl, sym, ap, ◌∙◌, arith, append_assoc, IsTrue, codes, ◌||◌, ◌&&◌, or-true, nat_tests, drop-drop, begins, unread, Cursor, HasOneAt, begins_pair, Tree, Trees, Then, Nil, Seq, Group, Repeat, Level, Position, SpellsItems, SpellsCount, behind, has_part, one_has_part, is_reference, is_anchor, repeats_anchor, has_misjudged_reference, is_misjudged, StopsAt, Sought}
+use Rattle.sedck_expressions.proofs.Common.{◌≡◌, ℕ, ◌+◌, ◌≤◌, Bool, true, false, List, [], ◌∷◌, ◌++◌, drop, Option, Some, Result, Ok, inl, inr, refl, sym, ap, ◌∙◌, arith, append_assoc, IsTrue, codes, ◌||◌, ◌&&◌, or-true, nat_tests, drop-drop, begins, unread, Cursor, HasOneAt, begins_pair, Tree, Trees, Then, Nil, Seq, Group, Repeat, Level, Position, SpellsItems, SpellsCount, behind, has_part, one_has_part, is_reference, is_anchor, repeats_anchor, has_misjudged_reference, is_misjudged, StopsAt, Sought}
 use Rattle.std.specs.Prelude.{unwrap_or}
+use Rattle.std.specs.Result.{result_unwrap_or}
 use Rattle.sedck_expressions.proofs.OffsetLemmas.{stands_at, stands_behind}
 use Rattle.sedck_expressions.specs.Misjudged.{IsMisjudgedAt}
 use Rattle.sedck_expressions.specs.Private.Along.{HasNone}
@@ -107,8 +108,8 @@ pub interval_opens : (text after : List ℕ) (least : ℕ) (most : Option ℕ) �
     → begins_pair 123 text ≡ true
 interval_opens text after least most count star = grind (arith, nat_tests)
 
-pub second_same : {A : Type 0} {a b : A} {x y : List ℕ} → ◌≡◌ {A = Option (A × List ℕ)} (Some (a, x)) (Some (b, y)) → x ≡ y
-second_same {A} {a = a} {x = x} e = ap (λ o. (unwrap_or {T = A × List ℕ} o (a, x)).1) e
+pub second_same : {A E : Type 0} {a b : A} {x y : List ℕ} → ◌≡◌ {A = Result (A × List ℕ) E} (Ok (a, x)) (Ok (b, y)) → x ≡ y
+second_same {A} {E} {a = a} {x = x} e = ap (λ r. (result_unwrap_or {T = A × List ℕ} {E = E} r (a, x)).1) e
 
 pub third_same : {A B : Type 0} {a c : A} {b d : B} {x y : List ℕ} → ◌≡◌ {A = Option (A × B × List ℕ)} (Some (a, b, x)) (Some (c, d, y)) → x ≡ y
 third_same {A} {B} {a = a} {b = b} {x = x} e = ap (λ o. (unwrap_or {T = A × B × List ℕ} o (a, b, x)).2) e

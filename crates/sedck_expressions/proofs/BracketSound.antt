@@ -1,11 +1,13 @@
 -- What is read as a bracket list is written so.
-use Rattle.sedck_expressions.proofs.Common.{◌≡◌, ◌≢◌, ℕ, suc, zero, Bool, true, false, List, [], ◌∷◌, ◌++◌, length, drop, Option, Some, None, IfSome, inl, inr, refl, sym, ap, ◌∙◌, subst, arith, append_assoc, length-append, ◌&&◌, ◌⊎◌, not, nat_eq, nat_le, codes, Contains, starts_with, false≢true, nat_tests, IfSome_then, begins, classes, Element, One, Members, is_bare, WritesByte, begins_range, WritesElement, WritesElements, ◌>>=◌, symbol_at, byte_at, ranges, no_range, class_from, one, range_or_one, element_at}
+use Rattle.sedck_expressions.proofs.Common.{◌≡◌, ◌≢◌, ℕ, suc, zero, Bool, true, false, List, [], ◌∷◌, ◌++◌, length, drop, inl, inr, refl, sym, ap, ◌∙◌, subst, arith, append_assoc, length-append, ◌&&◌, ◌⊎◌, not, nat_eq, nat_le, codes, Contains, starts_with, false≢true, nat_tests, begins, classes, Element, One, Members, is_bare, WritesByte, begins_range, WritesElement, WritesElements, ◌>>=◌, symbol_at, byte_at, ranges, no_range, class_from, one, range_or_one, element_at, IfSome, Result, Ok, Err, IfOk, IfSome_then}
 use Rattle.std.proofs.lemmas.Bool.Decides.{Decides-eqb}
 use Rattle.std.proofs.lemmas.List.Elements.{Contains-get_or, Contains-append_right}
 use Rattle.std.proofs.lemmas.Slice.Eq.{starts_is}
 use Rattle.sedck_expressions.specs.Brackets.{IsInPlace}
-use Rattle.sedck_expressions.specs.Private.BracketReading.{last_dash_at, elements_at}
-use Rattle.sedck_expressions.proofs.ReadLemmas.{bind_holds, cond_holds, and_left, nat_le_of}
+use Rattle.std.specs.Option.{ok_or}
+use Rattle.sedck_expressions.specs.BracketReading.{missing_end, whole_class_at, last_dash_at, in_list, others, elements_at}
+use Rattle.sedck_expressions.specs.declared.brackets.symbols.Flaw.{Flaw}
+use Rattle.sedck_expressions.proofs.ReadLemmas.{bind_holds, ok_then, cond_holds, some_if, ok_or_holds, and_left, nat_le_of}
 use Rattle.sedck_expressions.proofs.BracketLemmas.{one_front, plain_before, writes_alike, is_closing_front, range_before}
 
 -- ---- One byte
@@ -14,7 +16,7 @@ use Rattle.sedck_expressions.proofs.BracketLemmas.{one_front, plain_before, writ
 abbrev IsMarked : ℕ → List ℕ → ℕ × List ℕ → Type 0
 IsMarked mark text x = (text ≡ x.0 ∷ mark ∷ 93 ∷ x.1) × (x.0 ≢ mark)
 
-symbol_takes : (mark : ℕ) (text : List ℕ) → IfSome (symbol_at mark text) (IsMarked mark text)
+symbol_takes : (mark : ℕ) (text : List ℕ) → IfOk (symbol_at mark text) (IsMarked mark text)
 symbol_takes mark text = grind (arith, nat_tests)
 
 -- a byte is written at the start of the text, before the rest
@@ -26,11 +28,11 @@ abbrev IsByteFront : List ℕ → ℕ × List ℕ → Type 0
 IsByteFront text x = ((text ≡ x.0 ∷ x.1) × (is_bare x.0 x.1 ≡ true)) ⊎ (((text ≡ 92 ∷ 110 ∷ x.1) × (x.0 ≡ 10))
     ⊎ (((text ≡ 92 ∷ 92 ∷ x.1) × (x.0 ≡ 92)) ⊎ ((text ≡ 91 ∷ 46 ∷ x.0 ∷ 46 ∷ 93 ∷ x.1) × (x.0 ≢ 46))))
 
-byte_front_takes : (text : List ℕ) → IfSome (byte_at text) (IsByteFront text)
+byte_front_takes : (text : List ℕ) → IfOk (byte_at text) (IsByteFront text)
 byte_front_takes text = grind (arith, nat_tests)
 
-pub byte_takes : (text : List ℕ) → IfSome (byte_at text) (IsByteBefore text)
-byte_takes text = IfSome_then (byte_at text) (byte_front_takes text) written
+pub byte_takes : (text : List ℕ) → IfOk (byte_at text) (IsByteBefore text)
+byte_takes text = ok_then (byte_at text) (byte_front_takes text) written
   where
     written : (x : ℕ × List ℕ) → IsByteFront text x → IsByteBefore text x
     written x (inl h) = (x.0 ∷ [], h.0, inl (refl, h.1))
@@ -62,7 +64,7 @@ class_takes (c ∷ cs) text =
     let name = c.0 ++ codes ":]" in
     let cut = (starts_is Decides-eqb text name (starts_with nat_eq text name) refl).0 in
     let size = length-append c.0 (codes ":]") in
-    cond_holds (starts_with nat_eq text name) _ _ _ (λ h. (c, refl, Contains-get_or (c ∷ cs) 0 c (omega arith), cut h ∙ ap (λ n. name ++ drop n text) size))
+    some_if (starts_with nat_eq text name) _ _ _ (λ h. (c, refl, Contains-get_or (c ∷ cs) 0 c (omega arith), cut h ∙ ap (λ n. name ++ drop n text) size))
     (λ _. IfSome_then (class_from cs text) (class_takes cs text) (λ x (d, is, listed, more). (d, is, Contains-append_right (c ∷ []) cs d listed, more)))
 
 abbrev pub IsFirstBracket : Bool → List ℕ → Type 0
@@ -74,21 +76,22 @@ in_place : (first : Bool) (text u after next : List ℕ) → text ≡ u ++ after
 in_place first text u after next e bracket dash = grind (arith, nat_tests)
 
 class_element : (first : Bool) (text : List ℕ) → text ≡ 91 ∷ 58 ∷ drop 2 text
-    → IfSome (class_from classes (drop 2 text) >>= no_range) (IsElementBefore first text)
+    → IfOk (whole_class_at (drop 2 text)) (IsElementBefore first text)
 class_element first text front =
-    bind_holds _ _ _ (IsClassBefore classes (drop 2 text)) (class_takes classes (drop 2 text)) (λ x (class, is, listed, cut). cond_holds (ranges x.1) _ _ _ (λ _. tt) (λ k. (
+    bind_holds (ok_or (class_from classes (drop 2 text)) (missing_end 58 (drop 2 text))) no_range _ (IsClassBefore classes (drop 2 text))
+    (ok_or_holds (class_from classes (drop 2 text)) _ _ (class_takes classes (drop 2 text))) (λ x (class, is, listed, cut). cond_holds (ranges x.1) _ _ _ (λ _. tt) (λ k. (
       codes "[:" ++ class.0 ++ codes ":]",
       front ∙ ap (λ t. 91 ∷ 58 ∷ t) cut,
       λ v rest e closing. subst (WritesElement first (codes "[:" ++ class.0 ++ codes ":]") v) (sym is) (listed, refl, range_ends v rest x.1 e closing k),
     )))
 
 same_element : (first : Bool) (text : List ℕ) → text ≡ 91 ∷ 61 ∷ drop 2 text
-    → IfSome (symbol_at 61 (drop 2 text) >>= one >>= no_range) (IsElementBefore first text)
+    → IfOk (symbol_at 61 (drop 2 text) >>= one >>= no_range) (IsElementBefore first text)
 same_element first text front = go (symbol_at 61 (drop 2 text)) (symbol_takes 61 (drop 2 text))
   where
-    go : (o : Option (ℕ × List ℕ)) → IfSome o (IsMarked 61 (drop 2 text)) → IfSome (o >>= one >>= no_range) (IsElementBefore first text)
-    go None h = tt
-    go (Some x) h = cond_holds (ranges x.1) _ _ _ (λ _. tt) (λ k. (
+    go : (o : Result (ℕ × List ℕ) Flaw) → IfOk o (IsMarked 61 (drop 2 text)) → IfOk (o >>= one >>= no_range) (IsElementBefore first text)
+    go (Err e) h = tt
+    go (Ok x) h = cond_holds (ranges x.1) _ _ _ (λ _. tt) (λ k. (
       codes "[=" ++ x.0 ∷ codes "=]",
       front ∙ ap (λ t. 91 ∷ 61 ∷ t) h.0,
       λ v rest e closing. (
@@ -102,7 +105,7 @@ nothing_left : (v rest after : List ℕ) → begins "]" after ≡ true → after
 nothing_left v rest after h e closing = grind (arith, nat_tests)
 
 -- the `-` before the closing bracket
-last_dash : (first : Bool) (text : List ℕ) → text ≡ 45 ∷ drop 1 text → IfSome (last_dash_at (drop 1 text)) (IsElementBefore first text)
+last_dash : (first : Bool) (text : List ℕ) → text ≡ 45 ∷ drop 1 text → IfOk (last_dash_at (drop 1 text)) (IsElementBefore first text)
 last_dash first text front = cond_holds (begins "]" (drop 1 text)) _ _ _ (λ h. (codes "-", front, dash h)) (λ _. tt)
   where
     dash : begins "]" (drop 1 text) ≡ true → (v rest : List ℕ) → drop 1 text ≡ v ++ 93 ∷ rest → is_closing_front v ≡ false
@@ -115,7 +118,7 @@ range_front mid w after r f = grind (arith, nat_tests)
 
 -- a byte, or a range that begins with it
 byte_element : (first : Bool) (text : List ℕ) → IsFirstBracket first text → (begins "-" text && not first) ≡ false
-    → IfSome (byte_at text >>= range_or_one) (IsElementBefore first text)
+    → IfOk (byte_at text >>= range_or_one) (IsElementBefore first text)
 byte_element first text bracket dash =
     bind_holds _ _ _ (IsByteBefore text) (byte_takes text) (λ x (u, cut, wx). cond_holds (ranges x.1) _ _ _
     (λ r. bind_holds _ _ _ (IsByteBefore (drop 1 x.1)) (byte_takes (drop 1 x.1)) (λ y (w, more, wy). cond_holds (nat_le x.0 y.0) _ _ _
@@ -146,7 +149,7 @@ byte_element first text bracket dash =
 
 -- ---- The elements
 
-pub element_takes : (first : Bool) (text : List ℕ) → IsFirstBracket first text → IfSome (element_at first text) (IsElementBefore first text)
+pub element_takes : (first : Bool) (text : List ℕ) → IsFirstBracket first text → IfOk (element_at first text) (IsElementBefore first text)
 element_takes first text bracket =
     cond_holds (begins "[" text && begins ":" (drop 1 text)) _ _ _ (λ h. class_element first text (grind (arith, nat_tests)))
     (λ _. cond_holds (begins "[" text && begins "=" (drop 1 text)) _ _ _ (λ h. same_element first text (grind (arith, nat_tests)))
@@ -167,15 +170,20 @@ written_front text (e ∷ es) (u, v, is, first, more) = ap is_closing_front is �
 abbrev pub AreElementsBefore : Bool → List ℕ → List Element × List ℕ → Type 0
 AreElementsBefore first text x = (inside : List ℕ) × (text ≡ inside ++ 93 ∷ x.1) × WritesElements first inside x.0 × (first ≡ true → x.0 ≢ [])
 
-pub elements_take : (n : ℕ) (first : Bool) (text : List ℕ) → IfSome (elements_at n first text) (AreElementsBefore first text)
+in_list_holds : (outer text : List ℕ) (r : Result (Element × List ℕ) Flaw) (P : Element × List ℕ → Type 0) → IfOk r P → IfOk (in_list outer text r) P
+in_list_holds outer text (Ok x) P h = h
+in_list_holds outer text (Err flaw) P h = tt
+
+pub elements_take : (outer : List ℕ) (n : ℕ) (first : Bool) (text : List ℕ) → IfOk (elements_at outer n first text) (AreElementsBefore first text)
 unfolding elements_at
-elements_take zero first text = tt
-elements_take (suc n) first text =
+elements_take outer zero first text = tt
+elements_take outer (suc n) first text =
     cond_holds (begins "]" text && not first) _ _ _
     (λ h. let both = and_left (begins "]" text) (not first) h in
     ([], one_front "]" 93 text refl both.0, refl, λ is. absurd (false≢true (sym (ap not is) ∙ both.1))))
-    (λ h. bind_holds _ _ _ (IsElementBefore first text) (element_takes first text h) (λ x (u, cut, writes).
-    bind_holds _ _ _ (AreElementsBefore false x.1) (elements_take n false x.1) (λ y (inside, more, written, _). (
+    (λ h. bind_holds (in_list outer text (element_at first text)) (others (elements_at outer n)) _ (IsElementBefore first text)
+    (in_list_holds outer text (element_at first text) _ (element_takes first text h)) (λ x (u, cut, writes).
+    bind_holds _ _ _ (AreElementsBefore false x.1) (elements_take outer n false x.1) (λ y (inside, more, written, _). (
       u ++ inside,
       cut ∙ ap (λ t. u ++ t) more ∙ sym (append_assoc u inside (93 ∷ y.1)),
       (u, inside, refl, writes inside y.1 more (written_front inside y.0 written), written),

@@ -1,10 +1,16 @@
 -- What is read as an interval is spelled so, and what is spelled so is read.
 use Rattle.sedck_expressions.proofs.Common.{◌≡◌, ℕ, ◌≤◌, true, false, List, [], ◌∷◌, ◌++◌, drop, Option, Some, None, inl, inr, refl, sym, ap, ◌∙◌, arith, IfSome, append_assoc, ◌&&◌, not, nat_le, codes, IsTrue, list_all, nat_tests, digits_value, begins, is_digit, Longest, is_empty, SpellsCount, begins_pair, number_of, number_at, IfSome_then}
+use Rattle.std.specs.Prelude.{option_and_then}
 use Rattle.sedck_text.specs.Runs.{IsEmptyOr}
 use Rattle.sedck_text.proofs.Runs.{longest_cut, longest_one}
 use Rattle.sedck_expressions.specs.Shape.{IsNumber}
-use Rattle.sedck_expressions.specs.Private.IntervalReading.{digits_at, bounds_of, interval_at}
-use Rattle.sedck_expressions.proofs.ReadLemmas.{bind_holds, cond_holds, and_left, pair_text, IsIntervalBefore}
+use Rattle.sedck_expressions.specs.IntervalReading.{digits_at, bounds_of, interval_at}
+use Rattle.sedck_expressions.proofs.ReadLemmas.{some_if, and_left, pair_text, IsIntervalBefore}
+
+some_then : {A B : Type 0} (o : Option A) (f : A → Option B) (P : B → Type 0) (Q : A → Type 0) → IfSome o Q → ((x : A) → Q x → IfSome (f x) P)
+    → IfSome (option_and_then f o) P
+some_then None f P Q h g = tt
+some_then (Some x) f P Q h g = g x h
 
 -- the digits are cut off the text in no other way
 pub digits_are : {text front rest : List ℕ} → Longest is_digit text front rest → digits_at text ≡ (front, rest)
@@ -20,7 +26,7 @@ number_takes text = let l = longest_cut is_digit text in go (digits_at text).0 (
     some ds h = grind arith
 
     go : (ds rest : List ℕ) → text ≡ ds ++ rest → IsTrue (list_all is_digit ds) → IfSome (number_of (ds, rest)) (IsNumberBefore text)
-    go ds rest cut passes = cond_holds (not (is_empty ds) && nat_le (digits_value 10 ds) 255) _ _ _ (λ s.
+    go ds rest cut passes = some_if (not (is_empty ds) && nat_le (digits_value 10 ds) 255) _ _ _ (λ s.
         let both : (not (is_empty ds) ≡ true) × (digits_value 10 ds ≤ 255) = grind (arith, nat_tests) in
         (ds, cut, (some ds both.0, passes, refl, both.1))) (λ _. tt)
 
@@ -37,14 +43,14 @@ IsEndBefore least text x = (v : List ℕ) × (text ≡ v ++ x.2)
 
 bounds_take : (least : ℕ) (text : List ℕ) → IfSome (bounds_of (least, text)) (IsEndBefore least text)
 bounds_take least text =
-    cond_holds (begins_pair 125 text) _ _ _
+    some_if (begins_pair 125 text) _ _ _
     (λ e. (codes "\\}", pair_text 125 text e, λ m h. inl (m, h, refl, refl)))
-    (λ _. cond_holds (begins "," text) _ _ _
+    (λ _. some_if (begins "," text) _ _ _
     (λ c. let comma = λ (t : List ℕ) (is : drop 1 text ≡ t). comma_text text c ∙ ap (λ t. 44 ∷ t) is in
-    cond_holds (begins_pair 125 (drop 1 text)) _ _ _
+    some_if (begins_pair 125 (drop 1 text)) _ _ _
     (λ e. (codes ",\\}", comma _ (pair_text 125 (drop 1 text) e), λ m h. inr (m, h, refl)))
-    (λ _. bind_holds _ _ _ (IsNumberBefore (drop 1 text)) (number_takes (drop 1 text)) (λ y (n, cut, number).
-    cond_holds (begins_pair 125 y.1 && nat_le least y.0) _ _ _
+    (λ _. some_then _ _ _ (IsNumberBefore (drop 1 text)) (number_takes (drop 1 text)) (λ y (n, cut, number).
+    some_if (begins_pair 125 y.1 && nat_le least y.0) _ _ _
     (λ e. let both : (begins_pair 125 y.1 ≡ true) × (least ≤ y.0) = grind (arith, nat_tests) in
     let is = cut ∙ ap (λ t. n ++ t) (pair_text 125 y.1 both.0) ∙ sym (append_assoc n (codes "\\}") (drop 2 y.1)) in
     (codes "," ++ n ++ codes "\\}", comma _ is, λ m h. inr (m, n, h, number, both.1, simp append_assoc)))
@@ -53,8 +59,8 @@ bounds_take least text =
 
 pub interval_takes : (text : List ℕ) → IfSome (interval_at text) (IsIntervalBefore text)
 unfolding interval_at
-interval_takes text = cond_holds (begins_pair 123 text) _ _ _
-    (λ b. bind_holds _ _ _ (IsNumberBefore (drop 2 text)) (number_takes (drop 2 text)) (λ x (m, cut, number).
+interval_takes text = some_if (begins_pair 123 text) _ _ _
+    (λ b. some_then _ _ _ (IsNumberBefore (drop 2 text)) (number_takes (drop 2 text)) (λ x (m, cut, number).
     IfSome_then (bounds_of x) (bounds_take x.0 x.1) (λ y (v, behind, spells).
     let is = pair_text 123 text b ∙ ap (λ t. 92 ∷ 123 ∷ t) (cut ∙ ap (λ t. m ++ t) behind ∙ sym (append_assoc m v y.2)) in
     (codes "\\{" ++ m ++ v, is, spells m number))))

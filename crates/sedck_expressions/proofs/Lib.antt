@@ -16,6 +16,7 @@ pub mod SetLemmas
 pub mod NumberReading
 pub mod ClassNames
 pub mod ElementLoop
+pub mod ElementHolder
 pub mod SetLoop
 pub mod OffsetLemmas
 pub mod ViewLemmas

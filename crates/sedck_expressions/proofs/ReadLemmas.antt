@@ -1,18 +1,31 @@
 -- Tools on readings, what a bracket list and an interval reader must give, and which trees fit the groups so far.
-use Rattle.sedck_expressions.proofs.Common.{◌≡◌, ◌≢◌, ℕ, ◌+◌, ◌<◌, ◌≤◌, Bool, true, false, cond, List, [], ◌∷◌, ◌++◌, length, drop, Option, Some, None, IfSome, refl, arith, length-append, ◌&&◌, ◌||◌, nat_le, nat_tests, begins, CountsFrom, Tree, Trees, Seq, Then, groups_in, groups_in_all, is_empty, SpellsCount, IsRepeatable, IsBracketList, ◌>>=◌, Readers, begins_pair, is_repeatable}
+use Rattle.sedck_expressions.proofs.Common.{◌≡◌, ◌≢◌, ℕ, ◌+◌, ◌<◌, ◌≤◌, Bool, true, false, cond, List, [], ◌∷◌, ◌++◌, length, drop, Option, Some, None, Result, Ok, Err, IfOk, IfSome, refl, arith, length-append, ◌&&◌, ◌||◌, nat_le, nat_tests, begins, CountsFrom, Tree, Trees, Seq, Then, groups_in, groups_in_all, is_empty, SpellsCount, IsRepeatable, IsBracketList, ◌>>=◌, Readers, begins_pair, is_repeatable}
+use Rattle.std.specs.Option.{ok_or}
 use Rattle.sedck_expressions.specs.Tree.{depth}
 use Rattle.sedck_expressions.specs.WellFormed.{RefersBack}
 use Rattle.sedck_expressions.proofs.NumberedGroups.{CountsFrom-left, CountsFrom-right, CountsFrom-join}
 
-pub bind_holds : {A B : Type 0} (o : Option A) (f : A → Option B) (P : B → Type 0) (Q : A → Type 0) → IfSome o Q → ((x : A) → Q x → IfSome (f x) P)
-    → IfSome (o >>= f) P
-bind_holds None f P Q h g = tt
-bind_holds (Some x) f P Q h g = g x h
+pub bind_holds : {A B E : Type 0} (r : Result A E) (f : A → Result B E) (P : B → Type 0) (Q : A → Type 0) → IfOk r Q → ((x : A) → Q x → IfOk (f x) P)
+    → IfOk (r >>= f) P
+bind_holds (Err e) f P Q h g = tt
+bind_holds (Ok x) f P Q h g = g x h
+
+pub ok_then : {A E : Type 0} (r : Result A E) {P Q : A → Type 0} → IfOk r P → ((x : A) → P x → Q x) → IfOk r Q
+ok_then (Err e) h g = tt
+ok_then (Ok x) h g = g x h
 
 -- where a test chooses between two readings
-pub cond_holds : {A : Type 0} (b : Bool) (x y : Option A) (P : A → Type 0) → (b ≡ true → IfSome x P) → (b ≡ false → IfSome y P) → IfSome (cond b x y) P
+pub cond_holds : {A E : Type 0} (b : Bool) (x y : Result A E) (P : A → Type 0) → (b ≡ true → IfOk x P) → (b ≡ false → IfOk y P) → IfOk (cond b x y) P
 cond_holds true x y P f g = f refl
 cond_holds false x y P f g = g refl
+
+pub some_if : {A : Type 0} (b : Bool) (x y : Option A) (P : A → Type 0) → (b ≡ true → IfSome x P) → (b ≡ false → IfSome y P) → IfSome (cond b x y) P
+some_if true x y P f g = f refl
+some_if false x y P f g = g refl
+
+pub ok_or_holds : {A E : Type 0} (o : Option A) (e : E) (P : A → Type 0) → IfSome o P → IfOk (ok_or o e) P
+ok_or_holds None e P h = tt
+ok_or_holds (Some x) e P h = h
 
 pub and_left : (a b : Bool) → (a && b) ≡ true → (a ≡ true) × (b ≡ true)
 and_left a b h = grind arith
@@ -30,13 +43,13 @@ IsIntervalBefore text x = (u : List ℕ) × (text ≡ u ++ x.2) × SpellsCount u
 
 -- what is read as a bracket list is one, and an interval is one; and the limits are kept
 pub record Takes (readers : Readers) : Type 0 where
-  pub bracket : (text : List ℕ) → IfSome (readers.bracket text) (IsListBefore text)
+  pub bracket : (text : List ℕ) → IfOk (readers.bracket text) (IsListBefore text)
   pub interval : (text : List ℕ) → IfSome (readers.interval text) (IsIntervalBefore text)
   pub limited : readers.unlimited ≡ false
 
 -- a bracket list is read, whatever follows it, and so is an interval
 pub record Reads (readers : Readers) : Type 0 where
-  pub bracket : (u words rest : List ℕ) → IsBracketList u words → words ≢ [] → readers.bracket (u ++ rest) ≡ Some (words, rest)
+  pub bracket : (u words rest : List ℕ) → IsBracketList u words → words ≢ [] → readers.bracket (u ++ rest) ≡ Ok (words, rest)
   pub interval : (u : List ℕ) (least : ℕ) (most : Option ℕ) (rest : List ℕ) → begins_pair 123 u ≡ true → SpellsCount u least most
       → readers.interval (u ++ rest) ≡ Some (least, most, rest)
 

@@ -1,6 +1,6 @@
 -- What is spelled is read: the reading of a text with the shape of a tree is that tree.
-use Rattle.sedck_expressions.proofs.Common.{◌≡◌, ◌≢◌, ℕ, zero, suc, ◌+◌, ◌<◌, ◌≤◌, Bool, true, false, List, [], ◌∷◌, ◌++◌, length, Option, Some, refl, sym, ap, subst, ◌∙◌, arith, append_assoc, length-append, codes, nat_lt, ◌&&◌, ◌||◌, nat_tests, append-nil, begins, IsWellFormed, CountsFrom, Tree, Trees, Byte, Set, Group, Ref, Seq, Repeat, Nil, Then, groups_in, is_in, IsBracketList, Level, Whole, Inside, Position, First, is_empty, behind, SpellsByte, SpellsCount, IsRepeatable, SpellsItem, SpellsItems, SpellsTree, ◌>>=◌, Readers, begins_pair, at_end, is_repeatable, atom, with_sign, whole}
-use Rattle.sedck_expressions.specs.Private.Reading.{items, read}
+use Rattle.sedck_expressions.proofs.Common.{◌≡◌, ◌≢◌, ℕ, zero, suc, ◌+◌, ◌<◌, ◌≤◌, Bool, true, false, List, [], ◌∷◌, ◌++◌, length, Option, Some, Result, Ok, refl, sym, ap, subst, ◌∙◌, arith, append_assoc, length-append, codes, nat_lt, ◌&&◌, ◌||◌, nat_tests, append-nil, begins, IsWellFormed, CountsFrom, Tree, Trees, Byte, Set, Group, Ref, Seq, Repeat, Nil, Then, groups_in, is_in, IsBracketList, Level, Whole, Inside, Position, First, is_empty, behind, SpellsByte, SpellsCount, IsRepeatable, SpellsItem, SpellsItems, SpellsTree, ◌>>=◌, Readers, begins_pair, at_end, is_repeatable, atom, with_sign, whole}
+use Rattle.sedck_expressions.specs.Reading.{Stop, items, read}
 use Rattle.sedck_expressions.proofs.ReadLemmas.{Reads, not_empty_more, length_some, Fit, Fits, fits_first, fits_others, allowed}
 use Rattle.sedck_expressions.proofs.NumberedGroups.{range_counts, are_numbered}
 use Rattle.sedck_expressions.proofs.ItemBeginnings.{bracket_front, item_front, item_some, sign_some, list_ends, no_sign, behind_repeatable}
@@ -29,35 +29,35 @@ repeatable_atom : (t : Tree) → IsRepeatable t → IsAtom t × (is_repeatable t
 repeatable_atom t h = grind arith
 
 module _ (readers : Readers) (reads : Reads readers) where
-  abbrev read_atom : ℕ → Spot → List ℕ → Option (Tree × List ℕ)
+  abbrev read_atom : ℕ → Spot → List ℕ → Result (Tree × List ℕ) Stop
   read_atom n s text =
       atom readers (items readers n Inside First (s.deep + 1) (s.opened + 1) s.closed) s.level s.place s.deep s.opened s.closed text
 
   -- an item without its sign is read again
   abbrev AtomAgain : Tree → Type 0
-  AtomAgain t = (n : ℕ) (s : Spot) (text w tail : List ℕ) → IsSpelled readers.unlimited n s t text w tail → read_atom n s (text ++ tail) ≡ Some (t, tail)
+  AtomAgain t = (n : ℕ) (s : Spot) (text w tail : List ℕ) → IsSpelled readers.unlimited n s t text w tail → read_atom n s (text ++ tail) ≡ Ok (t, tail)
 
   -- an item with its sign is read again, where no further sign follows
   abbrev ItemAgain : Tree → Type 0
   ItemAgain t = (n : ℕ) (s : Spot) (text w tail : List ℕ) → IsSpelled readers.unlimited n s t text w tail
       → (is_repeatable t ≡ true → (begins "*" tail ≡ false) × (begins_pair 123 tail ≡ false))
-      → (read_atom n s (text ++ tail) >>= with_sign readers) ≡ Some (t, tail)
+      → (read_atom n s (text ++ tail) >>= with_sign readers) ≡ Ok (t, tail)
 
   -- the items of a list are read again
   abbrev ItemsAgain : Trees → Type 0
   ItemsAgain ts = (n : ℕ) (s : Spot) (text rest : List ℕ) → SpellsItems s.level s.place text ts → at_end rest ≡ true
       → Fits readers.unlimited s.deep s.opened s.closed (Seq ts) → length (text ++ rest) < n
-      → items readers n s.level s.place s.deep s.opened s.closed (text ++ rest) ≡ Some (ts, rest)
+      → items readers n s.level s.place s.deep s.opened s.closed (text ++ rest) ≡ Ok (ts, rest)
 
   byte_again : (n : ℕ) (s : Spot) (text w tail : List ℕ) (c : ℕ) → SpellsByte s.place text w c → is_empty w ≡ at_end tail
-      → read_atom n s (text ++ tail) ≡ Some (Byte c, tail)
+      → read_atom n s (text ++ tail) ≡ Ok (Byte c, tail)
   byte_again n s text w tail c h e = grind (arith, nat_tests)
 
-  set_again : (n : ℕ) (s : Spot) (text tail words : List ℕ) → IsBracketList text words → words ≢ [] → read_atom n s (text ++ tail) ≡ Some (Set words, tail)
+  set_again : (n : ℕ) (s : Spot) (text tail words : List ℕ) → IsBracketList text words → words ≢ [] → read_atom n s (text ++ tail) ≡ Ok (Set words, tail)
   set_again n s text tail words l m = let b = bracket_front text words l in rw (b.1, rw b.1 at (reads.bracket text words tail l m)) refl
 
   ref_again : (n : ℕ) (s : Spot) (text tail : List ℕ) (k : ℕ) → 1 ≤ k → k ≤ 9 → text ≡ codes "\\" ++ (48 + k) ∷ []
-      → (readers.unlimited || is_in k s.closed) ≡ true → read_atom n s (text ++ tail) ≡ Some (Ref k, tail)
+      → (readers.unlimited || is_in k s.closed) ≡ true → read_atom n s (text ++ tail) ≡ Ok (Ref k, tail)
   ref_again n s text tail k low high is i = grind (arith, nat_tests)
 
   group_again : (k : ℕ) (ts : Trees) → ItemsAgain ts → AtomAgain (Group k (Seq ts))
@@ -78,12 +78,12 @@ module _ (readers : Readers) (reads : Reads readers) where
   item_from t a n s text w tail h clear = rw (a n s text w tail h) (no_sign_read t tail clear)
     where
       no_sign_read : (t : Tree) (tail : List ℕ) → (is_repeatable t ≡ true → (begins "*" tail ≡ false) × (begins_pair 123 tail ≡ false))
-          → with_sign readers (t, tail) ≡ Some (t, tail)
+          → with_sign readers (t, tail) ≡ Ok (t, tail)
       no_sign_read t tail clear = grind (arith, clear)
 
   sign_read : (t : Tree) (v tail : List ℕ) (least : ℕ) (most : Option ℕ) → is_repeatable t ≡ true → SpellsCount v least most
       → (begins_pair 123 v ≡ true → readers.interval (v ++ tail) ≡ Some (least, most, tail))
-      → with_sign readers (t, v ++ tail) ≡ Some (Repeat t least most, tail)
+      → with_sign readers (t, v ++ tail) ≡ Ok (Repeat t least most, tail)
   sign_read t v tail least most h c i = grind (arith, nat_tests)
 
   repeat_again : (body : Tree) (least : ℕ) (most : Option ℕ) → (IsAtom body → AtomAgain body) → ItemAgain (Repeat body least most)
@@ -144,10 +144,10 @@ formed_fits t f = record { counted = are_numbered t f; back = f.back; few = omeg
 
 -- what is spelled is read, where it is well formed or the limits aren't kept
 pub read_again : (readers : Readers) → Reads readers → (text : List ℕ) (t : Tree) → SpellsTree text t → (readers.unlimited ≡ false → IsWellFormed t)
-    → read readers text ≡ Some t
+    → read readers text ≡ Ok t
 unfolding read
 read_again readers reads text (Seq ts) h formed =
-    ap (λ o. o >>= whole) (subst (λ x. items readers (length text + 1) Whole First 0 0 [] x ≡ Some (ts, [])) (append-nil text)
+    ap (λ o. o >>= whole) (subst (λ x. items readers (length text + 1) Whole First 0 0 [] x ≡ Ok (ts, [])) (append-nil text)
     (items_again readers reads ts (length text + 1) (record { level = Whole; place = First; deep = 0; opened = 0; closed = [] }) text [] h.0 refl
     (subst (CountsFrom 1) (sym h.1) (range_counts 1 (length (groups_in (Seq ts)))), λ limited. formed_fits (Seq ts) (formed limited))
     (omega (arith, length-append text []))))

@@ -7,5 +7,9 @@ pub mod Brackets
 pub mod Faults
 pub mod FaultWords
 pub mod Misjudged
+pub mod Reading
+pub mod BracketReading
+pub mod IntervalReading
+pub mod FirstFault
 -- What functions inside the crate promise each other.
 pub mod Private

@@ -5,7 +5,7 @@ ghost use Rattle.std.specs.Option.{option_map};
 ghost use Rattle.std.specs.Str.Parse.{digits_value};
 ghost use Rattle.sedck_text.specs.Classes.{is_digit};
 ghost use Rattle.sedck_text.specs.Cursors.{unread};
-ghost use Rattle.sedck_expressions.specs.Private.IntervalReading.{number_at, upper_at, bounds_at, interval_at};
+ghost use Rattle.sedck_expressions.specs.IntervalReading.{number_at, upper_at, bounds_at, interval_at};
 
 use sedck_text::{Class, Cursor};
 
@@ -66,7 +66,7 @@ fn read_bounds<'a>(cursor: Cursor<'a>) -> Option<(u8, Option<u8>, Cursor<'a>)>
 }
 
 /// The bounds of the interval at the start, and the cursor behind it.
-#[tactic(auto, unfolding(crate::specs::Private::IntervalReading::interval_at))]
+#[tactic(auto, unfolding(crate::specs::IntervalReading::interval_at))]
 pub(crate) fn read_interval<'a>(cursor: Cursor<'a>) -> Option<(u8, Option<u8>, Cursor<'a>)>
     ensures value { option_map (λ x. (x.0, x.1, unread x.2)) result ≡ interval_at (unread cursor.entry) }
     ensures same { IfSome result (λ x. x.2.whole ≡ cursor.entry.whole) }

@@ -1,13 +1,14 @@
 //! Items without items inside them, and the signs of repetition.
-ghost use Rattle.std.specs.Prelude.{◌≡◌, ◌≢◌, ◌<◌, ◌≤◌, ℕ, List, [], length, drop, Option, true, false, IfOk, IfErr, IfNone};
+ghost use Rattle.std.specs.Prelude.{◌≡◌, ◌≢◌, ◌<◌, ◌≤◌, ℕ, List, [], ◌+◌, length, drop, Result, true, false, IfOk, IfErr, IfNone};
 ghost use Rattle.std.specs.Option.{option_map};
 ghost use Rattle.sedck_text.specs.Text.{one_of, begins};
 ghost use Rattle.sedck_text.specs.Cursors.{unread};
 ghost use Rattle.sedck_expressions.specs.Tree.{Trees, groups_in};
 ghost use Rattle.sedck_expressions.specs.View.{tree};
 ghost use Rattle.sedck_expressions.specs.Shape as shape;
-ghost use Rattle.sedck_expressions.specs.Private.Reading.{begins_pair, at_end, is_repeatable, plain, atom, backslash, escaped, with_sign};
-ghost use Rattle.sedck_expressions.specs.Private.FullReading.{full, set_at};
+ghost use Rattle.sedck_expressions.specs.Reading.{begins_pair, at_end, Stop, is_repeatable, plain, no_item, atom, backslash, escaped, with_sign};
+ghost use Rattle.sedck_expressions.specs.FirstFault.{full};
+ghost use Rattle.sedck_expressions.specs.Private.FullReading.{set_at};
 ghost use Rattle.sedck_expressions.specs.Faults.{HasOneAt, IsPlaced, IsOfText};
 ghost use Rattle.sedck_expressions.specs.Private.Gives.{Gives, position_of, level_if, level_of, ClosedIs};
 
@@ -100,8 +101,8 @@ pub(crate) fn read_single<'a>(
 ) -> Result<(Bre, Cursor<'a>), ReFault>
     requires going { at_end (unread cursor) ≡ false }
     requires other { begins_pair 40 (unread cursor) ≡ false }
-    ensures value { (inner : List ℕ → Option (Trees × List ℕ)) (deep opened : ℕ) (closed : List ℕ) → ClosedIs groups.now.closed closed
-        → Gives (λ x. (tree x.0, unread x.1)) result (atom full inner (level_of depth) (position_of position) deep opened closed
+    ensures value { (inner : List ℕ → Result (Trees × List ℕ) Stop) (deep opened : ℕ) (closed : List ℕ) → ClosedIs groups.now.closed closed
+        → Gives (λ x. (tree x.0, unread x.1)) (length cursor.entry.whole.now) result (atom full inner (level_of depth) (position_of position) deep opened closed
         (unread cursor.entry)) }
     ensures groups { IfOk result (λ x. groups_in (tree x.0) ≡ []) }
     ensures shorter { IfOk result (λ x. length (unread x.1) < length (unread cursor.entry)) }
@@ -133,8 +134,9 @@ fn read_escape<'a>(
 ) -> Result<(Bre, Cursor<'a>), ReFault>
     requires begins { begins "\\" (unread cursor) ≡ true }
     requires other { begins_pair 40 (unread cursor) ≡ false }
-    ensures value { (inner : List ℕ → Option (Trees × List ℕ)) (deep opened : ℕ) (closed : List ℕ) → ClosedIs groups.now.closed closed
-        → Gives (λ x. (tree x.0, unread x.1)) result (backslash full inner deep opened closed (drop 1 (unread cursor.entry))) }
+    ensures value { (inner : List ℕ → Result (Trees × List ℕ) Stop) (deep opened : ℕ) (closed : List ℕ) → ClosedIs groups.now.closed closed
+        → Gives (λ x. (tree x.0, unread x.1)) (length cursor.entry.whole.now) result
+        (backslash full inner (position_of position) deep opened closed (drop 1 (unread cursor.entry))) }
     ensures groups { IfOk result (λ x. groups_in (tree x.0) ≡ []) }
     ensures shorter { IfOk result (λ x. length (unread x.1) < length (unread cursor.entry)) }
     ensures same { IfOk result (λ x. x.1.whole ≡ cursor.entry.whole) }
@@ -153,8 +155,9 @@ fn read_escape<'a>(
 /// What a byte after a backslash stands for, where it opens no group.
 fn read_escaped(position: Position, start: usize, groups: &Groups, byte: u8) -> Result<Bre, ReFault>
     requires other { byte ≢ 40 }
-    ensures value { (inner : List ℕ → Option (Trees × List ℕ)) (deep opened : ℕ) (closed rest : List ℕ) → ClosedIs groups.now.closed closed
-        → Gives (λ x. (tree x, rest)) result (escaped full inner deep opened closed byte rest) }
+    ensures value { (inner : List ℕ → Result (Trees × List ℕ) Stop) (deep opened size : ℕ) (closed rest : List ℕ) → ClosedIs groups.now.closed closed
+        → start + 2 + length rest ≡ size
+        → Gives (λ x. (tree x, rest)) size result (escaped full inner (position_of position) deep opened closed byte rest) }
     ensures groups { IfOk result (λ x. groups_in (tree x) ≡ []) }
     ensures place { IfErr result (λ fault. (whole : List ℕ) → HasOneAt whole start "\\" → IsPlaced whole fault) }
 {
@@ -184,7 +187,8 @@ fn is_escapable(byte: u8) -> bool
 
 /// An interval where there is no item that it could repeat.
 fn misplaced(position: Position, start: usize) -> ReFault
-    ensures value { IsOfText result }
+    ensures value { result ≡ no_item (position_of position) 123 start }
+    ensures memory { IsOfText result }
     ensures place { (whole : List ℕ) → HasOneAt whole start "\\" → IsPlaced whole result }
 {
     match position {
@@ -196,7 +200,7 @@ fn misplaced(position: Position, start: usize) -> ReFault
 /// A bracket list as an item.
 fn read_set<'a>(cursor: Cursor<'a>) -> Result<(Bre, Cursor<'a>), ReFault>
     requires opens { begins "[" (unread cursor) ≡ true }
-    ensures value { Gives (λ x. (tree x.0, unread x.1)) result (set_at (unread cursor.entry)) }
+    ensures value { Gives (λ x. (tree x.0, unread x.1)) (length cursor.entry.whole.now) result (set_at (unread cursor.entry)) }
     ensures groups { IfOk result (λ x. groups_in (tree x.0) ≡ []) }
     ensures shorter { IfOk result (λ x. length (unread x.1) < length (unread cursor.entry)) }
     ensures same { IfOk result (λ x. x.1.whole ≡ cursor.entry.whole) }
@@ -212,7 +216,7 @@ pub(crate) fn read_repetition<'a>(
     item: Bre,
     cursor: Cursor<'a>,
 ) -> Result<(Bre, Cursor<'a>), ReFault>
-    ensures value { Gives (λ x. (tree x.0, unread x.1)) result (with_sign full (tree item, unread cursor.entry)) }
+    ensures value { Gives (λ x. (tree x.0, unread x.1)) (length cursor.entry.whole.now) result (with_sign full (tree item, unread cursor.entry)) }
     ensures shorter { IfOk result (λ x. length (unread x.1) ≤ length (unread cursor.entry)) }
     ensures groups { IfOk result (λ x. groups_in (tree x.0) ≡ groups_in (tree item)) }
     ensures same { IfOk result (λ x. x.1.whole ≡ cursor.entry.whole) }

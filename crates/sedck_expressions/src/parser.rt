@@ -1,6 +1,6 @@
 //! From a text to the tree that it spells: its list of items, and the groups in it.
 
-ghost use Rattle.std.specs.Prelude.{◌≡◌, ◌+◌, ◌++◌, ◌<◌, ◌≤◌, ℕ, List, length, drop, map, IfOk, IfErr, IsTrue, true, false};
+ghost use Rattle.std.specs.Prelude.{◌≡◌, ◌+◌, ◌++◌, ◌<◌, ◌≤◌, ℕ, List, length, drop, map, Some, IfOk, IfErr, IsTrue, true, false};
 ghost use Rattle.sedck_text.specs.Cursors.{unread};
 ghost use Rattle.sedck_expressions.specs.Tree.{Tree, groups_in, group_count, trees};
 ghost use Rattle.sedck_expressions.specs.View.{tree};
@@ -8,8 +8,8 @@ ghost use Rattle.sedck_expressions.specs.Shape.{Shape};
 ghost use Rattle.sedck_expressions.specs.Shape as shape;
 ghost use Rattle.sedck_expressions.specs.Faults.{IsPlaced, IsOfText};
 ghost use Rattle.sedck_expressions.specs.Private.Sequence.{sequence};
-ghost use Rattle.sedck_expressions.specs.Private.Reading.{begins_pair, at_end, items, atom, group_at};
-ghost use Rattle.sedck_expressions.specs.Private.FullReading.{full};
+ghost use Rattle.sedck_expressions.specs.Reading.{begins_pair, at_end, items, atom, group_at};
+ghost use Rattle.sedck_expressions.specs.FirstFault.{full, first_fault};
 ghost use Rattle.sedck_expressions.specs.Private.Gives.{Gives, position_of, level_of, ClosedIs};
 
 use crate::fault::ReFault;
@@ -25,6 +25,7 @@ pub fn read_tree(alloc: Global, text: &[u8]) -> Result<(Bre, u8), ReFault>
     ensures only { IfOk result (λ x. (t : Tree) → Shape text.now t → t ≡ tree x.0) }
     ensures groups { IfOk result (λ x. x.1 ≡ group_count (tree x.0)) }
     ensures refused { IfErr result (λ fault. IsOfText fault → (t : Tree) → Shape text.now t → ⊥) }
+    ensures first { IfErr result (λ fault. IsOfText fault → first_fault text.now ≡ Some fault) }
     ensures place { IfErr result (λ fault. IsPlaced text.now fault) }
 {
     let mut groups = Groups {
@@ -50,7 +51,7 @@ fn read_items<'a>(
     requires few { groups.old.opened ≤ 99 }
     requires shallow { depth ≤ 32 }
     ensures value { (bound : ℕ) (closed : List ℕ) → length (unread cursor.entry) < bound → ClosedIs groups.old.closed closed
-        → Gives (λ x. (trees (map tree x.0.items), unread x.1)) result
+        → Gives (λ x. (trees (map tree x.0.items), unread x.1)) (length cursor.entry.whole.now) result
         (items full bound (level_of depth) shape.First depth groups.old.opened closed (unread cursor.entry)) }
     ensures few { groups.new.opened ≤ 99 }
     ensures opened { IfOk result (λ x. groups.new.opened ≡ groups.old.opened + length (groups_in (sequence x.0.items))) }
@@ -87,7 +88,7 @@ fn read_item<'a>(
     requires few { groups.old.opened ≤ 99 }
     requires shallow { depth ≤ 32 }
     ensures value { (bound : ℕ) (closed : List ℕ) → length (unread cursor.entry) ≤ bound → ClosedIs groups.old.closed closed
-        → Gives (λ x. (tree x.0, unread x.1)) result (atom full
+        → Gives (λ x. (tree x.0, unread x.1)) (length cursor.entry.whole.now) result (atom full
         (items full bound shape.Inside shape.First (depth + 1) (groups.old.opened + 1) closed) (level_of depth)
         (position_of position) depth groups.old.opened closed (unread cursor.entry)) }
     ensures few { groups.new.opened ≤ 99 }
@@ -115,7 +116,7 @@ fn read_group<'a>(
     requires few { groups.old.opened ≤ 99 }
     requires shallow { depth ≤ 32 }
     ensures value { (bound : ℕ) (closed : List ℕ) → length (unread cursor.entry) ≤ bound → ClosedIs groups.old.closed closed
-        → Gives (λ x. (tree x.0, unread x.1)) result (group_at full
+        → Gives (λ x. (tree x.0, unread x.1)) (length cursor.entry.whole.now) result (group_at full
         (items full bound shape.Inside shape.First (depth + 1) (groups.old.opened + 1) closed) depth groups.old.opened
         (drop 2 (unread cursor.entry))) }
     ensures few { groups.new.opened ≤ 99 }

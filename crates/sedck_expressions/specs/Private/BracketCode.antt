@@ -4,6 +4,7 @@ use Rattle.std.specs.List.{list_any, starts_with}
 use Rattle.sedck_expressions.specs.Brackets as brackets
 use Rattle.sedck_expressions.specs.Brackets.{classes, in_element}
 use Rattle.sedck_expressions.specs.Faults.{HasOneAt}
+use Rattle.sedck_expressions.specs.Reading.{Stop}
 use Rattle.sedck_expressions.specs.Private.Sets.{HasJust}
 use Rattle.sedck_expressions.specs.declared.brackets.elements.Class.{Class}
 use Rattle.sedck_expressions.specs.declared.brackets.elements.Class.TheVariants.{Upper, Lower, Alpha, Digit, Alnum, Xdigit, Space, Blank, Punct, Graph, Print, Cntrl}
@@ -44,9 +45,9 @@ abbrev pub behind_name : List ℕ × (ℕ → Bool) → List ℕ → Option (Lis
 behind_name class text = if starts_with nat_eq text (closed_name class) then Some (drop (length (closed_name class)) text) else None
 
 -- what a function returned, seen by view, is what is read
-abbrev pub Reads : {X Y E : Type 0} → (X → Y) → Result X E → Option Y → Type 0
-Reads view (Ok x) read = read ≡ Some (view x)
-Reads view (Err flaw) read = read ≡ None
+abbrev pub Reads : {X Y : Type 0} → (X → Y) → Result X Flaw → Result Y Flaw → Type 0
+Reads view (Ok x) read = read ≡ Ok (view x)
+Reads view (Err flaw) read = read ≡ Err flaw
 
 -- so many bytes are read of the text
 abbrev pub IsTaken : ℕ → List ℕ → Type 0
@@ -67,9 +68,13 @@ abbrev pub is_of : List brackets.Element → ℕ → Bool
 is_of es b = list_any (in_element b) es
 
 -- elements are read, and the set has just their bytes
-abbrev pub HasElements : List ℕ → List ℕ → Option (List brackets.Element × List ℕ) → Type 0
-HasElements words rest read = (es : List brackets.Element) × (read ≡ Some (es, rest)) × HasJust words (is_of es)
+abbrev pub HasElements : List ℕ → List ℕ → Result (List brackets.Element × List ℕ) Stop → Type 0
+HasElements words rest read = (es : List brackets.Element) × (read ≡ Ok (es, rest)) × HasJust words (is_of es)
 
 -- a test turned round, if the flag says so
 abbrev pub signed : Bool → (ℕ → Bool) → ℕ → Bool
 signed complement test b = if complement then not (test b) else test b
+
+-- a `^` after the bracket makes the complement
+abbrev pub opening : Bool → List ℕ
+opening complement = if complement then codes "[^" else codes "["

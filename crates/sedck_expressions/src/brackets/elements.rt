@@ -4,7 +4,7 @@ ghost use Rattle.std.specs.Prelude.{◌≡◌, ℕ, ◌==◌, ◌≤◌, length,
 ghost use Rattle.sedck_text.specs.Text.{begins};
 ghost use Rattle.sedck_expressions.specs.Brackets.{in_element};
 ghost use Rattle.sedck_expressions.specs.Private.Sets.{HasJust};
-ghost use Rattle.sedck_expressions.specs.Private.BracketReading.{ranges, no_range, range_end_at, byte_or_range_at, whole_class_at, equivalents_at, last_dash_at, element_at};
+ghost use Rattle.sedck_expressions.specs.BracketReading.{ranges, no_range, range_end_at, byte_or_range_at, whole_class_at, equivalents_at, last_dash_at, element_at};
 ghost use Rattle.sedck_expressions.specs.Private.BracketCode.{class_of, element_of, closed_name, Reads, IsTaken, HasNoEscape, IsFlawIn};
 
 use super::sets::{range, union};

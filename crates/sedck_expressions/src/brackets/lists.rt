@@ -1,11 +1,12 @@
 //! Bracket lists: from the bracket to the set of their members.
 
-ghost use Rattle.std.specs.Prelude.{◌≡◌, ◌<◌, ◌≤◌, ◌&&◌, not, length, IsTrue, IfOk, IfErr, MatchResult, None, ℕ, Bool, true};
+ghost use Rattle.std.specs.Prelude.{◌≡◌, ◌+◌, ◌-◌, ◌<◌, ◌≤◌, ◌&&◌, not, List, length, take, IsTrue, IfOk, IfErr, MatchResult, Some, drop, ℕ, Bool, true};
 ghost use Rattle.sedck_text.specs.Text.{begins};
 ghost use Rattle.sedck_text.specs.Cursors.{unread};
 ghost use Rattle.sedck_expressions.specs.Brackets.{has_symbol, is_mistakable};
 ghost use Rattle.sedck_expressions.specs.View.{bytes_in};
-ghost use Rattle.sedck_expressions.specs.Private.BracketReading.{elements_of, set_at, bracket_at};
+ghost use Rattle.sedck_expressions.specs.BracketReading.{flaw_at, elements_of, holder, mistaken, set_at, bracket_at};
+ghost use Rattle.sedck_expressions.specs.FirstFault.{placed, fault_in};
 ghost use Rattle.sedck_expressions.specs.Private.BracketCode.{HasElements, signed, IsFlawIn};
 ghost use Rattle.sedck_expressions.specs.Faults.{HasOneAt, IsPlaced, IsOfText};
 ghost use Rattle.sedck_expressions.specs.Private.Gives.{Gives};
@@ -34,6 +35,7 @@ fn fault_of(outer: usize, cursor: Cursor<'_>, flaw: Flaw) -> ReFault
     requires outer { HasOneAt cursor.whole.now outer "[" }
     requires some { flaw ≡ Flaw.Bad → 0 < length (unread cursor) }
     requires flaw { IsFlawIn (unread cursor) flaw }
+    ensures value { result ≡ placed (length cursor.entry.whole.now) (flaw_at (drop outer cursor.entry.whole.now) (unread cursor.entry) flaw) }
     ensures place { IsPlaced cursor.entry.whole.now result }
     ensures memory { IsOfText result }
 {
@@ -53,8 +55,9 @@ fn fault_of(outer: usize, cursor: Cursor<'_>, flaw: Flaw) -> ReFault
 /// The set of the elements up to the closing bracket, and the cursor behind it. The list begins at `outer`.
 fn read_elements<'a>(outer: usize, cursor: Cursor<'a>) -> Result<(ByteSet, Cursor<'a>), ReFault>
     requires outer { HasOneAt cursor.whole.now outer "[" }
-    ensures value { MatchResult result (λ x. HasElements x.0.0 (unread x.1) (elements_of (unread cursor.entry)))
-        (λ _. elements_of (unread cursor.entry) ≡ None) }
+    ensures value { MatchResult result
+        (λ x. HasElements x.0.0 (unread x.1) (elements_of (drop outer cursor.entry.whole.now) (unread cursor.entry)))
+        (λ fault. fault_in (length cursor.entry.whole.now) (elements_of (drop outer cursor.entry.whole.now) (unread cursor.entry)) ≡ Some fault) }
     ensures same { IfOk result (λ x. x.1.whole ≡ cursor.entry.whole) }
     ensures shorter { IfOk result (λ x. length (unread x.1) < length (unread cursor.entry)) }
     ensures place { IfErr result (λ fault. IsPlaced cursor.entry.whole.now fault) }
@@ -110,7 +113,9 @@ fn is_mistakable(text: &[u8]) -> bool
 /// Where the element begins that the byte at the offset belongs to, from the first element on.
 fn find_element(cursor: Cursor<'_>, offset: usize) -> usize
     requires { cursor.at ≤ offset }
-    ensures { result ≤ offset }
+    ensures value { (bound : ℕ) → length (unread cursor.entry) ≤ bound
+        → holder bound (length cursor.entry.whole.now - offset) true (unread cursor.entry) ≡ drop result cursor.entry.whole.now }
+    ensures before { result ≤ offset }
 {
     let mut next = cursor;
     let mut first = true;
@@ -127,16 +132,16 @@ fn find_element(cursor: Cursor<'_>, offset: usize) -> usize
 
 /// The place of the element by which a list is mistakable, where its elements are the first bytes from the cursor on.
 fn mistakable_place(cursor: Cursor<'_>, inside: usize) -> usize
-    requires { inside < length (unread cursor) }
-    ensures { result < length cursor.entry.whole.now }
+    requires long { inside < length (unread cursor) }
+    requires mistakable { is_mistakable (take inside (unread cursor)) ≡ true }
+    ensures value { (rest : List ℕ) → length rest + inside + 1 ≡ length (unread cursor.entry)
+        → holder (length (unread cursor.entry)) (mistaken (take inside (unread cursor.entry)) rest) true (unread cursor.entry)
+        ≡ drop result cursor.entry.whole.now }
+    ensures within { result < length cursor.entry.whole.now }
 {
     let text = cursor.unread();
-    let index = if inside > 0 && text[inside - 1] == b'[' {
-        inside - 1
-    } else {
-        inside.saturating_sub(2)
-    };
-    find_element(cursor, cursor.offset() + index)
+    let back = if text[..inside].ends_with(b"[") { 1 } else { 2 };
+    find_element(cursor, cursor.offset() + inside.saturating_sub(back))
 }
 
 /// The set, or its complement.
@@ -153,7 +158,8 @@ fn read_set<'a>(
     cursor: Cursor<'a>,
 ) -> Result<(ByteSet, Cursor<'a>), ReFault>
     requires outer { HasOneAt cursor.whole.now outer "[" }
-    ensures value { Gives (λ x. (bytes_in x.0.0, unread x.1)) result (set_at complemented (unread cursor.entry)) }
+    ensures value { Gives (λ x. (bytes_in x.0.0, unread x.1)) (length cursor.entry.whole.now) result
+        (set_at (drop outer cursor.entry.whole.now) complemented (unread cursor.entry)) }
     ensures same { IfOk result (λ x. x.1.whole ≡ cursor.entry.whole) }
     ensures shorter { IfOk result (λ x. length (unread x.1) < length (unread cursor.entry)) }
     ensures place { IfErr result (λ fault. IsPlaced cursor.entry.whole.now fault) }
@@ -176,7 +182,7 @@ fn read_set<'a>(
 /// The set of the bracket list at the start, and the cursor behind its closing bracket.
 pub(crate) fn read_bracket_list<'a>(cursor: Cursor<'a>) -> Result<(ByteSet, Cursor<'a>), ReFault>
     requires opens { begins "[" (unread cursor) ≡ true }
-    ensures value { Gives (λ x. (bytes_in x.0.0, unread x.1)) result (bracket_at (unread cursor.entry)) }
+    ensures value { Gives (λ x. (bytes_in x.0.0, unread x.1)) (length cursor.entry.whole.now) result (bracket_at (unread cursor.entry)) }
     ensures same { IfOk result (λ x. x.1.whole ≡ cursor.entry.whole) }
     ensures shorter { IfOk result (λ x. length (unread x.1) < length (unread cursor.entry)) }
     ensures place { IfErr result (λ fault. IsPlaced cursor.entry.whole.now fault) }

@@ -3,7 +3,7 @@
 ghost use Rattle.std.specs.Prelude.{◌≡◌, ◌≤◌, true, false, length, drop, IfOk, IfErr, IfSome, Err};
 ghost use Rattle.std.specs.Option.{option_map};
 ghost use Rattle.sedck_expressions.specs.Brackets.{classes};
-ghost use Rattle.sedck_expressions.specs.Private.BracketReading.{class_from, symbol_at, opened_at, escaped_at, byte_at};
+ghost use Rattle.sedck_expressions.specs.BracketReading.{is_closed, missing_end, class_from, symbol_at, opened_at, escaped_at, byte_at};
 ghost use Rattle.sedck_text.specs.Text.{begins};
 ghost use Rattle.sedck_expressions.specs.Private.BracketCode.{class_of, element_of, behind_name, Reads, IsTaken, HasNoEscape, IsFlawIn};
 
@@ -35,14 +35,40 @@ const CLASSES: [Class; 12] = [
     Class::Cntrl,
 ];
 
+/// Whether the text begins with the bracket that closes a symbol.
+fn begins_closing(text: &[u8]) -> bool
+    ensures { result ≡ begins "]" text.now }
+{
+    match text {
+        [first, ..] => *first == b']',
+        [] => false,
+    }
+}
+
+/// Whether the mark and a `]` are in the text, one after another.
+fn is_closed(mark: u8, text: &[u8]) -> bool
+    ensures { result ≡ is_closed mark text.now }
+{
+    let mut rest = text;
+    'ends: while let [first, after @ ..] = rest {
+        if *first == mark && begins_closing(after) {
+            return true;
+        }
+        rest = after;
+    }
+    false
+}
+
 /// What is wrong where the rest, which has to end in the mark and a `]`, isn't a class or a symbol.
 pub(crate) fn missing_end(mark: u8, rest: &[u8]) -> Flaw
-    ensures { HasNoEscape result }
+    ensures value { result ≡ missing_end mark rest.now }
+    ensures flaw { HasNoEscape result }
 {
-    let is_closed = rest
-        .windows(2)
-        .any(|pair| pair[0] == mark && pair[1] == b']');
-    if is_closed { Flaw::Bad } else { Flaw::Unclosed }
+    if is_closed(mark, rest) {
+        Flaw::Bad
+    } else {
+        Flaw::Unclosed
+    }
 }
 
 /// The class that a `[:` opens, and how many bytes it takes.

@@ -1,5 +1,6 @@
-use Rattle.sedck_expressions.proofs.Common.{◌≡◌, ◌++◌, ap, sym, ◌∙◌, true, unread, begins}
-use Rattle.sedck_expressions.specs.Private.BracketReading.{bracket_at}
+use Rattle.sedck_expressions.proofs.Common.{◌≡◌, ◌++◌, ap, sym, ◌∙◌, true, length, unread, begins}
+use Rattle.sedck_expressions.specs.BracketReading.{bracket_at}
+use Rattle.sedck_expressions.specs.FirstFault.{fault_in}
 use Rattle.sedck_expressions.proofs.Along.{second_same}
 use Rattle.sedck_expressions.proofs.WholeBracket.{bracket_again}
 use Rattle.sedck_expressions.proofs.ItemBeginnings.{bracket_front}
@@ -12,7 +13,7 @@ returns-in-Ok-clause-left c bytes text after cut list some =
 pub returns-in-Err-clause-left : goal.returns-in-Err-clause-left
 returns-in-Err-clause-left c bytes text after cut list some =
     let read = ap bracket_at cut ∙ bracket_again text bytes after list some in
-    absurd (cc (c.in-Err.ensures.value c.in-Err.ensures.memory, read))
+    absurd (cc (sym (ap (fault_in (length c.args.cursor.whole.now)) read) ∙ c.in-Err.ensures.value c.in-Err.ensures.memory))
 
 pub returns-then-not-opens_list-clause-left : goal.returns-then-not-opens_list-clause-left
 returns-then-not-opens_list-clause-left c bytes text after cut list some =

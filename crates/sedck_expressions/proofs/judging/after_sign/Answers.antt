@@ -1,5 +1,5 @@
 use Rattle.sedck_expressions.proofs.Common.{ap, sym, ◌∙◌, drop, begins}
-use Rattle.sedck_expressions.specs.Private.IntervalReading.{interval_at}
+use Rattle.sedck_expressions.specs.IntervalReading.{interval_at}
 use Rattle.sedck_expressions.proofs.Along.{star_left, interval_opens, third_same}
 use Rattle.sedck_expressions.proofs.IntervalLemmas.{interval_again}
 use Rattle.sedck_expressions.proofs.judging.after_sign.Goals as goal

@@ -1,8 +1,11 @@
-use Rattle.sedck_expressions.proofs.Common.{◌≡◌, ◌+◌, ◌<◌, ◌∷◌, ◌++◌, length, map, true, false, refl, sym, ap, ◌∙◌, subst, arith, length-append, err_from_is_err_and, append-nil, unread, groups_in, tree, sequence, at_end, ClosedIs, set}
+use Rattle.sedck_expressions.proofs.Common.{◌≡◌, ◌+◌, ◌<◌, ◌≤◌, ◌∷◌, drop, nat_tests, full, Inside, First, ◌++◌, length, map, true, false, refl, sym, ap, ◌∙◌, subst, arith, length-append, err_from_is_err_and, append-nil, unread, groups_in, tree, sequence, at_end, ClosedIs, set}
 use Rattle.std.proofs.lemmas.List.{map_push}
-use Rattle.sedck_expressions.proofs.ItemLoop.{groups-push, loop_starts, loop_ends, loop_goes, loop_fails, loop_fails_at, same_left, closed-push, closed_more}
+use Rattle.sedck_expressions.proofs.ItemLoop.{groups-push, loop_starts, loop_ends, loop_goes, loop_fails, loop_fails_at, same_left, closed-push, closed_more, group_stops}
 use Rattle.sedck_expressions.specs.declared.tree.Bre.TheVariants as Bre
 use Rattle.sedck_expressions.proofs.ViewLemmas.{tree-Seq, tree-Group}
+use Rattle.std.proofs.lemmas.List.{length-drop}
+use Rattle.sedck_expressions.specs.Reading.{items}
+use Rattle.sedck_expressions.specs.Private.Gives.{level_of}
 use Rattle.sedck_expressions.proofs.parser.+items.Goals as goal
 
 pub read_items-returns-clause-value : goal.read_items-returns-clause-value
@@ -50,16 +53,33 @@ pub read_items-returns-in_err-bare-clause-value : goal.read_items-returns-in_err
 read_items-returns-in_err-bare-clause-value t c bound closed enough h =
     let p = err_from_is_err_and c.from_residual.result c.from_residual.ensures.1 in
     let g = closed ++ groups_in (sequence c.items.items.items) in
-    rw (p.1, p.2) (λ bad. loop_fails (c.items.invariant.reads bound closed enough h) (sym c.is_at_end.ensures ∙ c.items-test.true)
-    (λ n room. c.in_err-bare.ensures.value n g room (c.items.invariant.closed closed h) bad))
+    let same = ap (λ w. length w.now) c.items.invariant.same in
+    rw (p.1, p.2) (λ bad. loop_fails (c.items.invariant.reads bound closed enough h) (length c.args.cursor.whole.now) _
+    (sym c.is_at_end.ensures ∙ c.items-test.true)
+    (λ n room. rw same at (c.in_err-bare.ensures.value n g room (c.items.invariant.closed closed h) bad)))
 
 pub read_items-returns-in_err-item-clause-value : goal.read_items-returns-in_err-item-clause-value
 read_items-returns-in_err-item-clause-value t c bound closed enough h =
     let p = err_from_is_err_and c.from_residual-in_err-item.result c.from_residual-in_err-item.ensures.1 in
+    let same = ap (λ w. length w.now) (c.in_ok-bare.ensures.same ∙ c.items.invariant.same) in
     let g = closed ++ groups_in (sequence c.items.items.items) in
     rw (p.1, p.2) (λ bad. loop_fails_at (c.items.invariant.reads bound closed enough h) (tree c.in_ok-bare.bare) (unread c.in_ok-bare.sign)
     (sym c.is_at_end.ensures ∙ c.items-test.true)
-    (λ n room. c.in_ok-bare.ensures.value n g room (c.items.invariant.closed closed h)) (c.in_err-item.ensures.value bad))
+    (λ n room. c.in_ok-bare.ensures.value n g room (c.items.invariant.closed closed h)) (length c.args.cursor.whole.now) _
+    (rw same at (c.in_err-item.ensures.value bad)))
+
+pub read_group-returns-in_err-items-clause-value : goal.read_group-returns-in_err-items-clause-value
+read_group-returns-in_err-items-clause-value t c bound closed enough h =
+    let p = err_from_is_err_and c.from_residual.result c.from_residual.ensures.1 in
+    let depth = c.args.depth in
+    let opened = c.args.groups.now.opened in
+    let long : 2 ≤ length (unread c.args.cursor) = grind (arith, c.requires.opens) in
+    let left = c.advance.ensures.left in
+    let inside : level_of (depth + 1) ≡ Inside = grind (arith, nat_tests) in
+    let room : length (unread c.advance.result) < bound = omega (arith, enough, long, ap length left, length-drop 2 (unread c.args.cursor)) in
+    rw (p.1, p.2) (λ bad. group_stops (length c.args.cursor.whole.now) _ (items full bound Inside First (depth + 1) (opened + 1) closed) depth opened
+    (drop 2 (unread c.args.cursor)) (omega (arith, c.if-depth-ge32.false)) (omega (arith, c.if-groups-ge99.false))
+    (rw (inside, left, ap (λ w. length w.now) c.advance.ensures.whole) at (c.in_err-items.ensures.value bound closed room h bad)))
 
 pub read_group-returns-in_ok-body-in-92-clause-closed : goal.read_group-returns-in_ok-body-in-92-clause-closed
 read_group-returns-in_ok-body-in-92-clause-closed t c closed h =

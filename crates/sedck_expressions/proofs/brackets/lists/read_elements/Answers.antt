@@ -1,12 +1,14 @@
-use Rattle.sedck_expressions.proofs.Common.{◌∙◌, ◌++◌, ◌∷◌, [], refl, sym, ap, arith, Some, rules, ◌<◌, length, unread, in_element, is_of}
+use Rattle.sedck_expressions.proofs.Common.{◌∙◌, ◌++◌, ◌∷◌, [], refl, sym, ap, arith, Some, Ok, rules, ◌<◌, length, drop, unread, in_element, is_of}
 use Rattle.std.proofs.Common.{length-drop}
+use Rattle.sedck_expressions.specs.BracketReading.{flaw_at}
+use Rattle.sedck_expressions.specs.FirstFault.{placed, fault_in}
 use Rattle.sedck_expressions.specs.Private.BracketCode.{element_of}
 use Rattle.sedck_expressions.proofs.ElementLoop.{elements_start, elements_end, elements_go, elements_fail}
 use Rattle.sedck_expressions.proofs.SetLoop.{just_push}
 use Rattle.sedck_expressions.proofs.brackets.lists.read_elements.Goals as goal
 
 pub elements-init : goal.elements-init
-elements-init c = record { same = refl; shorter = omega arith; front = []; just = search rules; reads = elements_start (unread c.args.cursor) }
+elements-init c = record { same = refl; shorter = omega arith; front = []; just = search rules; reads = elements_start (drop c.args.outer c.args.cursor.whole.now) (unread c.args.cursor) }
 
 pub elements-preserved : goal.elements-preserved
 elements-preserved c =
@@ -22,17 +24,21 @@ elements-preserved c =
       front = front ++ e ∷ [];
       just = just_push c.union-set.result.0 front e (c.union-set.ensures (is_of front) (λ b. in_element b e) c.elements.invariant.just c.members.ensures);
       reads = elements_go c.elements.invariant.reads e (unread c.advance-next.result) (sym c.is_over.ensures.value ∙ c.elements-test.true)
-          (read.read ∙ ap (λ t. Some (e, t)) (sym left)) less;
+          (read.read ∙ ap (λ t. Ok (e, t)) (sym left)) less;
     }
 
 pub returns-in-Err-clause-value : goal.returns-in-Err-clause-value
 returns-in-Err-clause-value c =
-    elements_fail c.elements.invariant.reads (sym c.is_over.ensures.value ∙ c.elements-test.true) (rw c.unread.ensures at c.in-Err.ensures.read)
+    let whole = c.args.cursor.whole.now in
+    let stops = elements_fail c.elements.invariant.reads c.in-Err.flaw (sym c.is_over.ensures.value ∙ c.elements-test.true)
+    (rw c.unread.ensures at c.in-Err.ensures.read) in
+    ap (fault_in (length whole)) stops ∙ ap (λ f. Some f) (sym (c.fault_of.ensures.value
+    ∙ ap (λ w. placed (length w.now) (flaw_at (drop c.args.outer w.now) (unread c.elements.next) c.in-Err.flaw)) c.elements.invariant.same))
 
 pub returns-clause-value : goal.returns-clause-value
 returns-clause-value c = (
   c.elements.invariant.front,
   elements_end c.elements.invariant.reads (sym c.is_over.ensures.value ∙ c.elements-test.false)
-      ∙ ap (λ r. Some (c.elements.invariant.front, r)) (sym c.advance.ensures.left),
+      ∙ ap (λ r. Ok (c.elements.invariant.front, r)) (sym c.advance.ensures.left),
   c.elements.invariant.just,
 )

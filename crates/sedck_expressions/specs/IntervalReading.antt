@@ -1,11 +1,11 @@
--- A way to read an interval.
-use Rattle.std.specs.Prelude.{ℕ, nat_le, not, ◌&&◌, if◌then◌else◌, List, take, drop, Option, Some, None}
+-- How an interval is read. A text that begins with `\{` and is none is a fault (ours).
+use Rattle.std.specs.Prelude.{ℕ, nat_le, not, ◌&&◌, if◌then◌else◌, List, take, drop, Option, Some, None, option_and_then}
 use Rattle.std.specs.List.{prefix_len}
 use Rattle.std.specs.Str.Parse.{digits_value}
 use Rattle.sedck_text.specs.Text.{begins}
 use Rattle.sedck_text.specs.Classes.{is_digit}
 use Rattle.sedck_expressions.specs.Shape.{is_empty}
-use Rattle.sedck_expressions.specs.Private.Reading.{◌>>=◌, begins_pair}
+use Rattle.sedck_expressions.specs.Reading.{begins_pair}
 
 -- the digits at the start, and what follows them
 abbrev pub digits_at : List ℕ → List ℕ × List ℕ
@@ -22,7 +22,7 @@ abbrev pub most_of : ℕ → ℕ × List ℕ → Option (ℕ × Option ℕ × Li
 most_of least (most, rest) = if begins_pair 125 rest && nat_le least most then Some (least, Some most, drop 2 rest) else None
 
 abbrev pub most_at : ℕ → List ℕ → Option (ℕ × Option ℕ × List ℕ)
-most_at least text = number_at text >>= most_of least
+most_at least text = option_and_then (most_of least) (number_at text)
 
 abbrev pub upper_at : ℕ → List ℕ → Option (ℕ × Option ℕ × List ℕ)
 upper_at least text = if begins_pair 125 text then Some (least, None, drop 2 text) else most_at least text
@@ -34,7 +34,7 @@ bounds_of (least, rest) =
     else None
 
 abbrev pub bounds_at : List ℕ → Option (ℕ × Option ℕ × List ℕ)
-bounds_at text = number_at text >>= bounds_of
+bounds_at text = option_and_then bounds_of (number_at text)
 
 unfoldable pub interval_at : List ℕ → Option (ℕ × Option ℕ × List ℕ)
 interval_at text = if begins_pair 123 text then bounds_at (drop 2 text) else None
