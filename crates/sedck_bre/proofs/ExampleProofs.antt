@@ -1,15 +1,16 @@
 -- The worked examples of expressions hold.
-use Rattle.sedck_bre.proofs.Common.{◌≡◌, ℕ, List, [], ◌∷◌, ◌++◌, None, refl, sym, arith, inl, inr, ◌⊎◌, Tree, Byte, Group, Ref, trees, Groups, no_groups, text_of, unset, Match, MatchAll, Language, with_text, Times}
+use Rattle.sedck_bre.proofs.Common.{◌≡◌, ℕ, List, [], ◌∷◌, ◌++◌, refl, sym, arith, inl, inr, ◌⊎◌, Tree, Byte, Group, Ref, trees, Groups, no_groups, text_of, unset, Match, MatchAll, Language, with_text, Times}
 use Rattle.std.proofs.Common.{Some}
+use Rattle.std.specs.Prelude.{Ok}
 use Rattle.std.specs.Prelude.{codes}
 use Rattle.std.proofs.lemmas.List.{append-nil}
 use Rattle.std.specs.Prelude.{All}
 use Rattle.std.proofs.lemmas.List.Elements.{All-nil, All-cons}
 use Rattle.sedck_bre.specs.Examples.{sequence_of, text_tree, star, spelled_texts, refused_texts, two_or_three, any_number, nested, ExamplesHold}
-use Rattle.sedck_expressions.specs.Private.Reading.{read, items}
-use Rattle.sedck_expressions.specs.Private.BracketReading.{bracket_at, elements_at}
-use Rattle.sedck_expressions.specs.Private.IntervalReading.{interval_at}
-use Rattle.sedck_expressions.specs.Private.FullReading.{full}
+use Rattle.sedck_expressions.specs.Reading.{read, items}
+use Rattle.sedck_expressions.specs.BracketReading.{bracket_at, elements_at, holder}
+use Rattle.sedck_expressions.specs.IntervalReading.{interval_at}
+use Rattle.sedck_expressions.specs.FirstFault.{full, first_fault}
 use Rattle.sedck_bre.proofs.LeastFloor.{least-floor}
 use Rattle.sedck_expressions.proofs.WholeReading.{shape_of, none_of}
 
@@ -63,7 +64,7 @@ both_rounds d h =
     (codes "ab", codes "b", one_round, refl, first_round, (codes "b", [], two, refl, second_round one_round d h, (refl, refl))) in
     (two, (codes "abb", back, two, refl, (2, omega arith, rounds), (back, [], two, sym (append-nil back), (refl, refl), (refl, refl))))
 
--- Reading each text gives its tree, and so the text spells it; or reading gives nothing, and so the text spells no tree.
+-- Reading each text gives its tree, and so the text spells it; or it stops at the fault, and so the text spells no tree.
 abbrev Each : {X : Type 0} → (X → Type 0) → List X → Type 0
 Each P [] = Unit {0}
 Each P (x ∷ xs) = P x × Each P xs
@@ -72,18 +73,19 @@ all_of : {X : Type 0} (P Q : X → Type 0) → ((x : X) → P x → Q x) → (xs
 all_of P Q f [] h = All-nil Q
 all_of P Q f (x ∷ xs) h = All-cons Q x xs (f x h.0) (all_of P Q f xs h.1)
 
-are_read : Each (λ example. read full example.0 ≡ Some example.1) spelled_texts
+are_read : Each (λ example. read full example.0 ≡ Ok example.1) spelled_texts
 unfolding read items bracket_at elements_at interval_at
 are_read = (refl, (refl, (refl, (refl, (refl, (refl, (refl, (refl, (refl, (refl, (refl, (refl, (refl, (refl, (refl, tt)))))))))))))))
 
-are_refused : Each (λ text. read full text ≡ None) refused_texts
-unfolding read items bracket_at elements_at interval_at
-are_refused = (refl, (refl, (refl, (refl, (refl, (refl, (refl, (refl, (refl, (refl, (refl, (refl, (refl, (refl, (refl, (refl, (refl, (refl, (refl, tt)))))))))))))))))))
+have_faults : Each (λ example. first_fault example.0 ≡ Some example.1) refused_texts
+unfolding first_fault read items bracket_at elements_at holder interval_at
+have_faults = (refl, (refl, (refl, (refl, (refl, (refl, (refl, (refl, (refl, (refl, (refl, (refl, (refl, (refl, (refl, (refl, (refl, (refl, (refl, (refl, (refl, (refl, (refl, (refl, (refl, (refl, tt))))))))))))))))))))))))))
 
 pub examples_hold : ExamplesHold
 examples_hold = record {
   spelled = all_of _ _ (λ example. shape_of example.0 example.1) spelled_texts are_read;
-  refused = all_of _ _ none_of refused_texts are_refused;
+  refused = all_of _ _ (λ example. none_of example.0 example.1) refused_texts have_faults;
+  first = all_of (λ example. first_fault example.0 ≡ Some example.1) _ (λ example h. h) refused_texts have_faults;
   matches = two_or_three_match;
   no_shorter = λ w. least-floor two_or_three w (refl, tt);
   took_no_part = any_number_empty;

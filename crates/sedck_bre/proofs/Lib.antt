@@ -6,6 +6,7 @@ pub mod LeastReached
 pub mod CappedSums
 pub mod ExampleProofs
 pub mod GroupTexts
+pub mod FirstFaults
 pub mod LeastLength
 pub mod UntouchedGroups
 pub mod NamedSums

@@ -1,10 +1,13 @@
 -- Worked examples of expressions: which texts spell which trees, which spell none, and what some of them match.
-use Rattle.std.specs.Prelude.{ℕ, ◌≤◌, List, [], ◌∷◌, length, map, All, Some, None, codes}
+use Rattle.std.specs.Prelude.{◌++◌, ◌≡◌, ℕ, ◌≤◌, List, [], ◌∷◌, length, map, All, Some, None, codes}
 use Rattle.sedck_text.specs.Bytes.{ascii}
 use Rattle.sedck_expressions.specs.Tree.{Tree, Byte, Any, Set, Start, End, Maybe, Group, Ref, Seq, Repeat, trees}
 use Rattle.sedck_bre.specs.Match.{no_groups, Match, Language}
 use Rattle.sedck_bre.specs.WideMatch.{WideMatch}
 use Rattle.sedck_expressions.specs.Shape.{Shape}
+use Rattle.sedck_expressions.specs.FirstFault.{first_fault}
+use Rattle.sedck_expressions.specs.declared.fault.ReFault.{ReFault}
+use Rattle.sedck_expressions.specs.declared.fault.ReFault.TheVariants.{TrailingBackslash, BadEscape, UnclosedBracket, BadBracket, EmptySet, UnclosedGroup, UnopenedGroup, BadInterval, NothingToRepeat, DoubleRepeat, BadReference}
 
 abbrev pub sequence_of : List Tree → Tree
 sequence_of items = Seq (trees items)
@@ -46,18 +49,24 @@ spelled_texts =
     ∷ (codes "[\\t]", sequence_of (Set (codes "\\t") ∷ []))
     ∷ []
 
-abbrev pub refused_texts : List (List ℕ)
+-- texts that spell no tree, each with its first fault and the place of that
+abbrev pub refused_texts : List (List ℕ × ReFault)
 refused_texts =
-    -- a GNU operator, a second sign of repetition, a reference to no group
-    codes "a\\+" ∷ codes "a**" ∷ codes "\\(a\\)\\2"
+    -- a GNU operator, a second sign of repetition, a reference to no group, and to one that isn't closed yet
+    (codes "a\\+", BadEscape 1) ∷ (codes "a**", DoubleRepeat 2) ∷ (codes "\\(a\\)\\2", BadReference 5) ∷ (codes "\\(a\\1\\)", BadReference 3)
     -- what isn't closed, or isn't opened
-    ∷ codes "\\(a" ∷ codes "a\\)" ∷ codes "[a" ∷ codes "a\\"
-    -- an interval with its bounds in the wrong order, or above 255
-    ∷ codes "a\\{2,1\\}" ∷ codes "a\\{256\\}"
+    ∷ (codes "\\(a", UnclosedGroup 0) ∷ (codes "a\\)", UnopenedGroup 1) ∷ (codes "[a", UnclosedBracket 0) ∷ (codes "a\\", TrailingBackslash 1)
+    -- an interval with its bounds in the wrong order, above 255, and of nothing
+    ∷ (codes "a\\{2,1\\}", BadInterval 1) ∷ (codes "a\\{256\\}", BadInterval 1) ∷ (codes "\\{2\\}", NothingToRepeat 0)
     -- a range backwards, one of three bytes, a class that isn't one, and one as the end of a range
-    ∷ codes "[z-a]" ∷ codes "[a-c-e]" ∷ codes "[[:alfa:]]" ∷ codes "[[:alpha:]-z]"
+    ∷ (codes "[z-a]", BadBracket 1) ∷ (codes "[a-c-e]", BadBracket 4) ∷ (codes "[[:alfa:]]", BadBracket 1) ∷ (codes "[[:alpha:]-z]", BadBracket 1)
+    -- a list of no byte
+    ∷ (codes "[^" ++ 0 ∷ codes "-" ++ 255 ∷ codes "]", EmptySet 0)
     -- lists that seds read differently
-    ∷ codes "[[...]]" ∷ codes "[[===]]" ∷ codes "[\\c]" ∷ codes "[a-\\x]" ∷ codes "[[:alpha:][]" ∷ codes "[[.a.][^]"
+    ∷ (codes "[[...]]", BadBracket 1) ∷ (codes "[[===]]", BadBracket 1) ∷ (codes "[\\c]", BadEscape 1) ∷ (codes "[a-\\x]", BadEscape 3)
+    ∷ (codes "[[:alpha:][]", BadBracket 10) ∷ (codes "[[.a.][^]", BadBracket 6)
+    -- of two faults the one that is met first: the sign before what follows it, the element before its list, and what is inside before its group
+    ∷ (codes "a*\\{9", DoubleRepeat 2) ∷ (codes "[z-a", BadBracket 1) ∷ (codes "\\(a\\{", BadInterval 3) ∷ (codes "a\\+\\)", BadEscape 1)
     ∷ []
 
 -- `\(ab\)\{2,3\}c*\1`
@@ -74,7 +83,8 @@ nested = sequence_of (star (Group 1 (sequence_of (star (Group 2 (text_tree (code
 
 pub record ExamplesHold : Type 0 where
   pub spelled : All (λ example. Shape example.0 example.1) spelled_texts
-  pub refused : All (λ text. (tree : Tree) → ¬ Shape text tree) refused_texts
+  pub refused : All (λ example. (tree : Tree) → ¬ Shape example.0 tree) refused_texts
+  pub first : All (λ example. first_fault example.0 ≡ Some example.1) refused_texts
   pub matches : Language two_or_three (codes "ababab")
   pub no_shorter : (text : List ℕ) → Language two_or_three text → 6 ≤ length text
   -- a group that took no part counts as the empty text

@@ -1,10 +1,11 @@
 //! Well formed expressions, and what is kept with one.
 
-ghost use Rattle.std.specs.Prelude.{◌≡◌, ◌≤◌, ◌&&◌, not, ℕ, IfOk, IfErr};
+ghost use Rattle.std.specs.Prelude.{◌≡◌, ◌≤◌, ◌&&◌, not, ℕ, Some, IfOk, IfErr};
 ghost use Rattle.sedck_expressions.specs.View.{tree};
 ghost use Rattle.sedck_expressions.specs.Tree.{Tree, group_count};
 ghost use Rattle.sedck_expressions.specs.Shape.{Shape};
 ghost use Rattle.sedck_expressions.specs.Faults.{IsPlaced, IsOfText};
+ghost use Rattle.sedck_expressions.specs.FirstFault.{first_fault};
 ghost use Rattle.sedck_bre.specs.Lengths.{IsLeastSize, HasLength};
 ghost use Rattle.sedck_bre.specs.Rests.{is_top_group, names, named, NamesTopGroups, HasRest};
 ghost use Rattle.sedck_bre.specs.Private.Bounds.{HasTopGroups};
@@ -142,6 +143,7 @@ pub fn parse(alloc: Global, text: &[u8]) -> Result<Expr, ReFault>
     ensures shape { IfOk result (λ e. Shape text.now e) }
     ensures only { IfOk result (λ e. (t : Tree) → Shape text.now t → t ≡ e) }
     ensures refused { IfErr result (λ fault. IsOfText fault → (t : Tree) → Shape text.now t → ⊥) }
+    ensures first { IfErr result (λ fault. IsOfText fault → first_fault text.now ≡ Some fault) }
     ensures place { IfErr result (λ fault. IsPlaced text.now fault) }
 {
     let (body, groups) = read_tree(alloc, text)?;

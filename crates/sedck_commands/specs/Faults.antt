@@ -6,6 +6,7 @@ use Rattle.sedck_text.specs.Text.{is_in, one_of}
 use Rattle.sedck_bre.specs.Tree.{Tree}
 use Rattle.sedck_bre.specs.Shape.{Shape}
 use Rattle.sedck_bre.specs.Faults as expressions
+use Rattle.sedck_expressions.specs.FirstFault.{first_fault}
 use Rattle.sedck_expressions.specs.Misjudged.{is_misjudged, IsMisjudgedAt}
 use Rattle.sedck_expressions.specs.declared.fault.ReFault.{ReFault}
 use Rattle.sedck_commands.specs.Cuts.{backslash, is_blank, is_digit, is_label_byte, is_separator, is_ending, can_be_escaped, is_delimiter, Longest}
@@ -72,9 +73,10 @@ FollowsByte test text offset =
 abbrev pub IsNoSecondAddress : List ℕ → ℕ → Type 0
 IsNoSecondAddress text offset = FollowsByte (one_of ",") text offset × EndsOrFails begins_address text offset
 
--- the text spells no expression, for this cause
+-- the text spells no expression, and this is its first fault
 pub record IsNoExpression (text : List ℕ) (cause : ReFault) : Type 0 where
   pub of_text : expressions.IsOfText cause
+  pub first : first_fault text ≡ Some cause
   pub placed : expressions.IsPlaced text cause
   pub spelled : (tree : Tree) → Shape text tree → ⊥
 

@@ -10,7 +10,7 @@ use Rattle.sedck_expressions.proofs.WholeBracket.{bracket_again}
 use Rattle.sedck_bre.specs.Match.{Groups, unset, Match, MatchAll, Times}
 use Rattle.sedck_locales.specs.Written.{written_item, written_items, written_list}
 use Rattle.sedck_locales.specs.Locales.{MatchIn, MatchAllIn, PosixLists}
-use Rattle.sedck_locales.proofs.WrittenTrees.{some_one}
+use Rattle.sedck_locales.proofs.WrittenTrees.{one_ok}
 
 -- one match after another, of either kind
 times_same : (One Other : Groups → List ℕ → Groups → Type 0) → ((e : Groups) (w : List ℕ) (e' : Groups) → One e w e' → Other e w e')
@@ -21,7 +21,7 @@ times_same One Other h (suc n) e w e' (u, v, d, is, one, more) = (u, v, d, is, h
 -- a list has one set of bytes, where each has one at least
 one_set : (text bytes others : List ℕ) → IsBracketList text bytes → IsBracketList text others → bytes ≢ [] → others ≢ [] → bytes ≡ others
 one_set text bytes others one two some more =
-    ap (λ z. z.0) (some_one (sym (bracket_again text bytes [] one some) ∙ bracket_again text others [] two more))
+    ap (λ z. z.0) (one_ok (sym (bracket_again text bytes [] one some) ∙ bracket_again text others [] two more))
 
 has_some : (b : ℕ) (bytes : List ℕ) → IsTrue (is_in b bytes) → bytes ≢ []
 has_some b bytes h e = false≢true (ap (is_in b) (sym e) ∙ h)

@@ -1,6 +1,6 @@
 -- The lists of an expression's text are those of its tree, and two texts with the same lists have one tree of them.
 use Rattle.std.proofs.Common.{◌≡◌, ◌≢◌, ℕ, true, false, eqb, ◌+◌, List, [], ◌∷◌, ◌++◌, Option, Some, None, refl, ap, sym, ◌∙◌, subst, inl, inr, arith, append_assoc, append-nil}
-use Rattle.std.specs.Prelude.{codes}
+use Rattle.std.specs.Prelude.{Result, Ok, codes}
 use Rattle.std.specs.List.{list_all}
 use Rattle.std.proofs.lemmas.Bool.{and_parts}
 use Rattle.std.proofs.lemmas.Bool.Decides.{nat_tests}
@@ -9,7 +9,7 @@ use Rattle.sedck_text.specs.Classes.{is_digit}
 use Rattle.sedck_expressions.specs.Tree.{Tree, Trees, Byte, Any, Set, Start, End, Maybe, Group, Ref, Seq, Repeat, Nil, Then}
 use Rattle.sedck_expressions.specs.Shape.{Level, Position, First, behind, SpellsByte, IsNumber, SpellsCount, SpellsItem, SpellsItems, SpellsList, Inside, Whole, Shape}
 use Rattle.sedck_expressions.specs.Brackets.{IsBracketList}
-use Rattle.sedck_expressions.specs.Private.BracketReading.{bracket_at}
+use Rattle.sedck_expressions.specs.BracketReading.{bracket_at}
 use Rattle.sedck_expressions.specs.WellFormed.{IsSound, AreSound}
 use Rattle.sedck_expressions.proofs.WholeBracket.{bracket_again}
 use Rattle.sedck_plain.specs.WrittenLists.{lists_from, expression_lists}
@@ -107,15 +107,15 @@ lists_found text t level here = sym (ap (lists_from Outside) (append-nil text)) 
 
 -- ---- One tree
 
-pub some_one : {A : Type 0} {a b : A} → Some a ≡ Some b → a ≡ b
-some_one e = cc e
+pub one_ok : {A E : Type 0} {a b : A} → ◌≡◌ {A = Result A E} (Ok a) (Ok b) → a ≡ b
+one_ok e = cc e
 
 -- two lists of the same bytes, each before another text
 one_list : (text other bytes x y : List ℕ) → IsBracketList text bytes → IsBracketList other bytes → bytes ≢ [] → text ++ x ≡ other ++ y
     → (text ≡ other) × (x ≡ y)
 one_list text other bytes x y one two some same =
     let read = sym (bracket_again text bytes x one some) ∙ ap bracket_at same ∙ bracket_again other bytes y two some in
-    let rest = ap (λ z. z.1) (some_one read) in
+    let rest = ap (λ z. z.1) (one_ok read) in
     (append_cancel_right text other x (same ∙ ap (λ t. other ++ t) (sym rest)), rest)
 
 mutual

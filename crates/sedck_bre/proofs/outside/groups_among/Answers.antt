@@ -1,4 +1,4 @@
-use Rattle.sedck_bre.proofs.Common.{◌≡◌, ◌∷◌, ◌+◌, Bool, drop, sym, ap, ◌∙◌, ◌||◌, list_any, tree, is_group, names}
+use Rattle.sedck_bre.proofs.Common.{◌∷◌, ◌+◌, drop, sym, ap, ◌∙◌, ◌||◌, list_any, tree, is_group, names}
 use Rattle.std.proofs.Math.Bool.{or_assoc}
 use Rattle.std.proofs.lemmas.List.{drop_more}
 use Rattle.sedck_expressions.proofs.PartLemmas.{names_or}
