@@ -61,7 +61,7 @@ no_error_trans a b c one two = record {
 
 -- ---- The same of findings that aren't the warning `locale`
 
-and_none : (a b : Bool) → b ≡ false → (a && b) ≡ false
+pub and_none : (a b : Bool) → b ≡ false → (a && b) ≡ false
 and_none true b is = is
 and_none false b is = refl
 

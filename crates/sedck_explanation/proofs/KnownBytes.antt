@@ -1,5 +1,5 @@
 -- What is known of the bytes at a path, and of those that an open file has.
-use Rattle.sedck_explanation.proofs.Common.{◌≡◌, ℕ, true, false, List, Option, Some, None, IfSome, subst, Known}
+use Rattle.sedck_explanation.proofs.Common.{◌≡◌, ℕ, false, List, Option, Some, None, IfSome, subst, Known}
 use Rattle.std.proofs.Common.{codes}
 use Rattle.std.specs.Str.{bytes_eq}
 use Rattle.sedck_engines.specs.Inputs.{IsRead}
@@ -10,11 +10,6 @@ pub read_known : (limit : ℕ) (known left : Option (List ℕ)) (text : List ℕ
     → IsRead limit left text → IsRead limit known text
 read_known limit None left text same is = record { prefix = tt; within = is.within }
 read_known limit (Some bytes) left text same is = subst (λ k. IsRead limit k text) same is
-
--- nothing is known of standard input
-pub input_bytes : (k : Known) (path : List ℕ) (left : Option (List ℕ)) → bytes_eq path (codes "-") ≡ true
-    → IfSome (known_bytes k path) (λ bytes. left ≡ Some bytes)
-input_bytes k path left is = rw is tt
 
 -- of a file what is known of its path
 pub file_bytes : (k : Known) (path : List ℕ) (left : Option (List ℕ)) → bytes_eq path (codes "-") ≡ false

@@ -4,6 +4,7 @@ use Rattle.std.proofs.lemmas.List.{map-append}
 use Rattle.std.proofs.lemmas.List.Folds.{list_any-append}
 use Rattle.std.proofs.lemmas.List.Elements.{filter-append, All-append, All-cons, All-nil, All-tail}
 use Rattle.std.specs.List.{All}
+use Rattle.sedck_advice.proofs.Added.{and_none}
 use Rattle.sedck_report.specs.Levels.{is_locale}
 use Rattle.sedck_report.specs.Reported.{HasRange}
 use Rattle.sedck_report.specs.declared.finding.Level.{Level}
@@ -134,10 +135,6 @@ more_note text denied found errors warnings notes pushed f g same has is pushes 
 not_so : (a is : Bool) → is ≡ true → (a ≡ true → is ≡ false) → a ≡ false
 not_so true is holds denies = absurd (false≢true (sym (denies refl) ∙ holds))
 not_so false is holds denies = refl
-
-and_none : (a b : Bool) → b ≡ false → (a && b) ≡ false
-and_none true b is = is
-and_none false b is = refl
 
 -- one that is left out
 pub more_ignored : (text : List ℕ) (denied : DeniedWarnings) (found errors warnings notes : List Finding) (f : Finding) (is : Bool) → is ≡ true

@@ -154,7 +154,8 @@ struct Lists<'a> {
 fn lists_of<'a>(alloc: Global, text: &[u8], located: &Located<'a>) -> Result<Lists<'a>, AllocError>
     ensures reads { IfOk result (λ lists. names_of lists.reads.items ≡ reads located.entry.now.script) }
     ensures writes { IfOk result (λ lists. names_of lists.writes.items ≡ writes located.entry.now.script) }
-    ensures positions { IfOk result (λ lists. lists.positions.items ≡ map (λ location. position_in text.now location.verb) located.entry.now.locations.items) }
+    ensures positions { IfOk result (λ lists. lists.positions.items
+        ≡ map (λ location. position_in text.now location.verb) located.entry.now.locations.items) }
 {
     let script = &located.script;
     let positions = verb_positions(alloc, text, &located.locations)?;
@@ -181,7 +182,8 @@ fn reports(
     requires locale { has_locale asked.warnings.items ≡ false }
     requires reads { names_of lists.now.reads.items ≡ reads located.now.script }
     requires writes { names_of lists.now.writes.items ≡ writes located.now.script }
-    ensures reports { IfOk result (λ r. Reports asked.entry.text.now asked.entry.denied answer.now located.now.script lists.now.positions.items r.0 r.1.items) }
+    ensures reports { IfOk result (λ r. Reports asked.entry.text.now asked.entry.denied answer.now located.now.script lists.now.positions.items
+        r.0 r.1.items) }
     ensures few { IfOk result (λ r. IsOfAnswer r.0) }
     ensures warned { IfOk result (λ r. warns_of_denied asked.entry.denied asked.entry.warnings.items ≡ true
         → warns_of_denied asked.entry.denied r.1.items ≡ true) }
