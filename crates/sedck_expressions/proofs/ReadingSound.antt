@@ -4,7 +4,7 @@ use Rattle.std.proofs.lemmas.Bool.{eqb-true}
 use Rattle.std.specs.Option.{ok_or}
 use Rattle.sedck_expressions.specs.declared.fault.ReFault.TheVariants.{BadInterval, DoubleRepeat}
 use Rattle.sedck_expressions.specs.WellFormed.{IsSound, AreSound, AreBounds}
-use Rattle.sedck_expressions.specs.Reading.{Stop, tree_before, repeat_before, plain, closed_by, escaped, backslash, Lister, items, read}
+use Rattle.sedck_expressions.specs.Reading.{Stop, tree_before, repeat_before, plain, closed_by, escaped, after_backslash, Lister, items, read}
 use Rattle.sedck_expressions.proofs.ReadLemmas.{bind_holds, ok_then, cond_holds, ok_or_holds, pair_text, Takes, IsListBefore, IsIntervalBefore, star_text, not_empty_more, repeatable_of, Fit, fit_all}
 use Rattle.sedck_expressions.proofs.ItemBeginnings.{sign_some, list_ends}
 use Rattle.sedck_expressions.proofs.NumberedGroups.{counts_range}
@@ -78,7 +78,7 @@ module _ (level : Level) (place : Position) (deep opened : ℕ) (closed : List �
   }) (λ _. tt)
 
   backslash_sound : (readers : Readers) → readers.unlimited ≡ false → (inner : List ℕ → Result (Trees × List ℕ) Stop) (text : List ℕ) → ReadsInside inner
-      → IfOk (backslash readers inner place deep opened closed text) (IsItem (92 ∷ text))
+      → IfOk (after_backslash readers inner place deep opened closed text) (IsItem (92 ∷ text))
   backslash_sound readers limited inner [] list = tt
   backslash_sound readers limited inner (b ∷ text) list = go (b == 40) refl
     where

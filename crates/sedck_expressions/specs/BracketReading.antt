@@ -2,6 +2,7 @@
 use Rattle.std.specs.Prelude.{ℕ, zero, suc, ◌+◌, ◌-◌, ◌==◌, nat_eq, nat_le, nat_lt, Bool, true, false, not, ◌&&◌, ◌||◌, if◌then◌else◌, List, [], ◌∷◌, ◌++◌, length, take, drop, Option, Some, None, Result, Ok, Err, codes}
 use Rattle.std.specs.Option.{ok_or}
 use Rattle.std.specs.List.{starts_with, ends_with}
+use Rattle.sedck_text.specs.Bytes.{backslash, newline, ascii}
 use Rattle.sedck_text.specs.Text.{begins}
 use Rattle.sedck_expressions.specs.Tree.{bytes_where}
 use Rattle.sedck_expressions.specs.Shape.{is_empty}
@@ -23,33 +24,33 @@ missing_end mark text = if is_closed mark text then Bad else Unclosed
 -- one byte that isn't the mark, the mark and a `]`
 abbrev pub symbol_at : ℕ → List ℕ → Result (ℕ × List ℕ) Flaw
 symbol_at mark (c ∷ d ∷ e ∷ text) =
-    if not (c == mark) && ((d == mark) && (e == 93)) then Ok (c, text) else Err (missing_end mark (d ∷ e ∷ text))
+    if not (c == mark) && ((d == mark) && (e == ascii "]")) then Ok (c, text) else Err (missing_end mark (d ∷ e ∷ text))
 symbol_at mark _ = Err Unclosed
 
 -- the byte that a bracket c begins, from what follows the bracket: no class is one byte
 abbrev pub opened_at : ℕ → List ℕ → Result (ℕ × List ℕ) Flaw
 opened_at c text =
-    if begins "." text then symbol_at 46 (drop 1 text)
-    else if begins ":" text then Err (missing_end 58 (drop 1 text))
-    else if begins "=" text then Err (missing_end 61 (drop 2 text))
+    if begins "." text then symbol_at (ascii ".") (drop 1 text)
+    else if begins ":" text then Err (missing_end (ascii ":") (drop 1 text))
+    else if begins "=" text then Err (missing_end (ascii "=") (drop 2 text))
     else Ok (c, text)
 
 -- the byte that a backslash c begins, from what follows the backslash
 abbrev pub escaped_at : ℕ → List ℕ → Result (ℕ × List ℕ) Flaw
 escaped_at c text =
     if begins "cdox" text then Err (Escape (length text + 1))
-    else if begins "n" text then Ok (10, drop 1 text)
-    else if begins "\\" text then Ok (92, drop 1 text)
+    else if begins "n" text then Ok (newline, drop 1 text)
+    else if begins "\\" text then Ok (backslash, drop 1 text)
     else Ok (c, text)
 
 -- a byte: itself, `\n`, `\\` or `[.c.]`
 abbrev pub byte_at : List ℕ → Result (ℕ × List ℕ) Flaw
 byte_at [] = Err Unclosed
-byte_at (c ∷ text) = if c == 91 then opened_at c text else if c == 92 then escaped_at c text else Ok (c, text)
+byte_at (c ∷ text) = if c == ascii "[" then opened_at c text else if c == backslash then escaped_at c text else Ok (c, text)
 
 -- what is before this text would begin a range
 abbrev pub ranges : List ℕ → Bool
-ranges (c ∷ d ∷ _) = (c == 45) && not (d == 93)
+ranges (c ∷ d ∷ _) = (c == ascii "-") && not (d == ascii "]")
 ranges _ = false
 
 abbrev pub no_range : Element × List ℕ → Result (Element × List ℕ) Flaw
@@ -79,15 +80,15 @@ byte_or_range_at text = byte_at text >>= range_or_one
 
 -- a class, from what follows its `[:`
 abbrev pub whole_class_at : List ℕ → Result (Element × List ℕ) Flaw
-whole_class_at text = ok_or (class_from classes text) (missing_end 58 text) >>= no_range
+whole_class_at text = ok_or (class_from classes text) (missing_end (ascii ":") text) >>= no_range
 
 -- an equivalence class, from what follows its `[=`
 abbrev pub equivalents_at : List ℕ → Result (Element × List ℕ) Flaw
-equivalents_at text = symbol_at 61 text >>= one >>= no_range
+equivalents_at text = symbol_at (ascii "=") text >>= one >>= no_range
 
 -- a `-` that isn't first, from what follows it
 abbrev pub last_dash_at : List ℕ → Result (Element × List ℕ) Flaw
-last_dash_at text = if begins "]" text then Ok (One 45, text) else Err (if is_empty text then Unclosed else Bad)
+last_dash_at text = if begins "]" text then Ok (One (ascii "-"), text) else Err (if is_empty text then Unclosed else Bad)
 
 abbrev pub element_at : Bool → List ℕ → Result (Element × List ℕ) Flaw
 element_at first text =

@@ -2,6 +2,7 @@
 use Rattle.std.specs.Prelude.{ℕ, nat_le, not, ◌&&◌, if◌then◌else◌, List, take, drop, Option, Some, None, option_and_then}
 use Rattle.std.specs.List.{prefix_len}
 use Rattle.std.specs.Str.Parse.{digits_value}
+use Rattle.sedck_text.specs.Bytes.{ascii}
 use Rattle.sedck_text.specs.Text.{begins}
 use Rattle.sedck_text.specs.Classes.{is_digit}
 use Rattle.sedck_expressions.specs.Shape.{is_empty}
@@ -19,17 +20,17 @@ number_at text = number_of (digits_at text)
 
 -- what follows the comma
 abbrev pub most_of : ℕ → ℕ × List ℕ → Option (ℕ × Option ℕ × List ℕ)
-most_of least (most, rest) = if begins_pair 125 rest && nat_le least most then Some (least, Some most, drop 2 rest) else None
+most_of least (most, rest) = if begins_pair (ascii "}") rest && nat_le least most then Some (least, Some most, drop 2 rest) else None
 
 abbrev pub most_at : ℕ → List ℕ → Option (ℕ × Option ℕ × List ℕ)
 most_at least text = option_and_then (most_of least) (number_at text)
 
 abbrev pub upper_at : ℕ → List ℕ → Option (ℕ × Option ℕ × List ℕ)
-upper_at least text = if begins_pair 125 text then Some (least, None, drop 2 text) else most_at least text
+upper_at least text = if begins_pair (ascii "}") text then Some (least, None, drop 2 text) else most_at least text
 
 abbrev pub bounds_of : ℕ × List ℕ → Option (ℕ × Option ℕ × List ℕ)
 bounds_of (least, rest) =
-    if begins_pair 125 rest then Some (least, Some least, drop 2 rest)
+    if begins_pair (ascii "}") rest then Some (least, Some least, drop 2 rest)
     else if begins "," rest then upper_at least (drop 1 rest)
     else None
 
@@ -37,4 +38,4 @@ abbrev pub bounds_at : List ℕ → Option (ℕ × Option ℕ × List ℕ)
 bounds_at text = option_and_then bounds_of (number_at text)
 
 unfoldable pub interval_at : List ℕ → Option (ℕ × Option ℕ × List ℕ)
-interval_at text = if begins_pair 123 text then bounds_at (drop 2 text) else None
+interval_at text = if begins_pair (ascii "{") text then bounds_at (drop 2 text) else None

@@ -1,7 +1,8 @@
 -- How an expression is read from left to right: a function from a text to its tree, or to its first fault (ours). It reads what the grammar in
 -- Shape.antt spells, and nothing else.
-use Rattle.std.specs.Prelude.{ℕ, zero, suc, ◌+◌, ◌-◌, ◌==◌, nat_lt, nat_le, Bool, true, false, ◌&&◌, ◌||◌, if◌then◌else◌, List, [], ◌∷◌, ◌++◌, length, drop, Option, Some, None, Result, Ok, Err}
+use Rattle.std.specs.Prelude.{ℕ, zero, suc, ◌+◌, ◌-◌, ◌==◌, nat_lt, nat_le, Bool, true, false, ◌&&◌, ◌||◌, if◌then◌else◌, List, [], ◌∷◌, ◌++◌, length, drop, codes, Option, Some, None, Result, Ok, Err}
 use Rattle.std.specs.Option.{ok_or}
+use Rattle.sedck_text.specs.Bytes.{backslash, newline, tab, ascii}
 use Rattle.sedck_text.specs.Text.{one_of, begins}
 use Rattle.sedck_expressions.specs.Tree.{Tree, Trees, Byte, Any, Set, Start, End, Maybe, Group, Ref, Seq, Repeat, Nil, Then, groups_in, is_in}
 use Rattle.sedck_expressions.specs.Shape.{Level, Whole, Inside, Position, First, is_first, is_later, behind}
@@ -32,12 +33,12 @@ pub record Readers : Type 0 where
 abbrev pub begins_pair : ℕ → List ℕ → Bool
 begins_pair c [] = false
 begins_pair c (b ∷ []) = false
-begins_pair c (b ∷ d ∷ _) = (b == 92) && (d == c)
+begins_pair c (b ∷ d ∷ _) = (b == backslash) && (d == c)
 
 -- the list of items is over
 abbrev pub at_end : List ℕ → Bool
 at_end [] = true
-at_end (b ∷ text) = begins_pair 41 (b ∷ text)
+at_end (b ∷ text) = begins_pair (ascii ")") (b ∷ text)
 
 abbrev pub is_repeatable : Tree → Bool
 is_repeatable (Byte _) = true
@@ -50,23 +51,23 @@ is_repeatable _ = false
 -- the `^` and the `$` of a whole expression and of a group
 abbrev pub start_of : Level → Tree
 start_of Whole = Start
-start_of Inside = Maybe 94
+start_of Inside = Maybe (ascii "^")
 
 abbrev pub end_of : Level → Tree
 end_of Whole = End
-end_of Inside = Maybe 36
+end_of Inside = Maybe (ascii "$")
 
 -- a byte that is not escaped, where the flag says that it is the last of its list; nothing for a sign of repetition
 abbrev pub plain : Level → Position → Bool → ℕ → Option Tree
 plain level position last b =
-    if b == 42 then (if is_later position then None else Some (Byte b))
-    else if b == 94 then (if is_first position then Some (start_of level) else Some (Byte b))
-    else if b == 36 then (if last then Some (end_of level) else Some (Byte b))
+    if b == ascii "*" then (if is_later position then None else Some (Byte b))
+    else if b == ascii "^" then (if is_first position then Some (start_of level) else Some (Byte b))
+    else if b == ascii "$" then (if last then Some (end_of level) else Some (Byte b))
     else Some (Byte b)
 
 -- the inside of a group up to its `\)`, where the group opens the text
 abbrev pub closed_by : ℕ → List ℕ → Trees × List ℕ → Result (Tree × List ℕ) Stop
-closed_by k text (ts, rest) = if begins_pair 41 rest then Ok (Group k (Seq ts), drop 2 rest) else Err (UnclosedGroup, text)
+closed_by k text (ts, rest) = if begins_pair (ascii ")") rest then Ok (Group k (Seq ts), drop 2 rest) else Err (UnclosedGroup, text)
 
 -- the limit that a group at this depth is beyond
 abbrev pub limit : ℕ → ℕ → ReFault
@@ -75,27 +76,27 @@ limit deep = if nat_lt deep 32 then TooManyGroups else TooDeep
 -- a group that may still be opened, from what follows its `\(`
 abbrev pub group_at : Readers → (List ℕ → Result (Trees × List ℕ) Stop) → ℕ → ℕ → List ℕ → Result (Tree × List ℕ) Stop
 group_at readers inner deep opened text =
-    if readers.unlimited || (nat_lt deep 32 && nat_lt opened 99) then inner text >>= closed_by (opened + 1) (92 ∷ 40 ∷ text)
-    else Err (limit deep, 92 ∷ 40 ∷ text)
+    if readers.unlimited || (nat_lt deep 32 && nat_lt opened 99) then inner text >>= closed_by (opened + 1) (codes "\\(" ++ text)
+    else Err (limit deep, codes "\\(" ++ text)
 
 -- a backslash and a byte that are no item
 abbrev pub no_item : Position → ℕ → ℕ → ReFault
-no_item position b = if b == 123 then (if is_later position then DoubleRepeat else NothingToRepeat) else BadEscape
+no_item position b = if b == ascii "{" then (if is_later position then DoubleRepeat else NothingToRepeat) else BadEscape
 
 -- what follows a backslash
 abbrev pub escaped : Readers → (List ℕ → Result (Trees × List ℕ) Stop) → Position → ℕ → ℕ → List ℕ → ℕ → List ℕ → Result (Tree × List ℕ) Stop
 escaped readers inner position deep opened closed b text =
-    if b == 40 then group_at readers inner deep opened text
-    else if nat_le 49 b && nat_le b 57 then
-    (if readers.unlimited || is_in (b - 48) closed then Ok (Ref (b - 48), text) else Err (BadReference, 92 ∷ b ∷ text))
-    else if b == 110 then Ok (Byte 10, text)
-    else if b == 116 then Ok (Byte 9, text)
+    if b == ascii "(" then group_at readers inner deep opened text
+    else if nat_le (ascii "1") b && nat_le b (ascii "9") then
+    (if readers.unlimited || is_in (b - ascii "0") closed then Ok (Ref (b - ascii "0"), text) else Err (BadReference, backslash ∷ b ∷ text))
+    else if b == ascii "n" then Ok (Byte newline, text)
+    else if b == ascii "t" then Ok (Byte tab, text)
     else if one_of ".[\\*^$]/-\"&,;:!@#%=~_ " b then Ok (Byte b, text)
-    else Err (no_item position b, 92 ∷ b ∷ text)
+    else Err (no_item position b, backslash ∷ b ∷ text)
 
-abbrev pub backslash : Readers → (List ℕ → Result (Trees × List ℕ) Stop) → Position → ℕ → ℕ → List ℕ → List ℕ → Result (Tree × List ℕ) Stop
-backslash readers inner position deep opened closed [] = Err (TrailingBackslash, 92 ∷ [])
-backslash readers inner position deep opened closed (b ∷ text) = escaped readers inner position deep opened closed b text
+abbrev pub after_backslash : Readers → (List ℕ → Result (Trees × List ℕ) Stop) → Position → ℕ → ℕ → List ℕ → List ℕ → Result (Tree × List ℕ) Stop
+after_backslash readers inner position deep opened closed [] = Err (TrailingBackslash, backslash ∷ [])
+after_backslash readers inner position deep opened closed (b ∷ text) = escaped readers inner position deep opened closed b text
 
 abbrev pub set_before : List ℕ × List ℕ → Result (Tree × List ℕ) Stop
 set_before (bytes, rest) = Ok (Set bytes, rest)
@@ -107,9 +108,9 @@ tree_before rest t = Ok (t, rest)
 abbrev pub atom : Readers → (List ℕ → Result (Trees × List ℕ) Stop) → Level → Position → ℕ → ℕ → List ℕ → List ℕ → Result (Tree × List ℕ) Stop
 atom readers inner level position deep opened closed [] = Err (UnopenedGroup, [])
 atom readers inner level position deep opened closed (b ∷ text) =
-    if b == 92 then backslash readers inner position deep opened closed text
-    else if b == 91 then (readers.bracket (b ∷ text) >>= set_before)
-    else if b == 46 then Ok (Any, text)
+    if b == backslash then after_backslash readers inner position deep opened closed text
+    else if b == ascii "[" then (readers.bracket (b ∷ text) >>= set_before)
+    else if b == ascii "." then Ok (Any, text)
     else (ok_or (plain level position (at_end text) b) (DoubleRepeat, b ∷ text) >>= tree_before text)
 
 abbrev pub repeat_before : Tree → ℕ × Option ℕ × List ℕ → Result (Tree × List ℕ) Stop
@@ -119,7 +120,7 @@ repeat_before t (least, most, rest) = Ok (Repeat t least most, rest)
 abbrev pub signed : Readers → Tree → List ℕ → Result (Tree × List ℕ) Stop
 signed readers t text =
     if begins "*" text then Ok (Repeat t 0 None, drop 1 text)
-    else if begins_pair 123 text then (ok_or (readers.interval text) (BadInterval, text) >>= repeat_before t)
+    else if begins_pair (ascii "{") text then (ok_or (readers.interval text) (BadInterval, text) >>= repeat_before t)
     else Ok (t, text)
 
 abbrev pub with_sign : Readers → Tree × List ℕ → Result (Tree × List ℕ) Stop

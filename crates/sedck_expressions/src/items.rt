@@ -6,7 +6,7 @@ ghost use Rattle.sedck_text.specs.Cursors.{unread};
 ghost use Rattle.sedck_expressions.specs.Tree.{Trees, groups_in};
 ghost use Rattle.sedck_expressions.specs.View.{tree};
 ghost use Rattle.sedck_expressions.specs.Shape as shape;
-ghost use Rattle.sedck_expressions.specs.Reading.{begins_pair, at_end, Stop, is_repeatable, plain, no_item, atom, backslash, escaped, with_sign};
+ghost use Rattle.sedck_expressions.specs.Reading.{begins_pair, at_end, Stop, is_repeatable, plain, no_item, atom, after_backslash, escaped, with_sign};
 ghost use Rattle.sedck_expressions.specs.FirstFault.{full};
 ghost use Rattle.sedck_expressions.specs.Private.FullReading.{set_at};
 ghost use Rattle.sedck_expressions.specs.Faults.{HasOneAt, IsPlaced, IsOfText};
@@ -136,7 +136,7 @@ fn read_escape<'a>(
     requires other { begins_pair 40 (unread cursor) ≡ false }
     ensures value { (inner : List ℕ → Result (Trees × List ℕ) Stop) (deep opened : ℕ) (closed : List ℕ) → ClosedIs groups.now.closed closed
         → Gives (λ x. (tree x.0, unread x.1)) (length cursor.entry.whole.now) result
-        (backslash full inner (position_of position) deep opened closed (drop 1 (unread cursor.entry))) }
+        (after_backslash full inner (position_of position) deep opened closed (drop 1 (unread cursor.entry))) }
     ensures groups { IfOk result (λ x. groups_in (tree x.0) ≡ []) }
     ensures shorter { IfOk result (λ x. length (unread x.1) < length (unread cursor.entry)) }
     ensures same { IfOk result (λ x. x.1.whole ≡ cursor.entry.whole) }

@@ -1,6 +1,6 @@
 use Rattle.sedck_expressions.proofs.Common.{◌≡◌, ℕ, ◌+◌, ◌≤◌, List, ◌∷◌, length, drop, get_or, ap, ◌∙◌, arith, err_from_is_err_and, unread, Cursor, HasOneAt, full}
 use Rattle.std.proofs.lemmas.List.{length-drop}
-use Rattle.sedck_expressions.specs.Reading.{backslash}
+use Rattle.sedck_expressions.specs.Reading.{after_backslash}
 use Rattle.sedck_expressions.specs.FirstFault.{fault_in}
 use Rattle.sedck_expressions.specs.Private.Gives.{position_of}
 use Rattle.sedck_expressions.proofs.OffsetLemmas.{stands_at}
@@ -21,7 +21,7 @@ returns-in_err-item-in-len2-up-clause-value c inner deep opened closed h =
     let p = err_from_is_err_and c.from_residual.result c.from_residual.ensures.1 in
     let long = rw c.unread.ensures at c.in-len2-up.len_at_least in
     let size = pair_size c.args.cursor c.offset-place.result c.offset-place.ensures long in
-    rw (p.1, p.2) (λ bad. ap (λ t. fault_in (length c.args.cursor.whole.now) (backslash full inner (position_of c.args.position) deep opened closed t))
+    rw (p.1, p.2) (λ bad. ap (λ t. fault_in (length c.args.cursor.whole.now) (after_backslash full inner (position_of c.args.position) deep opened closed t))
     (second_on (unread c.args.cursor) long)
     ∙ (rw c.unread.ensures at c.in_err-item-in-len2-up.ensures.value) inner deep opened (length c.args.cursor.whole.now) closed (drop 2 (unread c.args.cursor)) h size bad)
 
