@@ -58,6 +58,9 @@ ROWS = [
     ("a.sh", [], "sed \"s/\\\\/\\$x/;s/\\a/b/\"\n", 2, [("1:1", REFUSED, ["s/\\/$x/;s/\\a/b/"])]),
     ("a.bash", [], "sed $'s/a\\tb/c\\'d/'\n", 0, [("1:1", A, ["s/a\tb/c'd/"])]),
     ("a.sh", [], "sed $'s/a\\tb/c/'\n", 5, [("1:1", UNKNOWN, None)]),
+    # Of what is behind `\\c` bash takes two bytes where these are backslashes, and a byte 0 ends the text.
+    ("a.bash", [], "sed $'s/a/\\c\\n/' f\nsed $'s/a/b\\0/' f\nsed $'s/a\\x{5c}/b/' f\nsed $'s/a/\\x41\\cA/' f\nsed $'p;#\\c@' f\n", 5,
+     [("1:1", IF, ["s/a/x/", "f"]), ("2:1", UNKNOWN, None), ("3:1", UNKNOWN, None), ("4:1", IF, ["s/a/xx/", "f"]), ("5:1", UNKNOWN, None)]),
     ("a.sh", [], "sed -e 's/a/b/' \\\n  -e 's/c/d/'\n", 0, [("1:1", A, ["-e", "s/a/b/", "-e", "s/c/d/"])]),
     ("a.sh", [], "sed '\n  s/a/b/\n  p\n' f\n", 0, [("1:1", A, ["\n  s/a/b/\n  p\n", "f"])]),
     ("a.sh", [], "sed \"s/a/b/;\\\np\"\n", 0, [("1:1", A, ["s/a/b/;p"])]),
