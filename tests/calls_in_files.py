@@ -227,6 +227,11 @@ ROWS = [
     # Between `define` and `endef` make joins lines by a space, and halves backslashes before the one that joins them.
     ("Makefile", [], "define T\nsed 's/x/b\\\n/' f\nsed -n\\\np f\nsed 's/a\\\\\\\n\tb/c/' f\nendef\nall:\n\t$(T)\n", 5, [("2:1", IF, ["s/x/bx/", "f"]), ("4:1", UNKNOWN, ["-nxp", "f"]), ("6:1", UNKNOWN, None)]),
     ("Makefile", [], "define T\nsed -n \\\n\t's/a/b/; \\\np' f # x \\\n p\nif x; then \\\n\tsed p f; \\\nfi\nendef\nall:\n\t$(T)\n", 0, [("2:1", A, ["-n", "s/a/b/; p", "f"]), ("7:2", A, ["p", "f"])]),
+    # In brackets behind `$$` GNU make joins the lines of a recipe by a space, too.
+    ("Makefile", [], "all:\n\tx=$$(sed 's/a/b/; \\\n\t\ts/c/d/' f; \\\n\tsed p f)\n\tx=$${y-`sed -n \\\n\t p f`}; sed 's/c/d\\\n/' f\n", 0,
+     [("2:7", A, ["s/a/b/; s/c/d/", "f"]), ("4:2", A, ["p", "f"]), ("5:10", A, ["-n", "p", "f"]), ("6:10", A, ["s/c/d\\\n/", "f"])]),
+    ("Makefile", [], "all:\n\tx=$$(echo $$(sed 's/a/b\\\n/' f))\n\t: '$$(' ; sed 's/a/b\\\n/' f\n\tx=\"$$(sed 's/a/b/ \\\n\t;p' f)\"\n", 5,
+     [("2:15", IF, ["s/a/bx/", "f"]), ("4:12", IF, ["s/a/bx/", "f"]), ("6:8", A, ["s/a/b/ ;p", "f"])]),
     # Another program than a shell may run the recipes.
     ("Makefile", [], "SHELL := /bin/bash -e\nall: SHELL = $(X)\nall:\n\tSHELL=perl sed p f\n", 0, [("4:13", A, ["p", "f"])]),
     # Dockerfiles, files of continuous integration, spec files, sources of Autoconf.
