@@ -623,6 +623,7 @@ UNREAD = [
     ("a.bash", "x=\"${y:-'a'}${y:-'$z @' '*'}${y#'}'}${y:-\"it's\"}${y:-\\'}\"; (( x['k'] )); sed p f\n", []), ("a.bash", "x=\"${y:-'\\''}\"; sed p f #'}\"\n", ["1:12"]),
     ("a.sh", "x=\"${y:-$'}'}\"; sed p f\n", ["1:9"]), ("a.sh", ": || x=\"$(( ${y:-'}))\"  #'} ))\"; sed p f\n", ["1:18"]), ("a.sh", ": || x=$((' ))  #' )); sed p f\n", ["1:11"]),
     ("a.bash", ": || x=\"$[ ' ]\"  #' ]\"; sed p f\n", ["1:9"]), ("configure.ac", "AC_INIT([a])\nx=\"$[1]\"\n", []),
+    ("a.sh", "alias x=sed y\nx p f\nalias y=/bin/sed\nalias z\n", ["1:7", "3:7"]),
     ("Makefile", ".SECONDEXPANSION:\nall: $$(x) $${shell sed p f}\n", ["2:21"]), ("Makefile", "all: $$(x) $$(wildcard sed) sed f\n", []),
     ("Makefile", ".RECIPEPREFIX = >\nall:\n>sed p f\n", ["3:2"]),
     ("a.yml", "a: {run: sed p f}\n? run\n: sed p f\nmy key: {run: sed p f}\n", ["1:10", "3:3", "4:15"]),
