@@ -61,6 +61,9 @@ ROWS = [
     # Of what is behind `\\c` bash takes two bytes where these are backslashes, and a byte 0 ends the text.
     ("a.bash", [], "sed $'s/a/\\c\\n/' f\nsed $'s/a/b\\0/' f\nsed $'s/a\\x{5c}/b/' f\nsed $'s/a/\\x41\\cA/' f\nsed $'p;#\\c@' f\n", 5,
      [("1:1", IF, ["s/a/x/", "f"]), ("2:1", UNKNOWN, None), ("3:1", UNKNOWN, None), ("4:1", IF, ["s/a/xx/", "f"]), ("5:1", UNKNOWN, None)]),
+    # Between backquotes a backslash that is escaped joins no lines, nor does one outside of single quotes differ.
+    ("a.sh", [], "x=`sed 's/a/\\\\\nb/' f`\ny=`sed -n \\\n p f`\nz=`sed \"s/a/b/;\\\np\" f`\n", 0,
+     [("1:4", A, ["s/a/\\\nb/", "f"]), ("3:4", A, ["-n", "p", "f"]), ("5:4", A, ["s/a/b/;p", "f"])]),
     ("a.sh", [], "sed -e 's/a/b/' \\\n  -e 's/c/d/'\n", 0, [("1:1", A, ["-e", "s/a/b/", "-e", "s/c/d/"])]),
     ("a.sh", [], "sed '\n  s/a/b/\n  p\n' f\n", 0, [("1:1", A, ["\n  s/a/b/\n  p\n", "f"])]),
     ("a.sh", [], "sed \"s/a/b/;\\\np\"\n", 0, [("1:1", A, ["s/a/b/;p"])]),
@@ -613,6 +616,11 @@ UNREAD = [
     ("a.sh", "cat <<E\nsed p f\nE\nsudo tee f <<E\nsed p f\nE\n\"$x\" <<E\nuse sed to edit\nE\nssh h <<E\nuptime\nE\n", []),
     ("a.bash", "((sed + 1))\n: &> g sed p f\n[[ a || $x = sed ]]\n", []),
     ("a.sh", "cat <<EOF\nE\\\nOF\nsed p f\nEOF\ncat <<'EOF'\nE\\\nOF\nEOF\n", ["1:7"]),
+    # Between backquotes dash and bash join lines also in single quotes, in comments and in here-documents.
+    ("a.sh", "x=`sed 's/a/b\\\n/' f`\n", ["1:14"]), ("a.sh", "x=`sed p f # \\\nsed d f`\n", ["1:14"]), ("a.sh", "x=`sh <<'E'\nsed p f\\\ng\nE\n`\n", ["2:8"]),
+    ("a.sh", "x=`echo \\`sed 'w f\\\\\np' g\\``\n", ["1:20"]),
+    # There dash leaves out a backslash before a double quote in a here-document and in an expression, and bash doesn't.
+    ("a.sh", "cat <<E\n`sed 'w f\\\"' g`\nE\n", ["2:1"]), ("a.sh", "x=$((1+`sed 'w f\\\"' g`))\n", ["1:8"]), ("a.sh", "x=\"${y-`sed 'w f\\\"' g`}\"\n", ["1:8"]), ("a.sh", "x=\"`sed 'w f\\\"' g`\"\n", []),
     # A line with nothing before the backslash that joins it, and lines that bash joins before it reads the command.
     ("a.sh", "cat <<-E\n\t\\\n\tx\n\tE\n", ["1:8"]), ("a.sh", "cat <<E\n$(sed 's/a/b\\\n/' f # \\\nsed p g\n)\nE\n", ["2:13", "3:8"]),
     ("a.sh", "eval 'sed p f \\'\n", ["1:15"]), ("a.sh", "sed p f\\", ["1:8"]),
