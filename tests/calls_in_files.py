@@ -58,6 +58,12 @@ ROWS = [
     ("a.sh", [], "sed \"s/\\\\/\\$x/;s/\\a/b/\"\n", 2, [("1:1", REFUSED, ["s/\\/$x/;s/\\a/b/"])]),
     ("a.bash", [], "sed $'s/a\\tb/c\\'d/'\n", 0, [("1:1", A, ["s/a\tb/c'd/"])]),
     ("a.sh", [], "sed $'s/a\\tb/c/'\n", 5, [("1:1", UNKNOWN, None)]),
+    # Of what is behind `\\c` bash takes two bytes where these are backslashes, and a byte 0 ends the text.
+    ("a.bash", [], "sed $'s/a/\\c\\n/' f\nsed $'s/a/b\\0/' f\nsed $'s/a\\x{5c}/b/' f\nsed $'s/a/\\x41\\cA/' f\nsed $'p;#\\c@' f\n", 5,
+     [("1:1", IF, ["s/a/x/", "f"]), ("2:1", UNKNOWN, None), ("3:1", UNKNOWN, None), ("4:1", IF, ["s/a/xx/", "f"]), ("5:1", UNKNOWN, None)]),
+    # Between backquotes a backslash that is escaped joins no lines, nor does one outside of single quotes differ.
+    ("a.sh", [], "x=`sed 's/a/\\\\\nb/' f`\ny=`sed -n \\\n p f`\nz=`sed \"s/a/b/;\\\np\" f`\n", 0,
+     [("1:4", A, ["s/a/\\\nb/", "f"]), ("3:4", A, ["-n", "p", "f"]), ("5:4", A, ["s/a/b/;p", "f"])]),
     ("a.sh", [], "sed -e 's/a/b/' \\\n  -e 's/c/d/'\n", 0, [("1:1", A, ["-e", "s/a/b/", "-e", "s/c/d/"])]),
     ("a.sh", [], "sed '\n  s/a/b/\n  p\n' f\n", 0, [("1:1", A, ["\n  s/a/b/\n  p\n", "f"])]),
     ("a.sh", [], "sed \"s/a/b/;\\\np\"\n", 0, [("1:1", A, ["s/a/b/;p"])]),
@@ -224,6 +230,11 @@ ROWS = [
     # Between `define` and `endef` make joins lines by a space, and halves backslashes before the one that joins them.
     ("Makefile", [], "define T\nsed 's/x/b\\\n/' f\nsed -n\\\np f\nsed 's/a\\\\\\\n\tb/c/' f\nendef\nall:\n\t$(T)\n", 5, [("2:1", IF, ["s/x/bx/", "f"]), ("4:1", UNKNOWN, ["-nxp", "f"]), ("6:1", UNKNOWN, None)]),
     ("Makefile", [], "define T\nsed -n \\\n\t's/a/b/; \\\np' f # x \\\n p\nif x; then \\\n\tsed p f; \\\nfi\nendef\nall:\n\t$(T)\n", 0, [("2:1", A, ["-n", "s/a/b/; p", "f"]), ("7:2", A, ["p", "f"])]),
+    # In brackets behind `$$` GNU make joins the lines of a recipe by a space, too.
+    ("Makefile", [], "all:\n\tx=$$(sed 's/a/b/; \\\n\t\ts/c/d/' f; \\\n\tsed p f)\n\tx=$${y-`sed -n \\\n\t p f`}; sed 's/c/d\\\n/' f\n", 0,
+     [("2:7", A, ["s/a/b/; s/c/d/", "f"]), ("4:2", A, ["p", "f"]), ("5:10", A, ["-n", "p", "f"]), ("6:10", A, ["s/c/d\\\n/", "f"])]),
+    ("Makefile", [], "all:\n\tx=$$(echo $$(sed 's/a/b\\\n/' f))\n\t: '$$(' ; sed 's/a/b\\\n/' f\n\tx=\"$$(sed 's/a/b/ \\\n\t;p' f)\"\n", 5,
+     [("2:15", IF, ["s/a/bx/", "f"]), ("4:12", IF, ["s/a/bx/", "f"]), ("6:8", A, ["s/a/b/ ;p", "f"])]),
     # Another program than a shell may run the recipes.
     ("Makefile", [], "SHELL := /bin/bash -e\nall: SHELL = $(X)\nall:\n\tSHELL=perl sed p f\n", 0, [("4:13", A, ["p", "f"])]),
     # Dockerfiles, files of continuous integration, spec files, sources of Autoconf.
@@ -605,6 +616,11 @@ UNREAD = [
     ("a.sh", "cat <<E\nsed p f\nE\nsudo tee f <<E\nsed p f\nE\n\"$x\" <<E\nuse sed to edit\nE\nssh h <<E\nuptime\nE\n", []),
     ("a.bash", "((sed + 1))\n: &> g sed p f\n[[ a || $x = sed ]]\n", []),
     ("a.sh", "cat <<EOF\nE\\\nOF\nsed p f\nEOF\ncat <<'EOF'\nE\\\nOF\nEOF\n", ["1:7"]),
+    # Between backquotes dash and bash join lines also in single quotes, in comments and in here-documents.
+    ("a.sh", "x=`sed 's/a/b\\\n/' f`\n", ["1:14"]), ("a.sh", "x=`sed p f # \\\nsed d f`\n", ["1:14"]), ("a.sh", "x=`sh <<'E'\nsed p f\\\ng\nE\n`\n", ["2:8"]),
+    ("a.sh", "x=`echo \\`sed 'w f\\\\\np' g\\``\n", ["1:20"]),
+    # There dash leaves out a backslash before a double quote in a here-document and in an expression, and bash doesn't.
+    ("a.sh", "cat <<E\n`sed 'w f\\\"' g`\nE\n", ["2:1"]), ("a.sh", "x=$((1+`sed 'w f\\\"' g`))\n", ["1:8"]), ("a.sh", "x=\"${y-`sed 'w f\\\"' g`}\"\n", ["1:8"]), ("a.sh", "x=\"`sed 'w f\\\"' g`\"\n", []),
     # A line with nothing before the backslash that joins it, and lines that bash joins before it reads the command.
     ("a.sh", "cat <<-E\n\t\\\n\tx\n\tE\n", ["1:8"]), ("a.sh", "cat <<E\n$(sed 's/a/b\\\n/' f # \\\nsed p g\n)\nE\n", ["2:13", "3:8"]),
     ("a.sh", "eval 'sed p f \\'\n", ["1:15"]), ("a.sh", "sed p f\\", ["1:8"]),
@@ -615,6 +631,9 @@ UNREAD = [
     ("a.bash", "x=\"${y:-'a'}${y:-'$z @' '*'}${y#'}'}${y:-\"it's\"}${y:-\\'}\"; (( x['k'] )); sed p f\n", []), ("a.bash", "x=\"${y:-'\\''}\"; sed p f #'}\"\n", ["1:12"]),
     ("a.sh", "x=\"${y:-$'}'}\"; sed p f\n", ["1:9"]), ("a.sh", ": || x=\"$(( ${y:-'}))\"  #'} ))\"; sed p f\n", ["1:18"]), ("a.sh", ": || x=$((' ))  #' )); sed p f\n", ["1:11"]),
     ("a.bash", ": || x=\"$[ ' ]\"  #' ]\"; sed p f\n", ["1:9"]), ("configure.ac", "AC_INIT([a])\nx=\"$[1]\"\n", []),
+    ("a.sh", "alias x=sed y\nx p f\nalias y=/bin/sed\nalias z\n", ["1:7", "3:7"]),
+    ("Makefile", ".SECONDEXPANSION:\nall: $$(x) $${shell sed p f}\n", ["2:21"]), ("Makefile", "all: $$(x) $$(wildcard sed) sed f\n", []),
+    ("Makefile", ".RECIPEPREFIX = >\nall:\n>sed p f\n", ["3:2"]),
     ("a.yml", "a: {run: sed p f}\n? run\n: sed p f\nmy key: {run: sed p f}\n", ["1:10", "3:3", "4:15"]),
     ("Makefile", "define T\nall:\n\tsed 's/x$$//' f\n\tx=$$(sed p f)\nendef\n$(eval $(T))\n", ["3:2", "4:7"]),
     ("Makefile", "all: export SHELL = /usr/bin/python3 # x\nall:\n\tsed p f\nX := $(shell sed d f)\n", ["3:2", "4:14"]),

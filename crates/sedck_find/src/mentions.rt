@@ -5,8 +5,8 @@ use crate::names::Names;
 use crate::parts::{Part, Runner};
 use crate::programs::{LONGEST, Program, is_sed_word};
 use crate::units::{
-    begins_name, has_hole, hole_of, is_letters, is_option, is_word_in, last_part, lone_hole, rest,
-    variable_of,
+    begins_name, has_any, has_hole, hole_of, is_letters, is_option, is_word_in, last_part,
+    lone_hole, rest, variable_of,
 };
 use crate::values::Value;
 use sedck_origin::{Result, Unit, begins_with, byte_at, hole_name, is_name_byte, is_text};
@@ -37,6 +37,9 @@ pub(crate) fn mention_in(names: &Names<'_>, part: &Part, is_strict: bool) -> Res
     if let Some(offset) = word_in(names, open, part.run.runner, is_strict) {
         return Ok(Some(offset));
     }
+    if let Some(alias) = alias_in(names, called, others) {
+        return Ok(Some(alias));
+    }
     // The texts of other commands are read.
     let Program::Other = part.program else {
         return Ok(None);
@@ -62,6 +65,18 @@ fn word_in(names: &Names, words: &[ShellWord], runner: Runner, is_strict: bool) 
         }
     }
     None
+}
+
+/// The offset of the first of these words of `alias`, if that is the name, which is for a value that begins with the name of a sed.
+fn alias_in(names: &Names, called: &[Unit], words: &[ShellWord]) -> Option<usize> {
+    let mut aliases = words.iter();
+    let is_alias = |word: &ShellWord| {
+        has_any(&word.units, "=") && names.begins_with_sed(&word.units)
+    };
+    if !is_text(called, "alias") {
+        return None;
+    }
+    aliases.find(|word| is_alias(word)).map(|word| word.start)
 }
 
 /// The offset of the first of these words of the command with this name that is a text with a call of sed; a shell or another command may

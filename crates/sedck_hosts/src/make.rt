@@ -186,7 +186,9 @@ impl Make {
             return self.add_unknown(line, definition);
         }
         let behind = until(rest, ";#");
-        self.add(line.to(behind.start), Reading::Value)?;
+        let names = line.to(behind.start);
+        self.add(names, Reading::Value)?;
+        self.host.note(mention_in_doubled(names))?;
         if behind.begins_with(b';') {
             return self.add(command_of(behind.skip(1)), Reading::Recipe);
         }
@@ -268,6 +270,25 @@ impl Make {
         }
         Ok(())
     }
+}
+
+/// Where a call of sed is in a reference with two dollar signs: behind `.SECONDEXPANSION` make expands those of a rule a second time.
+fn mention_in_doubled(names: Part) -> Option<usize> {
+    let mut rest = names;
+    for _ in 0..names.len() {
+        if rest.starts_with("$$(") || rest.starts_with("$${") {
+            let reference = rest.skip(1);
+            let end = reference_end(reference);
+            let found = reference.to(end).mention_of_sed();
+            if found.is_some() {
+                return found;
+            }
+            rest = rest.from(end);
+        } else {
+            rest = rest.skip(1);
+        }
+    }
+    None
 }
 
 /// Whether the name of an assignment is known: there is one, without what make or `configure` replaces.

@@ -81,6 +81,8 @@ pub(crate) struct MakeText<'a> {
     shells: usize,
     /// Whether a call of sed was noted in the outermost of them.
     is_noted: bool,
+    /// The offset where brackets end behind `$$`, in which make joins the lines of a recipe.
+    joined_to: usize,
     quoting: Quoting,
     /// What hasn't been read yet.
     rest: Part<'a>,
@@ -107,6 +109,7 @@ pub(crate) fn read_make_text<'a>(
             _ => 0,
         },
         is_noted: false,
+        joined_to: 0,
         quoting: Quoting::default(),
         rest: whole,
     };
@@ -215,7 +218,7 @@ impl<'a> MakeText<'a> {
         match next.first() {
             None => self.add(Unit::made(here.start, next.start)),
             Some(b'$') if self.is_twice && self.opens.is_empty() => self.read_twice(here),
-            Some(b'$') => self.add_before(after, Unit::Byte(b'$', next.start)),
+            Some(b'$') => self.add_dollar(here),
             Some(byte @ (b'(' | b'{')) => self.open(here, Brackets::new(byte)),
             Some(b'\\') if !matches!(self.reading, Reading::Recipe) && after.starts_with("\n") => {
                 let line = after.skip(1);
@@ -224,6 +227,15 @@ impl<'a> MakeText<'a> {
             }
             Some(_) => self.add_before(after, Unit::made(here.start, after.start)),
         }
+    }
+
+    /// Adds the dollar sign for `$$`. GNU make takes brackets behind it for those of a reference where it looks for lines to join.
+    fn add_dollar(&mut self, here: Part<'a>) -> Result<()> {
+        let (next, after) = (here.skip(1), here.skip(2));
+        if after.begins_with_any("({") && here.start >= self.joined_to {
+            self.joined_to = reference_end(next);
+        }
+        self.add_before(after, Unit::Byte(b'$', next.start))
     }
 
     /// Reads several dollar signs of a part that may be expanded twice: with their reference they are a hole, in which a call of sed is noted.
@@ -304,12 +316,13 @@ impl<'a> MakeText<'a> {
         self.add(Unit::made(open.start, here.skip(1).start))
     }
 
-    /// Reads a backslash outside of references. One before a newline stays in a recipe, where a tab that begins the next line is left out.
+    /// Reads a backslash outside of references. One before a newline stays in a recipe, where a tab that begins the next line is left out, but
+    /// not in brackets behind `$$`.
     fn read_backslash(&mut self, here: Part<'a>) -> Result<()> {
         let after = here.skip(2);
         let has_newline = here.skip(1).first() == Some(b'\n');
         match self.reading {
-            Reading::Recipe if has_newline => {
+            Reading::Recipe if has_newline && here.start >= self.joined_to => {
                 let line = after_conditionals(after);
                 self.rest = line.skip(usize::from(line.first() == Some(b'\t')));
                 here.to(after.start).push(&mut self.units)

@@ -57,15 +57,28 @@ impl Reader<'_, '_> {
                 return self.add(unit);
             }
         };
+        let text = self.rest.take(count);
+        self.note_either(unit, text)?;
         let is_double = self.top.quote == Quote::Double || self.top.is_in_double;
         let group = self.new_group(unit.start(), true)?;
         self.output.jobs.push(Job {
-            units: backquoted(self.alloc, self.rest.take(count), is_double)?,
+            units: backquoted(self.alloc, text, is_double)?,
             quote: Quote::None,
             body: None,
             group,
         })?;
         self.add_hole_over(count.saturating_add(1), self.way())
+    }
+
+    /// Notes a backslash before a double quote in a command between backquotes, where shells differ in whether it is left out: in a
+    /// here-document, in `${..}` between double quotes and in an expression. Keeps where a backslash joins lines.
+    fn note_either(&mut self, unit: Unit, text: Cursor) -> Result<()> {
+        let is_either = self.top.is_in_double
+            || self.top.quote == Quote::Body
+            || self.top.enclosure == Enclosure::Arithmetic;
+        self.output
+            .note_if(is_either && has_escaped_quote(text), unit.start())?;
+        self.output.keep_joints(text)
     }
 
     /// Opens `$((` or `$(`.
@@ -272,6 +285,18 @@ fn backquote_end(text: Cursor, brackets: usize) -> BackquoteEnd {
         rest = rest.skip(1);
     }
     BackquoteEnd::Nowhere
+}
+
+/// Whether the text has a backslash and a double quote one after the other.
+fn has_escaped_quote(text: Cursor) -> bool {
+    let mut rest = text;
+    for _ in 0..text.len() {
+        if rest.peek() == Some(b'\\') && rest.byte(1) == Some(b'"') {
+            return true;
+        }
+        rest = rest.skip(1);
+    }
+    false
 }
 
 /// What a backslash quotes between backquotes, or between double quotes.

@@ -22,6 +22,7 @@ pub fn read_shell(alloc: Global, text: Text, form: Form) -> Result<ShellText> {
         jobs: Vec::new(alloc),
         functions: Vec::new(alloc),
         unread: Vec::new(alloc),
+        joints: Vec::new(alloc),
         misses: 0,
         looked: 0,
         is_full: false,

@@ -130,12 +130,20 @@ impl Reader<'_, '_> {
         let is_beside = after == offset.saturating_add(1);
         match escape_byte(letter) {
             Some(byte) if is_beside => self.add(Unit::Escape(byte, offset)),
-            _ => {
-                let count = digits_after(self.rest, letter).saturating_add(1);
-                self.pass(count);
-                self.add_hole(offset, self.end_after(count), Way::Quoted)
-            }
+            _ => self.add_escape(offset, letter),
         }
+    }
+
+    /// Adds a hole for the escape sequence with this letter. One that may be a byte 0 ends the text for bash, so that it may be anything.
+    fn add_escape(&mut self, offset: usize, letter: u8) -> Result<()> {
+        let length = length_after(self.rest, letter);
+        let way = match may_end(self.rest.take(length), letter) {
+            true => Way::Several,
+            false => Way::Quoted,
+        };
+        let count = length.saturating_add(1);
+        self.pass(count);
+        self.add_hole(offset, self.end_after(count), way)
     }
 
     /// Reads `[`, which M4 doesn't look at in a comment outside of arguments.
@@ -186,13 +194,33 @@ impl Reader<'_, '_> {
 }
 
 /// How many units that begin the text belong to the escape sequence with this letter before them.
-fn digits_after(text: Cursor, letter: u8) -> usize {
+fn length_after(text: Cursor, letter: u8) -> usize {
     match letter {
         b'0'..=b'7' => length_of(text.take(2), "01234567"),
+        b'x' if text.peek() == Some(b'{') => {
+            let count = length_of(text.skip(1), HEXADECIMAL).saturating_add(1);
+            let is_closed = text.byte(count) == Some(b'}');
+            count.saturating_add(usize::from(is_closed))
+        }
         b'x' => length_of(text.take(2), HEXADECIMAL),
         b'u' => length_of(text.take(4), HEXADECIMAL),
         b'U' => length_of(text.take(8), HEXADECIMAL),
-        b'c' => usize::from(text.peek().is_some() && !is_in(text.peek(), "'\\")),
+        // Behind it shells differ in what a backslash quotes.
+        b'c' if text.peek() == Some(b'\\') => 2,
+        b'c' => usize::from(text.peek().is_some_and(|byte| byte != b'\'')),
         _ => 0,
+    }
+}
+
+/// Whether the escape sequence with this letter, and these units behind it, may be a byte 0. Bash takes the last byte of a number, and as many
+/// digits as there are between braces.
+fn may_end(text: Cursor, letter: u8) -> bool {
+    let is_zero = length_of(text, "0") == text.len();
+    match letter {
+        b'0' => is_zero,
+        b'4' => is_zero && text.len() == 2,
+        b'x' | b'u' | b'U' => text.peek() == Some(b'{') || (is_zero && text.len() > 0),
+        b'c' => text.peek() == Some(b'@'),
+        _ => false,
     }
 }

@@ -50,6 +50,8 @@ pub(crate) struct Output {
     pub functions: Vec<ShellWord>,
     /// The offsets in the file of what isn't understood.
     pub unread: Vec<usize>,
+    /// The offsets in the file of backslashes that join lines in commands between backquotes.
+    pub joints: Vec<usize>,
     /// How often the end of something was looked for in vain.
     pub misses: usize,
     /// How many units were looked at for the ends of expressions.
@@ -81,6 +83,23 @@ impl Output {
         Ok(())
     }
 
+    /// Keeps where backslashes join lines in this command between backquotes; more than are kept are noted.
+    pub fn keep_joints(&mut self, text: Cursor) -> Result<()> {
+        let mut rest = text;
+        let mut is_quoted = false;
+        for _ in 0..text.len() {
+            is_quoted = !is_quoted && rest.peek() == Some(b'\\');
+            if is_quoted && rest.byte(1) == Some(b'\n') {
+                match self.joints.len() < JOINTS {
+                    true => self.joints.push(rest.start())?,
+                    false => self.unread.push(rest.start())?,
+                }
+            }
+            rest = rest.skip(1);
+        }
+        Ok(())
+    }
+
     /// Forgets what was read since, which is read again.
     pub fn forget(&mut self, mark: Mark) {
         self.commands.truncate(mark.commands);
@@ -99,6 +118,9 @@ pub(crate) const MISSES: usize = 16;
 
 /// The most commands of a text that are kept, and the most groups, so that memory is bounded.
 pub(crate) const MOST: usize = 100_000;
+
+/// How many backslashes that join lines are kept, so that the time stays linear.
+const JOINTS: usize = 100;
 
 /// The most enclosures around a byte.
 const DEPTH: usize = 100;
@@ -174,11 +196,10 @@ impl<'a> Reader<'a, '_> {
                 self.top.quote = Quote::None;
                 Ok(())
             }
-            Quote::Single => {
+            Quote::Single | Quote::Verbatim => {
                 self.note_joint(unit)?;
                 self.add_byte(unit)
             }
-            Quote::Verbatim => self.add_byte(unit),
             Quote::Double | Quote::Body => self.read_double(unit),
             Quote::Dollar => self.read_dollar(unit),
             Quote::Either => self.read_either(unit),
@@ -190,14 +211,15 @@ impl<'a> Reader<'a, '_> {
         }
     }
 
-    /// Notes a backslash and a newline that the text has in single quotes or in a comment, in a command of a here-document: bash joins the lines
-    /// of that first.
+    /// Notes a backslash and a newline that the text has in single quotes, in a comment or where nothing is expanded: bash joins the lines of a
+    /// command in a here-document first, and some shells those of one between backquotes.
     fn note_joint(&mut self, unit: Unit) -> Result<()> {
         if unit.byte() != Some(b'\\') || self.rest.peek() != Some(b'\n') {
             return Ok(());
         }
         let is_in_body = matches!(self.frames.first(), Some(frame) if frame.quote == Quote::Body);
-        self.output.note_if(is_in_body, unit.start())
+        let is_joined = self.output.joints.contains(&unit.start());
+        self.output.note_if(is_in_body || is_joined, unit.start())
     }
 
     /// Reads a unit that isn't quoted.
