@@ -137,9 +137,10 @@ impl Reader<'_, '_> {
     /// Adds a hole for the escape sequence with this letter. One that may be a byte 0 ends the text for bash, so that it may be anything.
     fn add_escape(&mut self, offset: usize, letter: u8) -> Result<()> {
         let length = length_after(self.rest, letter);
-        let way = match may_end(self.rest.take(length), letter) {
-            true => Way::Several,
-            false => Way::Quoted,
+        let way = if may_end(self.rest.take(length), letter) {
+            Way::Several
+        } else {
+            Way::Quoted
         };
         let count = length.saturating_add(1);
         self.pass(count);

@@ -90,9 +90,10 @@ impl Output {
         for _ in 0..text.len() {
             is_quoted = !is_quoted && rest.peek() == Some(b'\\');
             if is_quoted && rest.byte(1) == Some(b'\n') {
-                match self.joints.len() < JOINTS {
-                    true => self.joints.push(rest.start())?,
-                    false => self.unread.push(rest.start())?,
+                if self.joints.len() < JOINTS {
+                    self.joints.push(rest.start())?;
+                } else {
+                    self.unread.push(rest.start())?;
                 }
             }
             rest = rest.skip(1);
