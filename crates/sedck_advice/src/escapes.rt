@@ -1,7 +1,7 @@
 //! What to write in place of an escape of an expression that is refused.
 
 use crate::bytes::{
-    behind_command, byte_at, ends_command, first_bytes, has, is_among, without_blanks,
+    behind_command, byte_at, ends_command, ends_escaped, first_bytes, has, is_among, without_blanks,
 };
 use crate::spot::{Purpose, Spot};
 use sedck_parts::Reading;
@@ -69,7 +69,7 @@ fn repeat_hint(spot: Spot) -> &'static str {
         }
         return "for `x\\+` write `x\\{1,\\}` or `xx*`";
     }
-    if spot.inside().ends_with(b"\\$") {
+    if ends_escaped(spot.inside(), b'$') {
         return "if the two characters `$?` are meant write `\\$?`; GNU sed reads `\\$\\?` as a `$` that may be missing: for that write \
             `\\$\\{0,1\\}`, with `\\,` where the comma is the delimiter";
     }

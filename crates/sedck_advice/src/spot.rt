@@ -1,6 +1,8 @@
 //! What is around a fault, as far as a hint depends on it.
 
-use crate::bytes::{after_any, before_any, byte_at, first_bytes, is_among, without_blanks};
+use crate::bytes::{
+    after_any, before_any, byte_at, ends_escaped, first_bytes, is_among, without_blanks,
+};
 use sedck_parts::{Place, Reading};
 use sedck_report::skipped;
 
@@ -60,7 +62,7 @@ impl<'a> Spot<'a> {
     pub fn begins(self) -> bool {
         let inside = self.inside();
         let inside = inside.strip_suffix(b"^").unwrap_or(inside);
-        inside.is_empty() || inside.ends_with(b"\\(")
+        inside.is_empty() || ends_escaped(inside, b'(')
     }
 
     /// The expression from the fault on, with the delimiter that ends it.
