@@ -25,12 +25,13 @@ SKIPPED = ("for `0~3d` alone in a script write `n`, `n` and `d`; for `1~2d` writ
            "and for `1~3d` after them")
 STEPS = "for `0~3p` alone in a script write `n`, `n` and `p`; for `2~5p` write `n`, `p`, `n`, `n` and `n`; the command may not delete"
 GNU = "this extension of GNU sed has no equivalent in POSIX: do it outside the script"
-BYTE = "write the byte itself"
-WORD = ("match what is next to the word, with a command for each case: `/^WORD$/`, `/^WORD[^[:alnum:]_]/`, `/[^[:alnum:]_]WORD$/` and "
-        "`/[^[:alnum:]_]WORD[^[:alnum:]_]/`")
+BYTE = "write the byte itself, but a newline as `\\n`, and the delimiter behind a backslash"
+WORD = ("match what is next to the word: for `/\\<WORD/p` write `/^WORD/b do`, `/[^[:alnum:]_]WORD/b do`, `b on`, `:do`, `p` and `:on` on lines of "
+        "their own; for `/WORD\\>/p` write `/WORD$/b do`, `/WORD[^[:alnum:]_]/b do`, `b on`, `:do`, `p` and `:on`; for both ends the four pairs of "
+        "these; each match of WORD must begin and end with a letter, a digit or `_`")
 GROUPS = ("no escape of POSIX means an end of a word: match the byte next to it as a group of its own, after which the groups of WORD have "
           "other numbers, and `&` has that byte too")
-ENDS = "for the ends of the pattern space write `^` and `$`"
+ENDS = "for the ends of the pattern space write `^` first in an expression and `$` last"
 OTHER_BYTE = "write the character without the backslash, or in a bracket list, as in `[%]`"
 NO_BRACKET = "a list ends with a `]`; for the bracket itself write `\\[`"
 BRACKET = ("a delimiter in a bracket list ends the expression: use another one, as in `s,[/],x,` or `\\,[/],p`; in `[\\/]` some seds keep the "
