@@ -129,6 +129,8 @@ ESCAPES = [
         "s/\\([[:alnum:]_]\\)\\([0-9]\\{3\\}\\)/\\1-\\2/\n", ("1234 5678\n", "123 a456\n", "_789\n -123\n"), wrong=("s/[0-9]\\{3\\}/-&/\n",)),
     Row("inside of a word, without its text", "s/\\Bcat/dog/\n", "for `s/\\BWORD/NEW/` write `s/\\([[:alnum:]_]\\)WORD/\\1NEW/`",
         "s/\\([[:alnum:]_]\\)cat/\\1dog/\n", ("concat cat\n", "cat\n", "_catcat\n -cat\n"), wrong=("s/cat/dog/\n",)),
+    Row("inside of a word before an empty expression", "/\\Bcat/s//dog/\n", "write the whole one there", "/[[:alnum:]_]cat/s/\\([[:alnum:]_]\\)cat/\\1dog/\n",
+        ("concat cat\n", "cat\n", "_catcat\n -cat\n"), wrong=("/[[:alnum:]_]cat/s//dog/\n",)),
     Row("start of a word, with its text", "s/\\<[a-z]/X&/g\n", "`s/\\([^[:alnum:]_]\\)\\(WORD\\)/\\1X\\2/g`",
         "s/^/\\n/\ns/\\([^[:alnum:]_]\\)\\([a-z]\\)/\\1X\\2/g\ns/^\\n//\n", ("ab cd\n", "a_b\n -c\n", "\nA b\n"),
         wrong=("s/^/\\n/\ns/\\([^[:alnum:]_]\\)[a-z]/\\1X&/g\ns/^\\n//\n",)),

@@ -99,6 +99,9 @@ pub(crate) const COUNTED: &str =
 
 /// For `\B`.
 pub(crate) fn inner_hint(spot: Spot) -> &'static str {
+    if !spot.is_replaced() && spot.is_used_again() {
+        return AGAIN;
+    }
     if !spot.is_replaced() {
         return "`\\B` wants a byte of a word on both sides, or on none: for `/\\BWORD/` write `/[[:alnum:]_]WORD/`, and so for `WORD\\B`, if each \
             match of WORD has a letter, a digit or `_` on that side";
