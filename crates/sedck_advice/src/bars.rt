@@ -125,11 +125,11 @@ fn end_hint(spot: Spot) -> &'static str {
     }
     if is_tested(spot) {
         return "for `s/a\\(,\\|$\\)/b\\1/` in a loop write `s/$/\\n/` before the loop, `s/a\\([\\n,]\\)/b\\1/` in it and `s/\\n$//` after it, if the \
-            pattern space is one line, and each match of `a` has a byte; a list such as `[^0-9]` has the newline already; the last `s` sets the flag that \
-            `t` tests";
+            pattern space is one line, and each match of `a` has a byte, and none has a `,`; a list such as `[^0-9]` has the newline already; \
+            the last `s` sets the flag that `t` tests";
     }
     "for `s/a\\(,\\|$\\)/b\\1/` write `s/$/\\n/`, `s/a\\([\\n,]\\)/b\\1/` and `s/\\n$//`, if the pattern space is one line, and each match of `a` \
-        has a byte; a list such as `[^0-9]` has the newline already; the first `s` sets the flag that `t` tests"
+        has a byte, and none has a `,`; a list such as `[^0-9]` has the newline already; the first `s` sets the flag that `t` tests"
 }
 
 /// For `\(^\|` before a `t`, whose flag an `s` more would set.
@@ -152,7 +152,8 @@ fn tested_end_hint(spot: Spot) -> &'static str {
         _ if spot.is_counted() => ALTERNATIVES,
         Purpose::ReplacesAll if spot.is_reported() => APART,
         Purpose::ReplacesAll =>
-            "for `s/a\\(,\\|$\\)/b/g` and `t end` write `s/a,/b/g`, `s/a$/b/` and `t end`, if no match of one overlaps or makes a match of the other",
+            "for `s/a\\(,\\|$\\)/b/g` and `t end` write `s/a,/b/g`, `s/a$/b/` and `t end`, if each match of `a` has a byte, and no match of \
+                one overlaps or makes a match of the other",
         _ =>
             "for `s/a\\(,\\|$\\)/b/` and `t end` write `s/a,/b/`, `t end`, `s/a$/b/` and `t end`, if no match of one overlaps one of the other",
     }
