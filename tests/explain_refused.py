@@ -23,14 +23,15 @@ ANY_FLAG = ("does the text have the delimiter? Then use another one, as in `s,a/
             "name, each once")
 SKIPPED = ("for `0~3d` alone in a script write `n`, `n` and `d`; for `1~2d` write `$d`, `N` and `s/.*\\n//`; for `2~3d` put an `n` before these, "
            "and for `1~3d` after them")
-STEPS = "for `0~3p` alone in a script write `n`, `n` and `p`; for `2~5p` write `n`, `p`, `n`, `n` and `n`"
+STEPS = "for `0~3p` alone in a script write `n`, `n` and `p`; for `2~5p` write `n`, `p`, `n`, `n` and `n`; the command may not delete"
 GNU = "this extension of GNU sed has no equivalent in POSIX: do it outside the script"
-BYTE = "write the byte itself"
-WORD = ("match what is next to the word, with a command for each case: `/^WORD$/`, `/^WORD[^[:alnum:]_]/`, `/[^[:alnum:]_]WORD$/` and "
-        "`/[^[:alnum:]_]WORD[^[:alnum:]_]/`")
+BYTE = "write the byte itself, but a newline as `\\n`, and the delimiter behind a backslash"
+WORD = ("match what is next to the word: for `/\\<WORD/p` write `/^WORD/b do`, `/[^[:alnum:]_]WORD/b do`, `b on`, `:do`, `p` and `:on` on lines of "
+        "their own; for `/WORD\\>/p` write `/WORD$/b do`, `/WORD[^[:alnum:]_]/b do`, `b on`, `:do`, `p` and `:on`; for both ends the four pairs of "
+        "these; each match of WORD must begin and end with a letter, a digit or `_`")
 GROUPS = ("no escape of POSIX means an end of a word: match the byte next to it as a group of its own, after which the groups of WORD have "
           "other numbers, and `&` has that byte too")
-ENDS = "for the ends of the pattern space write `^` and `$`"
+ENDS = "for the ends of the pattern space write `^` first in an expression and `$` last"
 OTHER_BYTE = "write the character without the backslash, or in a bracket list, as in `[%]`"
 NO_BRACKET = "a list ends with a `]`; for the bracket itself write `\\[`"
 BRACKET = ("a delimiter in a bracket list ends the expression: use another one, as in `s,[/],x,` or `\\,[/],p`; in `[\\/]` some seds keep the "
@@ -62,7 +63,9 @@ REFUSED = [
     (b"1~2p\n", 1, 2, "unknown-command", NO_VERB, STEPS),
     (b"p\nT end\n", 2, 1, "unknown-command", NO_VERB,
      "for `T end` write `t go`, `b end` and `:go` on lines of their own; for `/x/T end` put the first two into a block, `/x/{` and `}`"),
-    (b"$!z\n", 1, 3, "unknown-command", NO_VERB, "for `z` write `s/.*//`, which sets the flag that `t` tests"),
+    (b"$!z\n", 1, 3, "unknown-command", NO_VERB, 
+     "for `z` write `g` if no command uses the hold space; else write `s/.*//`, which sets the flag that `t` tests, and in UTF-8 stops at a byte that "
+     "is no character"),
     (b"/x/Q", 1, 4, "unknown-command", NO_VERB, "for `/x/Q` alone in a script write `/x/,$d`"),
     (b"1e", 1, 2, "unknown-command", NO_VERB, "POSIX sed can't run other programs: do it outside the script"),
     (b"F\n", 1, 1, "unknown-command", NO_VERB, GNU),
@@ -72,10 +75,11 @@ REFUSED = [
      "for `W out` write `h`, `s/\\n.*//`, `w out` and `g`, if nothing needs the hold space; the `s` sets the flag that `t` tests"),
     (b":b\nT\nb b\n", 2, 1, "unknown-command", NO_VERB, "for `T end`, `b again` and `:end` write `t again`"),
     (b"p\n Q", 2, 2, "unknown-command", NO_VERB,
-     "for `/x/Q` alone in a script write `/x/,$d`; for `Q` without an address, as in a block, write `:end`, `$d`, `N`, `s/.*\\n//` and `b end` on lines of their own"),
+     "for `/x/Q` alone in a script write `/x/,$d`; for `Q` without an address, as in a block, write `:end`, `$d`, `N`, `s/.*\\n//` and `b end` on lines of their own, "
+     "which print what `a` or `r` adds before"),
     (b"p;Q1\n", 1, 3, "unknown-command", NO_VERB,
-     "for `/x/Q` alone in a script write `/x/,$d`; for `Q` without an address, as in a block, write `:end`, `$d`, `N`, `s/.*\\n//` and `b end` on lines of their own; "
-     "the status is then 0, since no command of POSIX gives another one"),
+     "for `/x/Q` alone in a script write `/x/,$d`; for `Q` without an address, as in a block, write `:end`, `$d`, `N`, `s/.*\\n//` and `b end` on lines of their own, "
+     "which print what `a` or `r` adds before; the status is then 0, since no command of POSIX gives another one"),
     (b"/x/M!p\n", 1, 4, "unknown-command", NO_VERB,
      "`^` and `$` match only at the ends of the pattern space: match `\\n` instead; where that is one line leave `M` out"),
     (b"k\n", 1, 1, "unknown-command", NO_VERB, None),
@@ -95,6 +99,7 @@ REFUSED = [
     (b"0,/x/s/x/y/\n", 1, 1, "bad-address", NO_ADDRESS,
      "for `0,/x/s/a/b/` alone in a script write `/x/{`, `s/a/b/`, `:rest`, `n`, `b rest`, `}` and once more `s/a/b/` on lines of their own, "
      "and so for `p`"),
+    (b"0 , \\|/|!p\n", 1, 1, "bad-address", NO_ADDRESS, "`1,/x/` is the same if the first line doesn't match"),
     (b"0p\n", 1, 1, "bad-address", NO_ADDRESS, "lines are counted from 1"),
     (b"p\n4294967296p\n", 2, 1, "bad-address", NO_ADDRESS, "a line number is at most 4,294,967,295"),
     (b"1,p\n", 1, 3, "bad-address", NO_ADDRESS, ANY_ADDRESS),

@@ -21,6 +21,7 @@ from pages import is_gnu
 
 WORDS = ("ab\n", "a  b_c\n", "aab abb\n\nb a\n", "?+\n", "a,b,aa\n")
 PATHS = ("a/b/c\n", "/\n//x\n", "a,b|c/d\n", "no\n")
+SLASHES = ("a\\((b\n", "\\$b\\$$b\n", "\\b\n\\}}b\n", "(b}b\n")
 NUMBERS = ("1\n2\n3\n", "aaa\nb\n", "\n")
 
 ROWS = [
@@ -35,6 +36,9 @@ ROWS = [
     ("plus in an address", b"/^a\\+$/d\n", b"/^a\\{1,\\}$/d\n", WORDS),
     ("question mark behind a group", b"s/\\(aa\\)\\?b/x/g\n", b"s/\\(aa\\)\\{0,1\\}b/x/g\n", WORDS),
     ("plus behind a star that is a byte", b"s/b\\*\\+/x/\n", b"s/b\\*\\{1,\\}/x/\n", WORDS),
+    ("plus behind an escaped backslash and a byte", b"s/\\\\(\\+b/x/\n", b"s/\\\\(\\{1,\\}b/x/\n", SLASHES),
+    ("question mark behind a backslash and a dollar sign", b"s/\\\\$\\?b/x/\n", b"s/\\\\$\\{0,1\\}b/x/\n", SLASHES),
+    ("plus behind a backslash and a brace", b"s/\\\\}\\+b/x/\n", b"s/\\\\}\\{1,\\}b/x/\n", SLASHES),
     ("plus and comma", b"s,a\\+,x,g\n", b"s,a\\{1\\,\\},x,g\n", WORDS),
     ("question mark and comma", b"\\,^a\\?b,s/$/!/\n", b"\\,^a\\{0\\,1\\}b,s/$/!/\n", WORDS),
     ("space and its opposite", b"s/\\s\\S/_/g\n", b"s/[[:space:]][^[:space:]]/_/g\n", WORDS),
@@ -83,7 +87,7 @@ UNGROUPED = [
 WITHOUT = [
     b"s,[,]\\{1,2\\},x,\n",
     b"s/\xe9*//\n", b"s/\xc3*\xa9//\n", b"s/\xed\xa0\x80*//\n", b"s/\xc0\xaf*//\n", b"s/a\xa9\\{2\\}//\n", b"s\xa9\xc3\xb6*\xa9\xa9\n",
-    b"s/^\\+a/x/\n", b"s/\\(\\?a\\)/x/\n", b"s/a*\\+/x/\n", b"s/a\\{2\\}\\?/x/\n", b"s:a\\s::\n", b"s1a\\+1b1\n", b"s{a\\+{b{\n", b"s/[\\d]/x/\n", b"s/a**b/x/\n",
+    b"s/^\\+a/x/\n", b"s/\\(\\?a\\)/x/\n", b"s/a*\\+/x/\n", b"s/a\\\\*\\+/x/\n", b"s/a\\+*/x/\n", b"s/a\\?\\{2\\}/x/\n", b"s/a\\+\\?/x/\n", b"s/a\\{2\\}\\?/x/\n", b"s:a\\s::\n", b"s1a\\+1b1\n", b"s{a\\+{b{\n", b"s/[\\d]/x/\n", b"s/a**b/x/\n",
     b"s/a/b/ I\n", b"s/a/b/g g\n", b"s/a/b/2 3\n", b"y/a/b/ g\n", b"s&a&\\0&\n", b"s,a\\{,2\\},x,\n", b"s/a\\|b/x/\n", b"s/\\bx/y/\n", b"p p\n",
     b"s/[/[:alpha:]]/x/\n", b"s/[a\\/]/[/]/\n", b"s/[]/]/x/\n", b"s/[^]/]/x/\n", b"s|[|]\\||x|\n", b"s,[,]\\{1\\,2\\},x,\n", b"s/[/]\\//\n", b"s/[/]\n", b"s/[/\n]/x/\n", b"s_[_]_x_\n", b"s/[/],|:@%#;~!=/x/\n",
     b"s/[\xc3\xa9/]/x/\n", b"s/a/\\x41/\n", b"s/e=\\$\\?;/x/\n", b"s,e=\\$\\?;,x,\n", b"#now\np\n", b"a hello\n", b"Q\n", b"/a/{p\n",

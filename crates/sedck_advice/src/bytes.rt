@@ -90,6 +90,13 @@ pub(crate) fn before_any<'a>(text: &'a [u8], bytes: &str) -> &'a [u8] {
     first_bytes(text, length)
 }
 
+/// Whether the text ends with this byte behind a backslash that isn't escaped itself.
+pub(crate) fn ends_escaped(text: &[u8], byte: u8) -> bool {
+    let before = first_bytes(text, text.len().saturating_sub(1));
+    let backslashes = before.len().saturating_sub(before_any(before, "\\").len());
+    text.last().copied() == Some(byte) && backslashes % 2 == 1
+}
+
 /// So many bytes of the text, or none where it has fewer.
 pub(crate) fn first_bytes(text: &[u8], length: usize) -> &[u8] {
     text.get(..length).unwrap_or(&[])

@@ -33,7 +33,8 @@ pub(crate) fn reason_of(code: Code) -> &'static str {
             "GNU sed takes it for a stream, and other seds and `--posix` for a file",
         Code::DeviceName => "it may not be a regular file, so reading or writing it may never end",
         Code::AbsoluteName => "it is an absolute path",
-        Code::UpwardName => "it leads out of the directory where the script runs",
+        Code::UpwardName =>
+            "a part of it is `..`, so it may lead out of the directory where the script runs",
         Code::UnprintableName => "it contains bytes that a terminal may not show",
         Code::BlankAtEnd => "it ends in a space",
         Code::CommandInName =>

@@ -7,7 +7,7 @@ use crate::bytes::{
 use crate::edges::{edge_hint, is_edge};
 use crate::escapes::escape_hint;
 use crate::misjudged::{is_misjudged, misjudged_hint};
-use crate::multiples::multiples_hint;
+use crate::multiples::{multiples_hint, number_in};
 use crate::spot::{Spot, behind_part};
 use sedck_bre::ReFault;
 use sedck_parts::{Place, Reading};
@@ -94,16 +94,18 @@ fn quit_hint(spot: Spot) -> &'static str {
     let has_status = byte_at(without_blanks(spot.behind()), 0).is_ascii_digit();
     match (spot.follows("!"), has_no_address(spot)) {
         (true, _) if has_status =>
-            "for `/x/!Q` write `/x/!{`, `:end`, `$d`, `N`, `s/.*\\n//`, `b end` and `}` on lines of their own; the status is then 0, since no \
-                command of POSIX gives another one",
+            "for `/x/!Q` write `/x/!{`, `:end`, `$d`, `N`, `s/.*\\n//`, `b end` and `}` on lines of their own, which print what `a` or `r` adds \
+                before; the status is then 0, since no command of POSIX gives another one",
         (true, _) =>
-            "for `/x/!Q` write `/x/!{`, `:end`, `$d`, `N`, `s/.*\\n//`, `b end` and `}` on lines of their own",
+            "for `/x/!Q` write `/x/!{`, `:end`, `$d`, `N`, `s/.*\\n//`, `b end` and `}` on lines of their own, which print what `a` or `r` adds \
+                before",
         (_, true) if has_status =>
-            "for `/x/Q` alone in a script write `/x/,$d`; for `Q` without an address, as in a block, write `:end`, `$d`, `N`, `s/.*\\n//` and `b end` on lines of their \
-                own; the status is then 0, since no command of POSIX gives another one",
+            "for `/x/Q` alone in a script write `/x/,$d`; for `Q` without an address, as in a block, write `:end`, `$d`, `N`, `s/.*\\n//` \
+                and `b end` on lines of their own, which print what `a` or `r` adds before; the status is then 0, since no command of POSIX \
+                gives another one",
         (_, true) =>
             "for `/x/Q` alone in a script write `/x/,$d`; for `Q` without an address, as in a block, write `:end`, `$d`, `N`, `s/.*\\n//` \
-                and `b end` on lines of their own",
+                and `b end` on lines of their own, which print what `a` or `r` adds before",
         _ if has_status =>
             "for `/x/Q` alone in a script write `/x/,$d`; no command of POSIX gives an exit status: look for the line outside the script, as with `grep`",
         _ => "for `/x/Q` alone in a script write `/x/,$d`",
@@ -140,7 +142,10 @@ fn verb_hint(verb: u8) -> Option<&'static str> {
         b'T' => Some(
             "for `T end` write `t go`, `b end` and `:go` on lines of their own; for `/x/T end` put the first two into a block, `/x/{` and `}`",
         ),
-        b'z' => Some("for `z` write `s/.*//`, which sets the flag that `t` tests"),
+        b'z' => Some(
+            "for `z` write `g` if no command uses the hold space; else write `s/.*//`, which sets the flag that `t` tests, and in UTF-8 stops at a \
+                byte that is no character",
+        ),
         b'I' => Some("for `/hello/I` write `/[hH][eE][lL][lL][oO]/`"),
         b'M' => Some(LINES),
         b'e' => Some("POSIX sed can't run other programs: do it outside the script"),
@@ -173,8 +178,8 @@ fn zero_hint(rest: &[u8]) -> Option<&'static str> {
     if let Some(behind) = rest.strip_prefix(b"0~") {
         return multiples_hint(b"0", behind);
     }
-    if let Some(behind) = rest.strip_prefix(b"0,/") {
-        return Some(first_match_hint(behind_part(behind, b'/')));
+    if let Some(behind) = behind_first_range(rest) {
+        return Some(first_match_hint(behind));
     }
     if rest.starts_with(b"0r") {
         return Some(
@@ -182,6 +187,17 @@ fn zero_hint(rest: &[u8]) -> Option<&'static str> {
         );
     }
     Some("lines are counted from 1")
+}
+
+/// What follows `0,/x/`, also with another delimiter.
+fn behind_first_range(rest: &[u8]) -> Option<&[u8]> {
+    let comma = without_blanks(skipped(rest, 1));
+    let end = without_blanks(comma.strip_prefix(b",")?);
+    if let Some(part) = end.strip_prefix(b"/") {
+        return Some(behind_part(part, b'/'));
+    }
+    let part = end.strip_prefix(b"\\")?;
+    Some(behind_part(skipped(part, 1), byte_at(part, 0)))
 }
 
 /// By what follows `0,/x/`.
@@ -217,7 +233,8 @@ fn following_hint(spot: Spot) -> &'static str {
         b'!' =>
             "for `/x/,+2!d` alone in a script write `/x/{`, `n`, `n`, `b`, `}` and `d` on lines of their own",
         _ =>
-            "for `/x/,+2p` alone in a script write `/x/{`, `p`, `n`, `p`, `n`, `p` and `}` on lines of their own; for `d` write `$!N` twice and one `d`",
+            "for `/x/,+2p` alone in a script write `/x/{`, `p`, `n`, `p`, `n`, `p` and `}` on lines of their own, for a command that neither deletes nor \
+                reads a line; for `d` write `$!N` twice and one `d`",
     }
 }
 
@@ -278,6 +295,9 @@ fn element_hint(rest: &[u8]) -> &'static str {
     if is_symbol_of_its_mark(rest) {
         return "write the byte itself: `[.]` for `[[...]]`, `[=]` for `[[===]]`";
     }
+    if is_long_symbol(rest) {
+        return "a symbol of a list is one byte: for `[[.space.]]` write `[ ]`, and write longer texts outside of a list";
+    }
     if is_unknown_class(rest) {
         return "there is no such class: the classes are alnum, alpha, blank, cntrl, digit, graph, lower, print, punct, space, upper and xdigit";
     }
@@ -320,6 +340,13 @@ fn is_symbol_of_its_mark(rest: &[u8]) -> bool {
         && byte_at(rest, 2) == byte_at(rest, 3)
 }
 
+/// Whether the element is a symbol or an equivalence class of several bytes.
+fn is_long_symbol(rest: &[u8]) -> bool {
+    let end = skipped(rest, 3);
+    (rest.starts_with(b"[.") && !end.starts_with(b".]"))
+        || (rest.starts_with(b"[=") && !end.starts_with(b"=]"))
+}
+
 const EARLY: &str =
     "BusyBox ends this list too early: put the `[`, or the range that ends in it, before the class, as in `[[[:alpha:]]`";
 
@@ -343,9 +370,22 @@ fn interval_hint(spot: Spot) -> &'static str {
         return "for `x\\{,3\\}` write `x\\{0,3\\}`";
     }
     if ends_before(spot.rest, "\n") {
-        return "write a longer repetition as two, as in `a\\{255\\}a\\{45\\}`";
+        return bounds_hint(skipped(spot.rest, 2));
     }
     "an interval ends in `\\}`; write a literal `{` without a backslash"
+}
+
+/// By what follows the `\{` of an interval that is closed on its line.
+fn bounds_hint(bounds: &[u8]) -> &'static str {
+    let behind = after_any(bounds, DIGITS);
+    let most = behind.strip_prefix(b",").unwrap_or(behind);
+    if behind.len() == bounds.len() || !after_any(most, DIGITS).starts_with(b"\\}") {
+        return "an interval has one number, or two with a comma between them, as in `a\\{1,2\\}`; write a literal `{` without a backslash";
+    }
+    if byte_at(most, 0).is_ascii_digit() && number_in(most) < number_in(bounds) {
+        return "the first number of an interval is the lower one: write `a\\{1,2\\}` for `a\\{2,1\\}`";
+    }
+    "write a longer repetition as two, as in `a\\{255\\}a\\{45\\}`"
 }
 
 /// Whether the interval has its `\}` before this byte.

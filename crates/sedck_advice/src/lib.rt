@@ -7,6 +7,7 @@
 #![tactic(auto)]
 
 mod adding;
+mod bars;
 mod bytes;
 mod characters;
 mod comments;
@@ -30,6 +31,7 @@ mod references;
 mod slow;
 mod spot;
 mod weights;
+mod words;
 
 pub use adding::{ReadScript, add_warnings};
 pub use bytes::is_blank;

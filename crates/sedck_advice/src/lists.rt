@@ -61,7 +61,7 @@ fn range_look(text: &[u8], verb: usize) -> Look {
         position: position_at(text, verb),
         end: None,
         code: Code::RangeInY,
-        message: "`y` has no ranges: here a hyphen is replaced by a hyphen, and only the letters that are written are replaced",
+        message: "`y` has no ranges: here a hyphen stands for itself, and only the letters that are written are replaced",
         hint: "write all letters, as in `y/abc/ABC/`",
         fix: None,
     }

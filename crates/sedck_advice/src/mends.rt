@@ -1,11 +1,11 @@
 //! Mends that need no judgement: what to write in place of a few bytes, so that the script is read as GNU sed reads it now.
 
-use crate::bytes::{DIGITS, before_any, byte_at, is_among};
+use crate::bytes::{DIGITS, before_any, begins_with_one, byte_at, ends_escaped, is_among};
 use crate::hints::{BYTE_ORDER_MARK, ends_in_return};
 use crate::spot::Spot;
 use sedck_bre::ReFault;
 use sedck_parts::{Place, mend_at};
-use sedck_report::NewText;
+use sedck_report::{NewText, skipped};
 use sedck_script::ScriptFault;
 
 /// What to write in place of the bytes around a fault.
@@ -118,8 +118,8 @@ fn expression_mend(fault: ReFault, spot: Spot) -> Option<Mend> {
 /// For the escapes of GNU sed that POSIX spells in another way.
 fn escape_mend(spot: Spot) -> Option<Mend> {
     let text = match byte_at(spot.rest, 1) {
-        b'+' if is_repeatable(spot) => "\\{1,\\}",
-        b'?' if is_repeatable(spot) && !is_status(spot) => "\\{0,1\\}",
+        b'+' if is_repeatable(spot) && !is_repeated(spot) => "\\{1,\\}",
+        b'?' if is_repeatable(spot) && !is_repeated(spot) && !is_status(spot) => "\\{0,1\\}",
         b's' => "[[:space:]]",
         b'S' => "[^[:space:]]",
         b'w' => "[[:alnum:]_]",
@@ -143,16 +143,24 @@ fn comma_mend(spot: Spot) -> Option<Mend> {
 
 /// Whether `\$` is before the fault, so that the `$?` of a shell may be meant.
 fn is_status(spot: Spot) -> bool {
-    spot.inside().ends_with(b"\\$")
+    ends_escaped(spot.inside(), b'$')
 }
 
 /// Whether something is before the fault that isn't repeated yet.
 fn is_repeatable(spot: Spot) -> bool {
     let inside = spot.inside();
     !spot.begins()
-        && !inside.ends_with(b"\\}")
-        && (!inside.ends_with(b"*") || inside.ends_with(b"\\*"))
+        && !ends_escaped(inside, b'}')
+        && (!inside.ends_with(b"*") || ends_escaped(inside, b'*'))
 }
+
+/// Whether another sign of repetition is behind that at the fault.
+fn is_repeated(spot: Spot) -> bool {
+    begins_with_one(skipped(spot.rest, 2), REPETITIONS)
+}
+
+/// What repeats the item before it in GNU sed.
+static REPETITIONS: &'static [&'static str] = &["*", "\\{", "\\+", "\\?"];
 
 /// For `\{,n\}`.
 fn interval_mend(rest: &[u8]) -> Option<Mend> {

@@ -27,7 +27,7 @@ pub(crate) fn multiples_hint(before: &[u8], behind: &[u8]) -> Option<&'static st
                 and for `1~3d` after them",
         ),
         _ => Some(
-            "for `0~3p` alone in a script write `n`, `n` and `p`; for `2~5p` write `n`, `p`, `n`, `n` and `n`",
+            "for `0~3p` alone in a script write `n`, `n` and `p`; for `2~5p` write `n`, `p`, `n`, `n` and `n`; the command may not delete",
         ),
     }
 }
@@ -37,7 +37,7 @@ fn later_hint(verb: u8) -> &'static str {
     if verb == b'd' {
         return "for `5~2d` alone in a script write `1,4b`, `$d`, `N` and `s/.*\\n//`; for `5~3d` put an `n` after these";
     }
-    "for `5~2p` alone in a script write `1,4b`, `p` and `n`; for `5~3p` put one more `n` after these"
+    "for `5~2p` alone in a script write `1,4b`, `p` and `n`; for `5~3p` put one more `n` after these; the command may not delete"
 }
 
 /// Where a `!` follows the step.
@@ -46,11 +46,11 @@ fn other_lines_hint(behind: &[u8]) -> &'static str {
     if from_verb(negated).starts_with(b"d") {
         return "for `0~3!d` alone in a script write `$d`, `N`, `$d`, `N` and `s/.*\\n//`; for `1~3!d` write `n`, `$!N` and `d`";
     }
-    "for `0~3!p` alone in a script write `p`, `n`, `p` and `n`; for `1~3!p` write `n`, `p`, `n` and `p`"
+    "for `0~3!p` alone in a script write `p`, `n`, `p` and `n`; for `1~3!p` write `n`, `p`, `n` and `p`; the command may not delete"
 }
 
 /// The number with which the text begins; 0 where it begins with none.
-fn number_in(text: &[u8]) -> usize {
+pub(crate) fn number_in(text: &[u8]) -> usize {
     let mut number: usize = 0;
     for byte in text {
         if !byte.is_ascii_digit() {

@@ -1,6 +1,9 @@
 //! What is around a fault, as far as a hint depends on it.
 
-use crate::bytes::{after_any, before_any, byte_at, first_bytes, is_among, without_blanks};
+use crate::bytes::{
+    DIGITS, after_any, before_any, byte_at, ends_escaped, first_bytes, has_one_of, is_among,
+    without_blanks,
+};
 use sedck_parts::{Place, Reading};
 use sedck_report::skipped;
 
@@ -60,7 +63,7 @@ impl<'a> Spot<'a> {
     pub fn begins(self) -> bool {
         let inside = self.inside();
         let inside = inside.strip_suffix(b"^").unwrap_or(inside);
-        inside.is_empty() || inside.ends_with(b"\\(")
+        inside.is_empty() || ends_escaped(inside, b'(')
     }
 
     /// The expression from the fault on, with the delimiter that ends it.
@@ -82,6 +85,46 @@ impl<'a> Spot<'a> {
         behind_part(self.after_expression(), self.delimiter())
     }
 
+    /// The flags of that `s` up to a `w`.
+    fn plain_flags(self) -> &'a [u8] {
+        let flags = self.flags();
+        let length = flags
+            .len()
+            .saturating_sub(after_any(flags, PLAIN_FLAGS).len());
+        first_bytes(flags, length)
+    }
+
+    /// Whether that `s` has a number among its flags.
+    pub(crate) fn is_counted(self) -> bool {
+        has_one_of(self.plain_flags(), DIGITS)
+    }
+
+    /// Whether that `s` prints or writes what it makes.
+    pub(crate) fn is_reported(self) -> bool {
+        let is_written = after_any(self.flags(), PLAIN_FLAGS).starts_with(b"w");
+        is_written || has_one_of(self.plain_flags(), "p")
+    }
+
+    /// The replacement of that `s`.
+    pub(crate) fn replacement(self) -> &'a [u8] {
+        let behind = self.after_expression();
+        let length = behind
+            .len()
+            .saturating_sub(self.flags().len())
+            .saturating_sub(1);
+        first_bytes(behind, length)
+    }
+
+    /// Whether the expression is that of an `s`.
+    pub(crate) fn is_replaced(self) -> bool {
+        matches!(self.purpose(), Purpose::Replaces | Purpose::ReplacesAll)
+    }
+
+    /// Whether an `s` with an empty expression comes right after the address in which the fault is.
+    pub(crate) fn is_used_again(self) -> bool {
+        after_any(self.after_expression(), " \t\n;{").starts_with(b"s//")
+    }
+
     /// The script from the byte after the fault's first one on.
     pub(crate) fn behind(self) -> &'a [u8] {
         skipped(self.rest, 1)
@@ -101,7 +144,7 @@ impl<'a> Spot<'a> {
     pub fn purpose(self) -> Purpose {
         let opening = first_bytes(self.before, self.expression.saturating_sub(1));
         if opening.ends_with(b"s") {
-            if after_any(self.flags(), "0123456789p").starts_with(b"g") {
+            if has_one_of(self.plain_flags(), "g") {
                 return Purpose::ReplacesAll;
             }
             return Purpose::Replaces;
@@ -118,6 +161,9 @@ impl<'a> Spot<'a> {
         }
     }
 }
+
+/// The flags of `s` but for `w`, with those of GNU sed, and blanks.
+const PLAIN_FLAGS: &str = "0123456789gpIiMme \t";
 
 /// What follows the delimiter that ends this part.
 pub(crate) fn behind_part(part: &[u8], delimiter: u8) -> &[u8] {

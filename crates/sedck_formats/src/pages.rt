@@ -62,6 +62,7 @@ FAULTS.md#bad-escape-edges-of-words for `s/WORD\\>
 FAULTS.md#bad-escape-edges-of-words for `s/\\bWORD
 FAULTS.md#bad-escape-edges-of-words match what is next to the word
 FAULTS.md#bad-escape-edges-of-words no escape of POSIX means an end of a word
+FAULTS.md#bad-escape-the-flags-p-and-w-beside-an-escape the flags `p` and `w`
 FAULTS.md#bad-escape-a-bar for `/a\\|b/d`
 FAULTS.md#bad-escape-a-bar a range needs one expression
 FAULTS.md#bad-escape-a-bar-and-an-exclamation-mark for `/a\\|b/!d`
@@ -78,6 +79,7 @@ FAULTS.md#bad-escape-plus-and-question-mark-elsewhere for `x\\?` write `x\\{0\\,
 FAULTS.md#bad-escape-a-list GNU sed turns
 FAULTS.md#bad-escape-a-list if a digit is meant write `[[:digit:]]`; GNU
 FAULTS.md#bad-bracket-symbols write the byte itself: `[.]`
+FAULTS.md#bad-bracket-symbols a symbol of a list
 FAULTS.md#bad-bracket-a-bracket-at-the-end BusyBox ends this list
 FAULTS.md#nothing-to-repeat-an-anchor an anchor holds in one place
 FAULTS.md#bad-reference-beside-a-repeated-group repeat bytes and lists
