@@ -85,6 +85,7 @@ ROWS = [
     ("a.sh", [], "sh -c 'sed p; sed \"s/a b/c/\"'\neval 'sed d'\n", 0, [("1:8", A, ["p"]), ("1:15", A, ["s/a b/c/"]), ("2:7", A, ["d"])]),
     # Names.
     ("a.sh", [], "/usr/bin/sed p; gsed d; $SED x; ${SED-sed} =; \"$SED\" g; busybox sed h\n", 5, [("1:1", A, ["p"]), ("1:17", A, ["d"]), ("1:25", IF, ["x"]), ("1:33", IF, ["="]), ("1:47", A, ["g"]), ("1:65", A, ["h"])]),
+    ("a.sh", [], "${SED-gsed} p; $(which gsed) d; \"${X:-ssed}\" x; ${ased} =; x=$(which gsed)\n\"$x\" g\n", 5, [("1:1", IF, ["p"]), ("1:16", IF, ["d"]), ("1:33", A, ["x"]), ("2:1", A, ["g"])]),
     ("a.sh", [], "LC_ALL=C sed p; env A=b sed d; exec sed x; command sed =; sudo -u me sed g\n", 0, [("1:10", A, ["p"]), ("1:25", A, ["d"]), ("1:37", A, ["x"]), ("1:52", A, ["="]), ("1:70", A, ["g"])]),
     ("a.sh", [], "xargs -0 -n 1 sed -n p; find . -name '*.c' -exec sed -n '1p' {} + -o -exec sed d {} \\;\n", 5, [("1:15", IF, ["-n", "p"]), ("1:50", A, ["-n", "1p", "x"]), ("1:76", A, ["d", "x"])]),
     ("a.sh", [], "xargs sed -e p --\nxargs -P$N -n1 sed -n p\nxargs -I% sed 's/a/%/' %\n", 5, [("1:7", A, ["-e", "p", "--"]), ("2:16", IF, ["-n", "p"]), ("3:11", IF, None)]),

@@ -138,13 +138,20 @@ fn has_value(names: &Names<'_>, units: &[Unit]) -> bool {
 pub(crate) fn writes_sed(written: &[u8]) -> bool {
     let is_command = written.starts_with(b"$(") || written.starts_with(b"`");
     (0..written.len()).any(|index| match rest(written, index) {
-        [b's', b'e', b'd', after @ ..] if begins_name(written, index) => {
+        [b's', b'e', b'd', after @ ..] if begins_sed(written, index) => {
             let mut others = after.iter().filter(|byte| **byte != b' ');
             let is_last = others.next().is_none_or(|next| b")`|;&<>2".contains(next));
             !after.first().is_some_and(|byte| is_name_byte(*byte)) && (!is_command || is_last)
         }
         _ => false,
     })
+}
+
+/// Whether a name begins here, or a `g` or `s` earlier, as in `gsed`.
+fn begins_sed(written: &[u8], index: usize) -> bool {
+    let before = index.saturating_sub(1);
+    let is_longer = index > 0 && matches!(rest(written, before), [b'g' | b's', ..]);
+    begins_name(written, if is_longer { before } else { index })
 }
 
 /// Whether the units are a word that has a call of sed in a text: where it is known to be run any one, and else one that begins it, or what
