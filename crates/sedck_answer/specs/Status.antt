@@ -20,14 +20,14 @@ is_accepted _ = false
 abbrev pub IsOfAnswer : Status → Type 0
 IsOfAnswer status = (status ≢ Misused) × (status ≢ Failed) × (status ≢ Unknown)
 
--- how much it tells
-abbrev pub rank : Status → ℕ
-rank Accepted = 0
-rank Unknown = 1
-rank Rejected = 2
-rank Refused = 3
-rank _ = 4
+-- how bad it is
+abbrev pub severity : Status → ℕ
+severity Accepted = 0
+severity Unknown = 1
+severity Rejected = 2
+severity Refused = 3
+severity _ = 4
 
--- the one that tells more
+-- the worse one
 abbrev pub worse : Status → Status → Status
-worse one other = if nat_le (rank other) (rank one) then one else other
+worse one other = if nat_le (severity other) (severity one) then one else other

@@ -1,7 +1,7 @@
 //! Exit statuses.
 
 ghost use Rattle.std.specs.Prelude.{◌≡◌};
-ghost use Rattle.sedck_answer.specs.Status.{code_of, is_accepted, worse, rank};
+ghost use Rattle.sedck_answer.specs.Status.{code_of, is_accepted, worse, severity};
 
 /// How the program ends.
 #[derive(Clone, Copy)]
@@ -15,7 +15,7 @@ pub enum Status {
     Misused,
     /// A file can't be read, a write fails, or memory runs out.
     Failed,
-    /// Something isn't known before a run.
+    /// Something is unknown before a run.
     Unknown,
 }
 
@@ -34,20 +34,20 @@ impl Status {
         matches!(self, Status::Accepted)
     }
 
-    /// The one that tells more, of this and the other one.
+    /// The worse one, of this and the other one.
     pub fn worse(self, other: Status) -> Status
         ensures { result ≡ worse self other }
     {
-        if self.rank() >= other.rank() {
+        if self.severity() >= other.severity() {
             self
         } else {
             other
         }
     }
 
-    /// How much it tells.
-    fn rank(self) -> u8
-        ensures { result ≡ rank self }
+    /// How bad it is.
+    fn severity(self) -> u8
+        ensures { result ≡ severity self }
     {
         match self {
             Status::Accepted => 0,
