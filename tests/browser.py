@@ -52,7 +52,7 @@ class Browser:
         self.folder.cleanup()
 
     def call(self, method, **words):
-        """What the browser answers to a call; events in between are passed over."""
+        """What the browser answers to a call; events in between are skipped."""
         self.number += 1
         message = {"id": self.number, "method": method, "params": words}
         if self.session:

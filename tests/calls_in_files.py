@@ -96,7 +96,7 @@ ROWS = [
      [("1:10", A, ["s/a\tb/c/"]), ("2:8", UNKNOWN, None), ("3:1", UNKNOWN, None), ("3:16", UNKNOWN, None), ("4:1", IF, None)]),
     ("a.sh", [], "time -p sed p; timeout 5 sed d; nice -n 3 sed x; nohup sed =\n", 0, [("1:9", A, ["p"]), ("1:26", A, ["d"]), ("1:43", A, ["x"]), ("1:56", A, ["="])]),
     ("a.sh", [], "command -v sed p; which sed; type sed\n", 0, []),
-    # What isn't known.
+    # What is unknown.
     ("a.sh", [], 'sed "s/$a/b/"\n', 5, [("1:1", IF, ["s/x/b/"])]),
     ("a.sh", [], 'sed "s/a/${b}c/"\n', 5, [("1:1", IF, None)]),
     ("a.sh", [], 'sed "s/[$a]/b/; a\\\\\n$t"\n', 5, [("1:1", IF, None)]),
@@ -518,7 +518,7 @@ def conditions():
             fail("the condition on a comment: %s" % message)
         status, out, _ = run(folder, "--calls", ".")
         last = out.decode().splitlines()[-1]
-        if status != 5 and last != "5 files with calls: 1 all accepted, 1 all accepted if what isn't known is as said, 3 with others":
+        if status != 5 and last != "5 files with calls: 1 all accepted, 1 all accepted under conditions, 3 with others":
             fail("files by their answers: %d %s" % (status, last))
         counts = json.loads(run(folder, "--format", "json", "--calls", ".")[1].splitlines()[-1])
         if [counts["files"]] + [counts["files_" + name] for name in ("accepted", "accepted_if", "other")] != [6, 1, 1, 3]:

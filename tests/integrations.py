@@ -152,7 +152,7 @@ def check_judging(steps, folder, tree, path):
     run_of = json.loads((folder / "sedck.sarif").read_text())["runs"]
     expect(status == 0 and len(run_of) == 1 and places_of(run_of[0]) == of_calls, "the log of a good script: %d: %s %s" % (status, said, run_of))
     status, said = step(steps, "Judge scripts and calls", tree, path, **words)
-    expect(status == 0, "a tree of which something isn't known gives %d: %s" % (status, said))
+    expect(status == 0, "a tree of which something is unknown gives %d: %s" % (status, said))
     (tree / "deep" / "loop.sed").write_text(LOOP)
     (tree / "deep" / "fault one.sed").write_text("p\ns/a\\+/b/\n")
     (tree / "deep" / "fault two.sed").write_text("s/[/b/;p\n")

@@ -152,7 +152,7 @@ def check_requests(editor):
     expect([(action["kind"], len(action["diagnostics"])) for action in actions], [("quickfix", 1)], "the kind of a fix")
     expect(editor.ask("textDocument/codeAction", about(uri, range=span(0, 0, 0, 0), context={"diagnostics": []}))["result"], [], "no fix in another line")
     expect(editor.ask("textDocument/hover", about("file:///none/other.sed", position={"line": 0, "character": 0}))["result"], None, "a text that isn't open")
-    expect(editor.ask("textDocument/rename", about(uri))["error"]["code"], -32601, "a request that isn't known")
+    expect(editor.ask("textDocument/rename", about(uri))["error"]["code"], -32601, "an unknown request")
     editor.tell("$/setTrace", {"value": "off"})
     editor.raw(b"{")
     expect(editor.next()["error"]["code"], -32700, "what is no JSON")

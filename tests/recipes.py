@@ -165,7 +165,7 @@ def stranger(scratch):
     holds(scratch.run(0, "sh", "-c", "sh run-stranger.sh - < mail") == "c\nxc\n", "the input is taken for the script")
     os.remove(os.path.join(scratch.folder, "-"))
     scratch.write("bad.sed", "#!/bin/sed -nf\np\n")
-    holds("first line #!" in scratch.run(125, "sh", "-c", "sh run-stranger.sh bad.sed < mail"), "a first line is passed over")
+    holds("first line #!" in scratch.run(125, "sh", "-c", "sh run-stranger.sh bad.sed < mail"), "a first line is skipped")
     # The last line isn't lost where `N` has no next one, and no match lacks memory without a word.
     scratch.write("join.sed", ":x\nN\nbx\n")
     holds(scratch.run(0, "sh", "-c", "sh run-stranger.sh join.sed < mail") == "a\nxa\n", "the last lines are lost")

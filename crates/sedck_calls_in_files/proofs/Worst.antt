@@ -1,4 +1,4 @@
--- The status that tells most, a call after the other.
+-- The worst status, a call after the other.
 use Rattle.sedck_calls_in_files.proofs.Common.{◌<◌, ◌+◌, ℕ, List, [], ◌∷◌, ◌++◌, map, length, get_or, take, sym, ap, subst, Denied, worse, Status, Accepted, Explanation, FoundCall, IsSaidOfFound, IsWorst, IsWorstOf}
 use Rattle.std.proofs.lemmas.List.{take_more, map-append}
 

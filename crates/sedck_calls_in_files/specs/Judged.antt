@@ -50,7 +50,7 @@ abbrev pub script_in : List (List ℕ) → List Piece → List ℕ
 script_in words pieces = joined_texts (map (piece_text words) pieces)
 
 -- The file has the words and the script where their origins say. The script is just what the words give, but where a part of it is a
--- here-document, or a byte takes the place of what isn't known.
+-- here-document, or a byte takes the place of what is unknown.
 abbrev pub is_in_file : List ℕ → List Traced → Call → Traced → Bool
 is_in_file file words call text =
     (are_traced file words && is_traced file text.bytes.items text.origins.items)
@@ -71,11 +71,11 @@ pub record Agrees (before e : Explanation) : Type 0 where
   pub reads : names_of e.reads.items ≡ names_of before.reads.items
   pub writes : names_of e.writes.items ≡ names_of before.writes.items
 
--- what isn't known before a run makes no yes
+-- what is unknown before a run makes no yes
 abbrev pub status_with : Bool → Status → Status
 status_with partly status = if partly && is_accepted status then exit.Unknown else status
 
--- something isn't known: a byte of the script takes the place of it, or it is one of what the words depend on
+-- something is unknown: a byte of the script takes the place of it, or it is one of what the words depend on
 abbrev pub is_open : Traced → List OpenHole → Bool
 is_open text [] = has_hole text.origins.items
 is_open text (hole ∷ holes) = true

@@ -1,4 +1,4 @@
--- Which status tells most, of the calls of a file and of several files, this project's own.
+-- The worst status, of the calls of a file and of several files, this project's own.
 use Rattle.std.specs.Prelude.{◌≡◌, ◌⊎◌, ℕ, Contains, List, [], ◌∷◌, Option, IfSome}
 use Rattle.sedck_engines.specs.Opened.{Known}
 use Rattle.sedck_errors.specs.declared.denied.Denied.{Denied}
@@ -14,7 +14,7 @@ use Rattle.sedck_calls_in_files.specs.Judged.{IsSaidOfFound}
 
 -- ---- The calls of a file
 
--- the status that tells most, of what is said of each of these calls, and of this one
+-- the worst status, of what is said of each of these calls, and of this one
 abbrev pub IsWorst : List ℕ → Denied → Status → List FoundCall → Status → Type 0
 IsWorst file denied known [] status = status ≡ known
 IsWorst file denied known (found ∷ more) status =
@@ -35,7 +35,7 @@ abbrev pub unread_status : List ℕ → Status
 unread_status [] = Accepted
 unread_status (offset ∷ more) = Unknown
 
--- The status of a text: that which tells most, of what is said of the calls in it, and of what isn't understood; these are known, or
+-- The status of a text: the worst one, of what is said of the calls in it, and of what isn't understood; these are known, or
 -- some.
 abbrev pub TextStatus : Option Holds → Denied → List ℕ → Status → Type 0
 TextStatus known denied text status =
@@ -76,7 +76,7 @@ pub record SpellsOne (k : Known) (found : List ℕ → List ℕ → Option Holds
   pub is_status : IsPlainStatus explanation.status status
   pub writes : IsPlainOutput explanation out status
 
--- the status that tells most, of those of what is at these paths, and of this one
+-- the worst status, of those of what is at these paths, and of this one
 abbrev pub IsWorstOf : (List ℕ → Status → Type 0) → Status → List (List ℕ) → Status → Type 0
 IsWorstOf Has known [] status = status ≡ known
 IsWorstOf Has known (path ∷ more) status = (one : Status) × Has path one × IsWorstOf Has (worse known one) more status

@@ -14,8 +14,8 @@ use sedck_explanation::{Position, Status, Unexplained, position_at, position_fro
 use sedck_find::FoundCall;
 use sedck_formats::{CallAnswer, Counts};
 
-/// Explains each call that is found in the file, writes the reports, counts the answers, and answers the status that tells most. Before
-/// them each place is reported that isn't understood, which isn't known before a run.
+/// Explains each call that is found in the file, writes the reports, counts the answers, and answers the worst status. Before
+/// them each place is reported that isn't understood, which is unknown before a run.
 pub fn explain_text<F: Finder, W: Sink>(
     asked: &FileScan,
     finder: &F,

@@ -17,7 +17,7 @@ pub trait Finder {
         ensures { IfOk result (λ all. IfSome (found self.now file.now.path.now file.now.text.now) (IsFound all)) };
 }
 
-/// Finds what the shell would run. Which calls these are isn't known: that they are all of them is tested.
+/// Finds what the shell would run. That these are all of the calls is tested only.
 #[derive(Clone, Copy)]
 pub struct AsTheShell;
 

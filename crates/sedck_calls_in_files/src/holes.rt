@@ -1,4 +1,4 @@
-//! What is said of what isn't known before a run.
+//! What is said of what is unknown before a run.
 
 ghost use Rattle.std.specs.Prelude.{◌≡◌, IfOk};
 ghost use Rattle.std.specs.List.{All};
@@ -253,7 +253,7 @@ fn condition(alloc: Global, written: &str, hole: OpenHole) -> Result<String, All
         role => String::from_str(alloc, words_of_role(role))?,
     };
     let (rest, way) = (rest.as_str(), words_of_way(hole.hole.way, hole.role));
-    format!(in alloc; "\"{written}\" isn't known: the answer holds if {rest}{way}")
+    format!(in alloc; "\"{written}\" is unknown: the answer holds if {rest}{way}")
 }
 
 /// What a hole must be that isn't in an expression or a replacement.
@@ -318,7 +318,7 @@ fn shown_part(alloc: Global, file: &[u8], start: usize, end: usize) -> Result<St
     Ok(shown)
 }
 
-/// The words of a call as messages have them: with what is written in place of what isn't known.
+/// The words of a call as messages have them: with what is written in place of what is unknown.
 pub(crate) fn written_words(
     alloc: Global,
     file: &[u8],
@@ -367,7 +367,7 @@ pub(crate) fn unread_warning(
     warning_at(alloc, file, position, Code::NotUnderstood, words)
 }
 
-/// The warning of a script that isn't known.
+/// The warning of a script that is unknown.
 pub(crate) fn unknown_warning(
     alloc: Global,
     file: &[u8],

@@ -25,7 +25,7 @@ use std::alloc::{AllocError, Global};
 ///
 /// It is accepted only where the words and the script are in the file, nothing of the script is unknown, no variable is replaced by a value
 /// that the file sets, nothing must hold so that the words are as they are read, and the script is accepted; `Unknown` where something
-/// isn't known before a run, and nothing worse is found; else its status is that of a call that is given by its words.
+/// is unknown before a run, and nothing worse is found; else its status is that of a call that is given by its words.
 pub fn explain_found<'a>(
     alloc: Global,
     file: &'a [u8],
@@ -210,14 +210,14 @@ fn judged<'a>(
     Ok(explanation)
 }
 
-/// Whether something isn't known of the script, or of what its words depend on.
+/// Whether something is unknown of the script, or of what its words depend on.
 fn is_open(text: &Traced, holes: &[OpenHole]) -> bool
     ensures { result ≡ is_open_script text.now holes.now }
 {
     !holes.is_empty() || has_hole(&text.origins)
 }
 
-/// The explanation of a script of which something isn't known, with these warnings after its errors.
+/// The explanation of a script of which something is unknown, with these warnings after its errors.
 fn opened<'a>(
     alloc: Global,
     file: &[u8],
@@ -283,7 +283,7 @@ pub(crate) fn explain_unread<'a>(
     Ok(explanation)
 }
 
-/// The explanation of a script that isn't known.
+/// The explanation of a script that is unknown.
 fn unknown<'a>(given: &Given<'a, '_>, why: Unknown) -> Result<Explanation<'a>, AllocError>
     requires { given.now.position ≡ position_in given.now.file.now given.now.position.offset }
     ensures said { IfOk result (IsUnjudged Status.Unknown) }

@@ -170,7 +170,7 @@ struct OneCall<'a> {
 }
 
 impl Reporter for OneCall<'_> {
-    // What is said of a call in a file isn't known word by word.
+    // What is said of a call in a file is unknown word by word.
     ghost reported = { λ _ _ _. None };
 
     fn report(

@@ -47,7 +47,7 @@ pub struct Walk<'a, 'b, R, O, F> {
 }
 
 /// Explains each call in the files and in those below the folders, in sorted order, writes the reports and at the end how many there
-/// are, and answers the exit status: that of the calls which tells most, or `Failed` where a file can't be read, a write fails or memory runs
+/// are, and answers the exit status: the worst one of the calls, or `Failed` where a file can't be read, a write fails or memory runs
 /// out. Links in folders aren't followed. What can't be read is reported at the end.
 ///
 /// Files are opened by the opener, and folders are those of the system.
@@ -91,7 +91,7 @@ fn status_of(status: Status) -> Status
 }
 
 impl<R: Files + Input + AllocGlobal + Clone + Drop, O: Opener, F: Finder> Walk<'_, '_, R, O, F> {
-    /// Visits all that is given, and writes how many calls there are. Answers the status that tells most.
+    /// Visits all that is given, and writes how many calls there are. Answers the worst status.
     fn visit_all<W: Sink>(&self, pass: &mut Pass<W>) -> Result<Status, Unexplained>
         ensures { IfOk result (IsWorstOf (PathStatus (O.known self.now.files.now) (F.found self.now.finder.now) self.now.scan.now.denied) Status.Accepted
             (map (λ path. path.now) self.now.scan.now.paths.now)) }
@@ -105,7 +105,7 @@ impl<R: Files + Input + AllocGlobal + Clone + Drop, O: Opener, F: Finder> Walk<'
         Ok(status)
     }
 
-    /// Visits a file that is given, or a folder with all that is below it: the status that tells most, `Failed` where something
+    /// Visits a file that is given, or a folder with all that is below it: the worst status, `Failed` where something
     /// can't be read. The path `-` is standard input.
     fn visit_path<W: Sink>(&self, path: &str, pass: &mut Pass<W>) -> Result<Status, Unexplained>
         ensures { IfOk result (PathStatus (O.known self.now.files.now) (F.found self.now.finder.now) self.now.scan.now.denied path.now) }
@@ -150,7 +150,7 @@ impl<R: Files + Input + AllocGlobal + Clone + Drop, O: Opener, F: Finder> Walk<'
         matches!(fs::metadata(self.rt, path), Ok(metadata) if metadata.is_dir())
     }
 
-    /// Visits all that is in the folder, in sorted order: the status that tells most.
+    /// Visits all that is in the folder, in sorted order: the worst status.
     fn visit_folder<W: Sink>(
         &self,
         folder: &str,

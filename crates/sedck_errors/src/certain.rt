@@ -103,7 +103,7 @@ fn may_change(verb: &Verb) -> bool {
     }
 }
 
-/// Whether a run takes this step of the loop from its first node. A range isn't known, nor what has an expression for its address.
+/// Whether a run takes this step of the loop from its first node. That of a range is unknown, and that of what has an expression for its address.
 fn is_certain(command: &Command, from: Node, to: Node, facts: Facts) -> bool {
     let applied = is_applied(command, from);
     match &command.verb {

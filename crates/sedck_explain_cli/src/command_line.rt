@@ -41,7 +41,7 @@ pub struct System<'a, R, O, F> {
     pub finder: &'a F,
 }
 
-/// The whole program for the arguments after its name, and its exit status: of the scripts' statuses the one that tells most.
+/// The whole program for the arguments after its name, and its exit status: the worst one of the scripts' statuses.
 ///
 /// A script that can't be read is reported, and the next one follows. After a failed write, or where memory runs out, none does.
 ///
@@ -196,8 +196,8 @@ pub fn explain_call<R: Input + AllocGlobal, O: Opener, F, W: Sink, E: Sink>(
     }
 }
 
-/// Explains each script of the request, in the order in which they are given, and answers the exit status: of theirs the one that tells
-/// most, or `Failed` where one can't be read, a write fails, or memory runs out. It is `Unknown` only where mends are asked for. The report of
+/// Explains each script of the request, in the order in which they are given, and answers the exit status: the
+/// worst one of theirs, or `Failed` where one can't be read, a write fails, or memory runs out. It is `Unknown` only where mends are asked for. The report of
 /// several for people ends with how many there are of each answer.
 pub fn explain_all<R: Input + AllocGlobal, O: Opener, F, W: Sink, E: Sink>(
     session: &Session<R, O, F>,

@@ -2,7 +2,7 @@
 //!
 //! `inputs_of` reads a script and its certificate, and `explain_inputs` explains them, `explain_all` several scripts, `explain_words` and
 //! `explain_call` a call of sed, and `program` does what the arguments ask for. Their exit status is proved to be that of what is said of
-//! what was read: of several scripts and of all calls in files the one that tells most. Where commands are read with other delimiters,
+//! what was read: of several scripts and of all calls in files the worst one. Where commands are read with other delimiters,
 //! `Unknown` takes the place of a yes.
 #![tactic(auto)]
 

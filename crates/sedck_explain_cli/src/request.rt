@@ -387,7 +387,7 @@ fn described<'a>(alloc: Global) -> Command<'a> {
             "Says where and why a sed script is refused or may run for ever, which files\nit touches, and what to write instead",
         )
         .after_help(
-            "Exit status, of several scripts the one that tells most:\n  \
+            "Exit status, of several scripts the worst one:\n  \
              0 accepted\n  1 rejected, a loop, or what --deny names\n  \
              2 a script or a certificate that is refused\n  3 an invalid command line\n  \
              4 a file that can't be read, or a report that can't be written\n  \

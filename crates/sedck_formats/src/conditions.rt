@@ -15,7 +15,7 @@ pub enum ConditionKind {
     Pattern,
     /// POSIXLY_CORRECT, by which options behind operands are none.
     Order,
-    /// A value in a script that isn't known.
+    /// A value in a script that is unknown.
     Script,
     /// A value that the file sets.
     Value,

@@ -27,7 +27,7 @@ pub struct Counts {
     pub unreadable: usize,
     /// Files with calls, or with places that aren't understood, in which all calls are accepted ..
     pub all_accepted: usize,
-    /// .. or are accepted if what isn't known is as said ..
+    /// .. or are accepted under conditions ..
     pub all_accepted_if: usize,
     /// .. or neither.
     pub others: usize,
@@ -227,9 +227,9 @@ impl ScriptCounts {
     }
 }
 
-const ACCEPTED_IF: &str = " accepted if what isn't known is as said";
+const ACCEPTED_IF: &str = " accepted under conditions";
 
-const ALL_ACCEPTED_IF: &str = " all accepted if what isn't known is as said";
+const ALL_ACCEPTED_IF: &str = " all accepted under conditions";
 
 /// Adds the count with its words, unless it is 0, and what precedes a count.
 fn push_count(out: &mut Written, before: &mut &'static str, count: usize, words: &str) {

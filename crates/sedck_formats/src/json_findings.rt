@@ -51,7 +51,7 @@ pub(crate) fn push_unreadable(out: &mut Json, message: &str) {
 /// - `position`: null where it is of the certificate, or of the script as a whole.
 /// - `steps`: those of a loop, or the ends of an edge.
 /// - `page`: the page that explains the finding, and its heading: a link from the folder `docs`.
-/// - `end`: the first byte after what is meant; null where it isn't known.
+/// - `end`: the first byte after what is meant; null where it is unknown.
 /// - `fix`: a change of the script that mends it; null where there is none.
 fn push_finding(out: &mut Json, names: Names, finding: &Finding, script: &[u8]) {
     out.open()

@@ -69,8 +69,8 @@ pub fn json_unreadable(alloc: Global, name: &str, message: &str) -> Result<Vec<u
 ///
 /// - `file`: the file's path.
 /// - `call`: where the command's name is.
-/// - `words`: the words after the name, in the form of a file's name; what isn't known is `x`.
-/// - `status`: 0 for accepted, 1 for a loop or denied, 2 for a refused script or one that isn't judged, 5 for what isn't known before
+/// - `words`: the words after the name, in the form of a file's name; what is unknown is `x`.
+/// - `status`: 0 for accepted, 1 for a loop or denied, 2 for a refused script or one that isn't judged, 5 for what is unknown before
 ///   a run.
 /// - `answer`: as of a script, or `accepted-if` or `unknown`.
 pub fn json_call(
@@ -132,7 +132,7 @@ fn push_texts(out: &mut Json, key: &str, texts: &[String]) {
 /// - `unreadable`: files and folders that can't be read.
 /// - `status`: the exit status.
 /// - `files_accepted`, `files_accepted_if`, `files_other`: of the files with calls, or with places that aren't understood, those in which all
-///   calls are accepted, those in which they are if what isn't known is as said, and the others.
+///   calls are accepted, those in which they are under conditions, and the others.
 /// - `conditions`: for each kind how many conditions there are, each counted once in a file, and how many calls depend on such ones.
 /// - `assumed`: the variables as `--assume` has them, and those of sets, in the form of a file's name.
 pub fn json_counts(

@@ -20,7 +20,7 @@ pub(crate) fn push_summary(
 ) {
     let (ink, rest) = match &explanation.answer {
         Answer::Accepted { .. } if matches!(explanation.status, Status::Unknown) => {
-            (YELLOW, ": every run ends if what isn't known is as said\n")
+            (YELLOW, ": every run ends if the conditions hold\n")
         }
         Answer::Accepted { .. } if explanation.is_denied() => ("", ", though every run ends\n"),
         Answer::Accepted { .. } => (GREEN, ": every run ends\n"),

@@ -43,7 +43,7 @@ fn answer_words(explanation: &Explanation) -> (&'static str, &'static str) {
     if matches!(explanation.status, Status::Unknown) {
         return (
             "warning",
-            "Accepted if what isn't known is as said: then every run of the script ends.",
+            "Accepted under conditions: if they hold, every run of the script ends.",
         );
     }
     if explanation.is_denied() {

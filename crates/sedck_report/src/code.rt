@@ -94,9 +94,9 @@ pub enum Code {
     InPlace,
 
     // A call of sed in a file.
-    /// A part of the script isn't known before a run.
+    /// A part of the script is unknown before a run.
     OpenHole,
-    /// So much of the script isn't known that it can't be judged.
+    /// So much of the script is unknown that it can't be judged.
     Unknowable,
     /// The value of a variable is known: the file sets it, or it was given with the call of this program.
     KnownValue,
@@ -243,7 +243,7 @@ impl Code {
             Code::InPlace => section("CALLS.md", "in-place"),
             Code::OpenHole | Code::Unknowable | Code::KnownValue | Code::NotUnderstood => section(
                 "CALLS.md",
-                "what-isnt-known",
+                "what-is-unknown",
             ),
             Code::NoBound => section("FORMATS.md", "the-line-of-the-bound"),
             Code::NoSpaceBound => section("TRUST.md", "what-the-limits-mean"),
