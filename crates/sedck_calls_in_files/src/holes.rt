@@ -236,7 +236,7 @@ fn mend_words(alloc: Global, written: &str, mended: Option<&[u8]>) -> Result<Str
     Ok(message)
 }
 
-/// On what the answer depends, in words. An empty expression is the one before, and an empty list would go on behind its bracket.
+/// On what the answer depends, in words. An empty expression is the one before, and an empty list would go on after its bracket.
 fn condition(alloc: Global, written: &str, hole: OpenHole) -> Result<String, AllocError> {
     let delimiter = shown_name(alloc, &[hole.delimiter])?;
     let mark = delimiter.as_str();

@@ -102,10 +102,10 @@ fn list_length(spot: Spot) -> usize {
 
 /// An element of a bracket list: a class or a symbol with its end, a range, or one byte.
 fn element_length(rest: &[u8]) -> usize {
-    if let Some(behind) = rest.strip_prefix(b"[")
-        && let Some(end) = symbol_end(behind.first())
+    if let Some(inside) = rest.strip_prefix(b"[")
+        && let Some(end) = symbol_end(inside.first())
     {
-        return match memmem::find(behind.get(1..).unwrap_or(&[]), end) {
+        return match memmem::find(inside.get(1..).unwrap_or(&[]), end) {
             Some(at) => at.saturating_add(4),
             None => 2,
         };

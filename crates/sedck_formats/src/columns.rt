@@ -29,8 +29,8 @@ impl Columns {
 
     /// The column, from 1, of the character whose byte is at the position.
     pub(crate) fn start(&self, position: Position) -> usize {
-        let behind = position.offset.saturating_add(1);
-        self.column(position, behind)
+        let next = position.offset.saturating_add(1);
+        self.column(position, next)
     }
 
     /// The column, from 1, of the character that follows the byte before the position, or that byte's character.

@@ -13,7 +13,7 @@ pub enum ConditionKind {
     Word,
     /// A pattern without quotes.
     Pattern,
-    /// POSIXLY_CORRECT, by which options behind operands are none.
+    /// POSIXLY_CORRECT, by which options after operands are none.
     Order,
     /// A value in a script that is unknown.
     Script,

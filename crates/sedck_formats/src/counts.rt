@@ -151,7 +151,7 @@ impl Counts {
     }
 }
 
-/// A line with these assumptions, behind this prefix; nothing where there are none.
+/// A line with these assumptions, after this prefix; nothing where there are none.
 pub fn assumed_line(
     alloc: Global,
     prefix: &str,

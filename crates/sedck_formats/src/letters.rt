@@ -25,8 +25,8 @@ impl Letters {
         start
     }
 
-    /// The start of a character at this place, or the next one behind it.
-    pub(crate) fn start_at_or_behind(self, bytes: &[u8], place: usize) -> usize {
+    /// The start of a character at this place, or the next one after it.
+    pub(crate) fn start_at_or_after(self, bytes: &[u8], place: usize) -> usize {
         let mut start = place;
         for _ in 0..3 {
             if self.is_inside(bytes, start) {
@@ -70,7 +70,7 @@ pub fn mark_len(letters: Letters, bytes: &[u8], length: usize) -> usize {
         Letters::Ascii => 1,
         Letters::Unicode => shown_letter_of(bytes).map_or(1, |(_, length)| length),
     };
-    let all = letters.start_at_or_behind(bytes, length.min(bytes.len()));
+    let all = letters.start_at_or_after(bytes, length.min(bytes.len()));
     all.max(first)
 }
 
@@ -85,12 +85,12 @@ pub fn line_in(alloc: Global, letters: Letters, bytes: &[u8]) -> Result<String, 
 /// The bytes of a line, with the characters of UTF-8.
 fn unicode_line(alloc: Global, bytes: &[u8]) -> Result<String, AllocError> {
     let mut shown = String::new(alloc);
-    let mut behind = 0usize;
+    let mut next = 0usize;
     for index in 0..bytes.len() {
-        if index >= behind {
+        if index >= next {
             let rest = bytes.get(index..).unwrap_or(&[]);
             let length = push_first(alloc, &mut shown, rest)?;
-            behind = index.saturating_add(length);
+            next = index.saturating_add(length);
         }
     }
     Ok(shown)

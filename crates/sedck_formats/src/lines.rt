@@ -78,14 +78,14 @@ pub fn excerpt(
 ) -> Result<LinePart, AllocError> {
     let letters = shown.letters;
     let before = before(shown.text, position);
-    let behind = behind(shown.text, position, limit);
+    let after = text_after(shown.text, position, limit);
     let needed = width(letters, last_part(before, limit));
-    let room = limit.saturating_sub(width(letters, behind)).max(limit / 2);
+    let room = limit.saturating_sub(width(letters, after)).max(limit / 2);
     let left = fitting_end(letters, before, room.min(needed));
-    let right = fitting_start(letters, behind, limit.saturating_sub(width(letters, left)));
+    let right = fitting_start(letters, after, limit.saturating_sub(width(letters, left)));
     let front = cut_where(left.len() < before.len());
-    let back = cut_where(right.len() < behind.len());
-    let (meant, rest) = right.split_at(letters.start_at_or_behind(right, length).min(right.len()));
+    let back = cut_where(right.len() < after.len());
+    let (meant, rest) = right.split_at(letters.start_at_or_after(right, length).min(right.len()));
     let left = line_in(alloc, letters, left)?;
     let rest = line_in(alloc, letters, rest)?;
     Ok(LinePart {
@@ -121,8 +121,8 @@ pub fn command_line(
     };
     let start = location.start.min(location.verb);
     let whole = shown.source.get(start..location.end).unwrap_or(&[]);
-    let behind = location.verb.saturating_sub(start).saturating_add(limit);
-    let part = whole.get(..behind.saturating_add(1)).unwrap_or(whole);
+    let last = location.verb.saturating_sub(start).saturating_add(limit);
+    let part = whole.get(..last.saturating_add(1)).unwrap_or(whole);
     let bytes = part[..line_len(part)].trim_ascii();
     let part = fitting_start(shown.letters, bytes, limit);
     let line = line_in(alloc, shown.letters, part)?;
@@ -139,7 +139,7 @@ fn before(text: &[u8], position: Position) -> &[u8] {
 }
 
 /// What follows the position in its line, from the byte there: no more than one byte over the limit.
-fn behind(text: &[u8], position: Position, limit: usize) -> &[u8] {
+fn text_after(text: &[u8], position: Position, limit: usize) -> &[u8] {
     let rest = text.get(position.offset..).unwrap_or(&[]);
     let part = rest.get(..limit.saturating_add(1)).unwrap_or(rest);
     &part[..line_len(part)]
@@ -170,7 +170,7 @@ fn fitting_end(letters: Letters, bytes: &[u8], room: usize) -> &[u8] {
     for (count, byte) in bytes.iter().rev().enumerate() {
         used = used.saturating_add(width_of(letters, *byte));
         if used > room {
-            let start = letters.start_at_or_behind(bytes, bytes.len().saturating_sub(count));
+            let start = letters.start_at_or_after(bytes, bytes.len().saturating_sub(count));
             return bytes.get(start..).unwrap_or(&[]);
         }
     }

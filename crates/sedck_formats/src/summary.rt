@@ -43,7 +43,7 @@ pub(crate) fn push_summary(
 
 /// Adds the limit on steps of an accepted script between these words, with an example, or that none is known. It is the one by lines alone
 /// where that is known, since it is never more than the other one.
-pub fn push_steps(out: &mut Written, before: &str, answer: &Answer, behind: &str) {
+pub fn push_steps(out: &mut Written, before: &str, answer: &Answer, after: &str) {
     let Answer::Accepted { limits, .. } = answer else {
         return;
     };
@@ -53,7 +53,7 @@ pub fn push_steps(out: &mut Written, before: &str, answer: &Answer, behind: &str
     } else {
         out.text("no limit is known");
     }
-    out.text(behind);
+    out.text(after);
 }
 
 /// Adds a limit on steps with an example.
@@ -71,7 +71,7 @@ fn push_bound(out: &mut Written, bound: Bound) {
 }
 
 /// Adds the limit on the spaces of an accepted script between these words, or that none is known.
-pub fn push_memory(out: &mut Written, before: &str, answer: &Answer, behind: &str) {
+pub fn push_memory(out: &mut Written, before: &str, answer: &Answer, after: &str) {
     let Answer::Accepted { limits, .. } = answer else {
         return;
     };
@@ -81,7 +81,7 @@ pub fn push_memory(out: &mut Written, before: &str, answer: &Answer, behind: &st
     } else {
         out.text("each space at most as long as the input");
     }
-    out.text(behind);
+    out.text(after);
 }
 
 /// The limit for 1,000 lines of 80 bytes, where it is below 2^64.

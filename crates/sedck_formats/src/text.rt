@@ -108,7 +108,7 @@ fn push_remark(out: &mut Written, gutter: usize, what: &str, words: &str, colour
     out.text(": ").text(words).text("\n");
 }
 
-/// Adds the line in which the position is, behind its number, and carets under what is meant; how wide the number's column is.
+/// Adds the line in which the position is, after its number, and carets under what is meant; how wide the number's column is.
 fn push_line(
     out: &mut Written,
     shown: &Shown,

@@ -90,7 +90,7 @@ fn push_message(out: &mut Written, finding: &Finding) {
 }
 
 /// Adds the steps that are listed: the place of each, its command's line if it has one, and what it does. The numbers of a list go on
-/// behind what is left out.
+/// after what is left out.
 fn push_steps(out: &mut Written, shown: &Shown, steps: &[Step]) -> Result<(), AllocError> {
     let stretches = listed_steps(out.alloc(), shown.script, steps)?;
     let mut number = 1usize;

@@ -168,7 +168,7 @@ fn push_excerpt(out: &mut Written, shown: &Shown, position: Position, length: us
     out.text("\\l");
 }
 
-/// Adds the words behind these at the front, in lines that are at the left.
+/// Adds the words after these at the front, in lines that are at the left.
 fn push_wrapped(out: &mut Written, front: &str, words: &str) {
     out.text(front);
     let mut width = front.len();

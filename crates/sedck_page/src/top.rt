@@ -73,7 +73,7 @@ fn push_counts(out: &mut Written, explanation: &Explanation) {
     out.text(".</p>\n");
 }
 
-/// Adds the findings that are beside a line as a list, behind this heading.
+/// Adds the findings that are beside a line as a list, after this heading.
 fn push_entries(
     out: &mut Written,
     names: Names,

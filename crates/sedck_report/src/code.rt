@@ -285,7 +285,7 @@ impl Code {
             Code::OptionsInFirstLine =>
                 "The first line gives sed options of which nothing is known",
             Code::BraceBehindLabel =>
-                "A } right behind a label, which some seds read as a part of it",
+                "A } right after a label, which some seds read as a part of it",
             Code::LooksExtended => "Bytes that look like an extended regular expression",
             Code::OneLineText => "A text on the line of its command, which POSIX does not have",
             Code::SilencingComment =>

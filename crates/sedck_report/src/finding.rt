@@ -90,7 +90,7 @@ pub enum NewText {
     Plain(&'static str),
     /// A group of an expression with this character in it.
     Group(char),
-    /// The part, with this delimiter in place of the one that begins it, but for that in bracket lists; perhaps behind a backslash.
+    /// The part, with this delimiter in place of the one that begins it, but for that in bracket lists; perhaps after a backslash.
     Delimited { other: u8, is_bare: bool },
 }
 
