@@ -25,9 +25,9 @@ class Unfit(Exception):
     """Why an edit can't be applied."""
 
 
-def edited(crate: Path, edit: Path) -> dict[str, str]:
-    """The texts of the files that an edit changes, by their paths in the crate."""
-    texts, path, old = {}, "", None
+def edited(crate: Path, edit: Path, before: dict[str, str] | None = None) -> dict[str, str]:
+    """The texts of the files that an edit changes, by their paths in the crate, and those that earlier edits made."""
+    texts, path, old = dict(before or {}), "", None
     for line in edit.read_text().splitlines():
         if line.startswith("file: "):
             path = line[len("file: "):].strip()

@@ -9,8 +9,10 @@ refused. Tried are those of the crates that are behind, whose sum is another one
 crates that are named. With `--behind` nothing is tried: the crates that are behind are printed, and the status is 1 if there are any.
 
 What the crates need is proved first. Where `rt ci` takes names of crates it uses what the gate has kept on this machine; otherwise what is
-proved stays in the crates' folders, as for `make build`. Then each crate is checked as it is, and each of its edits in a tree of its own over
-what that check kept: as many at a time as there are processors. All that `rt check` prints of an edit is kept in build/planted.
+proved stays in the crates' folders, as for `make build`. Then each crate is checked as it is, and its edits in trees of their own over what
+that check kept: as many at a time as there are processors. Edits in several functions share a check, since most of its time goes into
+loading. What it says of a function is said of the edit there; an edit of which it says nothing is tried once more, alone. All that
+`rt check` prints of an edit is kept in build/planted.
 
 An edit is refused only where something else is said of it than that a name is gone: a proof that cites a variable, a field or a call that the
 edit took away fails whatever the contract says. The status is 0 only where each edit is refused.
@@ -32,9 +34,14 @@ TOP = Path(__file__).resolve().parent.parent
 LEDGER = TOP / "planted.sums"
 KEPT = TOP / "build" / "planted"
 # A line of `rt check` on a place of a file: an error, or a note that belongs to one.
-SAID = re.compile(r"(?:note: )?(?:\./)?\S+:\d+:\d+: ")
+SAID = re.compile(r"(?:note: )?(?:\./)?(\S+?):(\d+):\d+: ")
 # What it says of a proof that cites a name which the edit took away, and of the proofs that cite that one.
 NAME_IS_GONE = re.compile(r"(?:note: )?(?:\./)?proofs/.*(?:has no field|is not in scope|has no `|was not admitted|\(nearest: |which was rejected)")
+# The head of a function, as `rt fmt` writes it, with what is before it and its name; and how a clause of its contract begins.
+FUNCTION = re.compile(r"( *)(?:pub(?:\([a-z]+\))? )?(?:unsafe )?(?:extern \"C\" )?fn (\w+)")
+CLAUSES = ("requires", "ensures", "ghost")
+# The most edits of one check.
+MOST = 8
 
 
 def planted(name: str) -> list[Path]:
@@ -115,6 +122,65 @@ def checked(rt, name, tree, room, kept=None, texts=None):
     return prove.called(shlex.split(rt) + ["check", "--jobs", "1"], crate)
 
 
+class Function:
+    """A function of a file: its name, the file's path in the crate, and the lines of its code, counted from 1."""
+
+    def __init__(self, path, name, first, last):
+        self.path, self.name, self.first, self.last = path, name, first, last
+
+    def has(self, line):
+        """Whether what a check prints is said of this function: of its code, or of its proof."""
+        file, number = SAID.match(line).groups()
+        if file == self.path:
+            return self.first <= int(number) <= self.last
+        parts, module = file.split("/"), Path(self.path).with_suffix("").parts[1:]
+        return parts[0] == "proofs" and parts[-2] == self.name and tuple(parts[1:1 + len(module)]) == (() if module == ("lib",) else module)
+
+
+def functions_of(path, text):
+    """The functions of a file whose names stand once in it."""
+    lines, found = text.splitlines(), []
+    for number, line in enumerate(lines):
+        if head := FUNCTION.match(line):
+            opens = [at for at in range(number, len(lines)) if lines[at] == head[1] + "{" or lines[at].endswith(" {") and not lines[at].strip().startswith(CLAUSES)]
+            ends = [at for at in range(number, len(lines)) if lines[at] == head[1] + "}"]
+            if opens and ends and opens[0] < ends[0]:
+                found.append(Function(path, head[2], opens[0] + 2, ends[0]))
+    names = [one.name for one in found]
+    return [one for one in found if names.count(one.name) == 1]
+
+
+def function_of(crate, edit):
+    """The function in whose code an edit changes something, and nowhere else; none where it has another form."""
+    texts = edits.edited(crate, edit)
+    if len(texts) != 1:
+        return None
+    path, new = texts.popitem()
+    ends = []
+    for one, other in ((new, (crate / path).read_text()), ((crate / path).read_text(), new)):
+        one, other = one.splitlines(), other.splitlines()
+        same = [at for at in range(min(len(one), len(other))) if one[at] != other[at]]
+        tail = [at for at in range(1, min(len(one), len(other)) + 1) if one[-at] != other[-at]]
+        ends.append((same[0] + 1 if same else min(len(one), len(other)) + 1, len(one) - (tail[0] if tail else 0) + 1))
+    within = [{one.name for one in functions_of(path, text) if one.first <= first and last <= one.last}
+              for text, (first, last) in zip((new, (crate / path).read_text()), ends)]
+    names = within[0] & within[1]
+    return (path, names.pop()) if len(names) == 1 else None
+
+
+def grouped(name):
+    """The edits of a crate in groups that share a check: those in the code of different functions, with these, and each other one alone."""
+    crate, groups = TOP / "crates" / name, []
+    for edit in planted(name):
+        place = function_of(crate, edit)
+        group = next((group for group in groups if place and None not in group and place not in group and len(group) < MOST), None)
+        if group is None:
+            groups.append({place: edit})
+        else:
+            group[place] = edit
+    return groups
+
+
 def verdict(status, printed):
     """What a check of an edit came to: whether it was refused by more than a name that is gone, and what to say."""
     said = [line for line in printed.splitlines() if SAID.match(line)]
@@ -129,17 +195,33 @@ def verdict(status, printed):
     return True, "refused" + (": " + by_goal[0][:160] if by_goal else "")
 
 
-def tried(rt, name, edit, tree, folder):
-    """Tries one edit of a crate that was checked: whether it is refused, and what to say."""
-    room = folder / ("%s-%s" % (name, edit.stem))
-    texts = edits.edited(TOP / "crates" / name, edit)
+def tried(rt, name, group, tree, folder):
+    """Tries edits of a crate that was checked, all in one check: of each whether it is refused, and what to say; none of the latter where
+    that has to be seen alone."""
+    stems = [edit.stem for edit in group.values()]
+    room, texts = folder / ("%s-%s" % (name, stems[0])), {}
     try:
+        for edit in group.values():
+            texts = edits.edited(TOP / "crates" / name, edit, texts)
         status, printed = checked(rt, name, tree, room, folder / name / "crates" / name / "out", texts)
+    except edits.Unfit:
+        return {stem: (False, None) for stem in stems}
     finally:
         shutil.rmtree(room, ignore_errors=True)
     (KEPT / name).mkdir(parents=True, exist_ok=True)
-    (KEPT / name / (edit.stem + ".txt")).write_text(printed)
-    return verdict(status, printed)
+    for stem in stems:
+        (KEPT / name / (stem + ".txt")).write_text(printed)
+    if len(group) == 1:
+        return {stems[0]: verdict(status, printed)}
+    return {edit.stem: verdict_of(place, status, printed, texts) for place, edit in group.items()}
+
+
+def verdict_of(place, status, printed, texts):
+    """What a check of several edits came to for that in the code of this function: that it was refused, or that it has to be seen alone."""
+    one = next((one for one in functions_of(place[0], texts[place[0]]) if one.name == place[1]), None)
+    lines = [line for line in printed.splitlines() if not SAID.match(line) or one and one.has(line)]
+    is_refused, words = verdict(status, "\n".join(lines))
+    return (True, words) if is_refused and words != "refused" else (False, None)
 
 
 class Trying:
@@ -159,11 +241,20 @@ class Trying:
             print("%splanted: %s isn't proved as it is" % (printed, name), flush=True)
             self.failed.add(name)
             return {}
-        return {pool.submit(tried, self.rt, name, edit, self.tree, self.folder): (name, edit.stem) for edit in planted(name)}
+        return {pool.submit(tried, self.rt, name, group, self.tree, self.folder): (name, group) for group in grouped(name)}
 
-    def after_edit(self, name, stem, result):
+    def after_edits(self, pool, name, group, results):
+        """Says what came of edits, and tries those alone of which nothing is known yet."""
+        alone = {}
+        for place, edit in group.items():
+            if results[edit.stem][1] is None:
+                alone[pool.submit(tried, self.rt, name, {place: edit}, self.tree, self.folder)] = name, {place: edit}
+            else:
+                self.after_edit(name, edit.stem, *results[edit.stem])
+        return alone
+
+    def after_edit(self, name, stem, is_refused, words):
         """Says what came of an edit; after the last one of a crate all of whose edits were refused, its sum is entered."""
-        is_refused, words = result
         print("planted: %s/%s: %s" % (name, stem, words), flush=True)
         self.open[name].discard(stem)
         if not is_refused:
@@ -181,11 +272,11 @@ class Trying:
             running = {pool.submit(checked, self.rt, name, self.tree, self.folder / name): (name, None) for name in largest}
             while running:
                 for future in wait(running, return_when=FIRST_COMPLETED).done:
-                    name, stem = running.pop(future)
-                    if stem is None:
+                    name, group = running.pop(future)
+                    if group is None:
                         running |= self.after_check(pool, name, future.result())
                     else:
-                        self.after_edit(name, stem, future.result())
+                        running |= self.after_edits(pool, name, group, future.result())
         return not self.failed
 
 
