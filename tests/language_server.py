@@ -102,6 +102,8 @@ def check_findings(editor):
     expect([one["code"] for one in found], ["unclosed-bracket"], "a fault of the last line")
     expect(editor.findings("file:///none/empty.sed", ""), [], "an empty text")
     expect(editor.findings("untitled:Untitled-1", "p"), [], "a text without a file")
+    found = editor.findings("file:///none/-n.sed", "s/[/x/")
+    expect([one["code"] for one in found], ["unclosed-bracket"], "a name that begins with a hyphen")
 
 
 def check_ends_of_lines(editor):
@@ -110,9 +112,9 @@ def check_ends_of_lines(editor):
     expect([(one["code"], one["range"]["start"]) for one in found if one["severity"] == 1], [("extra-text", {"line": 0, "character": 1})], "a fault at CRLF")
     found = editor.findings("file:///none/cr.sed", "# a\rs/[/x/\n")
     expect([one["range"]["start"]["line"] for one in found if one["severity"] == 1][:1], [0], "a CR inside of a comment")
+    # An edit that takes a CR away from its LF has no place in the editor, which divides neither.
     fixes = editor.ask("textDocument/codeAction", about("file:///none/crlf.sed", range=span(0, 0, 0, 0), context={"diagnostics": []}))["result"]
-    changes = [action["edit"]["changes"]["file:///none/crlf.sed"] for action in fixes]
-    expect(len(changes), 1, "the fixes of CRLF")
+    expect(fixes, [], "the fixes of CRLF")
 
 
 def check_bytes(editor, folder):
@@ -177,6 +179,24 @@ def check_changes(explain, folder):
     expect(list(iter(editor.next, None)), [], "what is published of old versions")
 
 
+# Messages that aren't of the protocol, each with the code of the error that is due, or None where nobody waits for an answer.
+MALFORMED = [
+    (b"5", -32600), (b"null", -32600), (b"[]", -32600), (b'{"method": 7}', -32600), (b"[" * 100000, -32700), (b'{}', None),
+    (b'{"id": 0, "method": "textDocument/hover", "params": [1]}', -32602), (b'{"method": "textDocument/didOpen", "params": [1]}', None),
+    (b'{"method": "textDocument/didChange", "params": {"textDocument": {"uri": "file:///none/a.sed", "version": 1}}}', None),
+    (b'{"method": "textDocument/didOpen", "params": {"textDocument": {"uri": "file://[x/a.sed", "version": 1, "text": "p"}}}', None),
+]
+
+
+def check_malformed(editor):
+    """After a message that isn't of the protocol the server still answers."""
+    for text, due in MALFORMED:
+        editor.raw(text)
+        if due:
+            expect(editor.next()["error"]["code"], due, "the error of %r" % text[:60])
+        expect(editor.ask("textDocument/hover", about("file:///none/none.sed"))["result"], None, "what follows %r" % text[:60])
+
+
 def check_life(explain):
     """The order of initialize, shutdown and exit."""
     editor = Editor(explain, begins=False)
@@ -206,6 +226,7 @@ def main():
         check_ends_of_lines(editor)
         check_bytes(editor, folder)
         check_requests(editor)
+        check_malformed(editor)
         expect("result" in editor.ask("shutdown", None) and editor.end(), 0, "the end")
         check_changes(explain, folder)
         check_life(explain)

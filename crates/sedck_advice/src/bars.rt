@@ -9,6 +9,7 @@ pub(crate) fn bar_hint(spot: Spot) -> &'static str {
         return group_hint(spot);
     }
     match spot.purpose() {
+        Purpose::ReplacesAll | Purpose::Replaces if spot.is_meant_later() => AGAIN,
         Purpose::ReplacesAll if spot.is_counted() => ONCE,
         Purpose::ReplacesAll if spot.is_reported() => APART,
         Purpose::ReplacesAll =>
@@ -68,8 +69,16 @@ const ALTERNATIVES: &str =
     "write `\\([ab]\\)` for `\\(a\\|b\\)`, `\\(64\\)\\{0,1\\}` for `\\(\\|64\\)` and `\\(\\.[ch]\\)` for `\\(\\.c\\|\\.h\\)`; otherwise write one \
         command for each alternative, if no line has a match of two of them, nor of one that another makes";
 
+/// The same before an empty expression.
+const ALTERNATIVES_AGAIN: &str =
+    "write `\\([ab]\\)` for `\\(a\\|b\\)`, `\\(64\\)\\{0,1\\}` for `\\(\\|64\\)` and `\\(\\.[ch]\\)` for `\\(\\.c\\|\\.h\\)`; otherwise write the \
+        whole expression in place of `//`, which means the one that was used last; then each has a hint";
+
 /// For `\|` in a group of an `s`.
 fn replaced_hint(spot: Spot) -> &'static str {
+    if spot.is_meant_later() {
+        return ALTERNATIVES_AGAIN;
+    }
     let made = spot.replacement();
     let is_last = spot.rest.starts_with(b"\\|$\\)")
         && byte_at(spot.rest, 5) == spot.delimiter()

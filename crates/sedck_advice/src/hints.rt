@@ -116,7 +116,8 @@ const OUTSIDE: &str =
     "this extension of GNU sed has no equivalent in POSIX: do it outside the script";
 
 const LINES: &str =
-    "`^` and `$` match only at the ends of the pattern space: match `\\n` instead; where that is one line leave `M` out";
+    "`^` and `$` match only at the ends of the pattern space: match `\\n` instead, and write `[^\\n]` for `.` and `[^x\\n]` for `[^x]`, which match no \
+        newline with `M`; where that is one line leave `M` out";
 
 const QUOTES: &str = "quotes belong to the shell: leave them out of the script";
 
@@ -143,15 +144,18 @@ fn verb_hint(verb: u8) -> Option<&'static str> {
             "for `T end` write `t go`, `b end` and `:go` on lines of their own; for `/x/T end` put the first two into a block, `/x/{` and `}`",
         ),
         b'z' => Some(
-            "for `z` write `g` if no command uses the hold space; else write `s/.*//`, which sets the flag that `t` tests, and in UTF-8 stops at a \
-                byte that is no character",
+            "for `z` write `g` if no command uses the hold space; else write `s/.*//`, which sets the flag that `t` tests, is what `//` means \
+                behind it, and in UTF-8 stops at a byte that is no character",
         ),
-        b'I' => Some("for `/hello/I` write `/[hH][eE][lL][lL][oO]/`"),
+        b'I' => Some(
+            "for `/hello/I` write `/[hH][eE][lL][lL][oO]/`, if the expression has no reference",
+        ),
         b'M' => Some(LINES),
         b'e' => Some("POSIX sed can't run other programs: do it outside the script"),
         b'v' => Some("`v` requires a version of GNU sed: leave it out"),
         b'W' => Some(
-            "for `W out` write `h`, `s/\\n.*//`, `w out` and `g`, if nothing needs the hold space; the `s` sets the flag that `t` tests",
+            "for `W out` write `h`, `s/\\n.*//`, `w out` and `g`, if nothing needs the hold space; the `s` sets the flag that `t` tests, is what `//` \
+                means behind it, and in UTF-8 stops at a byte that is no character",
         ),
         b'F' | b'R' => Some(OUTSIDE),
         b'"' | b'\'' => Some(QUOTES),
@@ -164,7 +168,7 @@ fn verb_hint(verb: u8) -> Option<&'static str> {
 
 fn address_hint(spot: Spot) -> Option<&'static str> {
     match byte_at(spot.rest, 0) {
-        b'0' => zero_hint(spot.rest),
+        b'0' => zero_hint(spot),
         b'1'..=b'9' => Some("a line number is at most 4,294,967,295"),
         b'+' => Some(following_hint(spot)),
         b'~' if follows_number(spot) => Some("for `5,~4` write `5,8`"),
@@ -174,9 +178,14 @@ fn address_hint(spot: Spot) -> Option<&'static str> {
 }
 
 /// By what follows the `0`.
-fn zero_hint(rest: &[u8]) -> Option<&'static str> {
+fn zero_hint(spot: Spot) -> Option<&'static str> {
+    let rest = spot.rest;
     if let Some(behind) = rest.strip_prefix(b"0~") {
-        return multiples_hint(b"0", behind);
+        return if spot.follows(",") {
+            None
+        } else {
+            multiples_hint(b"0", behind)
+        };
     }
     if let Some(behind) = behind_first_range(rest) {
         return Some(first_match_hint(behind));
@@ -204,7 +213,8 @@ fn behind_first_range(rest: &[u8]) -> Option<&[u8]> {
 fn first_match_hint(behind: &[u8]) -> &'static str {
     match byte_at(from_verb(behind), 0) {
         b'd' =>
-            "for `0,/x/d` alone in a script write `/x/!d`, `$d`, `N`, `s/.*\\n//`, `:rest`, `n` and `b rest` on lines of their own",
+            "for `0,/x/d` alone in a script write `/x/!d`, `$d`, `N`, `s/.*\\n//`, `:rest`, `n` and `b rest` on lines of their own; \
+                in UTF-8 the `s` stops at a byte that is no character",
         verb if is_among(verb, "spy=wairl") =>
             "for `0,/x/s/a/b/` alone in a script write `/x/{`, `s/a/b/`, `:rest`, `n`, `b rest`, `}` and once more `s/a/b/` on lines of their own, \
                 and so for `p`",
@@ -403,7 +413,7 @@ fn replacement_hint(rest: &[u8]) -> &'static str {
         b'1'..=b'9' =>
             "the expression has fewer groups: a group is written `\\(` and `\\)`; is the script meant for `sed -E`?",
         b'x' | b'o' | b'c' | b'd' => {
-            "write the byte itself, `&` as `\\&` and a backslash as `\\\\`"
+            "write the byte itself, but a newline as `\\n`, `&` as `\\&`, a backslash as `\\\\`, and the delimiter behind a backslash"
         }
         b'r' | b'f' | b'v' | b'a' =>
             "GNU sed reads this as a control character: write that character itself, or the letter if that is meant",
@@ -413,7 +423,8 @@ fn replacement_hint(rest: &[u8]) -> &'static str {
 
 fn flag_hint(rest: &[u8]) -> &'static str {
     match byte_at(rest, 0) {
-        b'I' | b'i' => "for `s/hello/x/I` write `s/[hH][eE][lL][lL][oO]/x/`",
+        b'I' | b'i' =>
+            "for `s/hello/x/I` write `s/[hH][eE][lL][lL][oO]/x/`, if the expression has no reference",
         b'e' => "POSIX sed can't run other programs: do it outside the script",
         b'm' | b'M' => LINES,
         b'"' | b'\'' => QUOTES,

@@ -7,7 +7,7 @@ use sedck_report::skipped;
 pub(crate) fn multiples_hint(before: &[u8], behind: &[u8]) -> Option<&'static str> {
     let opening = before_any(before, DIGITS);
     let verb = byte_at(from_verb(behind), 0);
-    if opening.ends_with(b",") || verb == b',' {
+    if before_any(opening, " \t").ends_with(b",") || verb == b',' {
         return None;
     }
     let first = number_in(skipped(before, opening.len()));
@@ -24,7 +24,7 @@ pub(crate) fn multiples_hint(before: &[u8], behind: &[u8]) -> Option<&'static st
         _ if first > step => Some(later_hint(verb)),
         b'd' => Some(
             "for `0~3d` alone in a script write `n`, `n` and `d`; for `1~2d` write `$d`, `N` and `s/.*\\n//`; for `2~3d` put an `n` before these, \
-                and for `1~3d` after them",
+                and for `1~3d` after them; in UTF-8 the `s` stops at a byte that is no character",
         ),
         _ => Some(
             "for `0~3p` alone in a script write `n`, `n` and `p`; for `2~5p` write `n`, `p`, `n`, `n` and `n`; the command may not delete",
@@ -35,7 +35,8 @@ pub(crate) fn multiples_hint(before: &[u8], behind: &[u8]) -> Option<&'static st
 /// Where the first line comes after the first step.
 fn later_hint(verb: u8) -> &'static str {
     if verb == b'd' {
-        return "for `5~2d` alone in a script write `1,4b`, `$d`, `N` and `s/.*\\n//`; for `5~3d` put an `n` after these";
+        return "for `5~2d` alone in a script write `1,4b`, `$d`, `N` and `s/.*\\n//`; for `5~3d` put an `n` after these; in UTF-8 the \
+            `s` stops at a byte that is no character";
     }
     "for `5~2p` alone in a script write `1,4b`, `p` and `n`; for `5~3p` put one more `n` after these; the command may not delete"
 }
@@ -44,7 +45,8 @@ fn later_hint(verb: u8) -> &'static str {
 fn other_lines_hint(behind: &[u8]) -> &'static str {
     let negated = skipped(from_verb(behind), 1);
     if from_verb(negated).starts_with(b"d") {
-        return "for `0~3!d` alone in a script write `$d`, `N`, `$d`, `N` and `s/.*\\n//`; for `1~3!d` write `n`, `$!N` and `d`";
+        return "for `0~3!d` alone in a script write `$d`, `N`, `$d`, `N` and `s/.*\\n//`; for `1~3!d` write `n`, `$!N` and `d`; in UTF-8 \
+            the `s` stops at a byte that is no character";
     }
     "for `0~3!p` alone in a script write `p`, `n`, `p` and `n`; for `1~3!p` write `n`, `p`, `n` and `p`; the command may not delete"
 }

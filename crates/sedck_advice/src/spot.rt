@@ -1,7 +1,7 @@
 //! What is around a fault, as far as a hint depends on it.
 
 use crate::bytes::{
-    DIGITS, after_any, before_any, byte_at, ends_escaped, first_bytes, has_one_of, is_among,
+    DIGITS, after_any, before_any, byte_at, ends_escaped, first_bytes, has, has_one_of, is_among,
     without_blanks,
 };
 use sedck_parts::{Place, Reading};
@@ -125,6 +125,17 @@ impl<'a> Spot<'a> {
         after_any(self.after_expression(), " \t\n;{").starts_with(b"s//")
     }
 
+    /// Whether a later command seems to have an empty expression, which means another one where several commands come in place of the `s`.
+    pub(crate) fn is_meant_later(self) -> bool {
+        let behind = self.flags();
+        for start in EMPTY_STARTS {
+            if has(behind, start) {
+                return true;
+            }
+        }
+        false
+    }
+
     /// The script from the byte after the fault's first one on.
     pub(crate) fn behind(self) -> &'a [u8] {
         skipped(self.rest, 1)
@@ -161,6 +172,11 @@ impl<'a> Spot<'a> {
         }
     }
 }
+
+/// How a command with an empty expression may begin.
+static EMPTY_STARTS: &'static [&'static str] = &[
+    "\n//", ";//", "{//", "\ns//", ";s//", "{s//", "!s//",
+];
 
 /// The flags of `s` but for `w`, with those of GNU sed, and blanks.
 const PLAIN_FLAGS: &str = "0123456789gpIiMme \t";

@@ -24,6 +24,9 @@ pub(crate) fn word_hint(spot: Spot) -> &'static str {
     if !spot.is_replaced() {
         return next_to_word(spot);
     }
+    if spot.is_meant_later() {
+        return AGAIN;
+    }
     if spot.is_reported() {
         return apart_hint(spot);
     }
@@ -40,14 +43,17 @@ fn new_word_hint(ends: Ends) -> &'static str {
     match ends {
         Ends::Start =>
             "for `s/\\<WORD/NEW/g` write `s/^/\\n/`, `s/\\([^[:alnum:]_]\\)WORD/\\1NEW/g` and `s/^\\n//`; each match of WORD must begin and end \
-                with a letter, a digit or `_`; the first `s` sets the flag that `t` tests",
+                with a letter, a digit or `_`; the first `s` sets the flag that `t` tests; in UTF-8 each byte must \
+                be of a character",
         Ends::End =>
             "for `s/WORD\\>/NEW/g` write `s/$/\\n/`, `s/WORD\\([^[:alnum:]_]\\)/NEW\\1/g` and `s/\\n$//`; each match of WORD must begin and end \
-                with a letter, a digit or `_`; the first `s` sets the flag that `t` tests",
+                with a letter, a digit or `_`; the first `s` sets the flag that `t` tests; in UTF-8 each byte must \
+                be of a character",
         _ =>
             "for `s/\\bWORD\\b/NEW/g` write `s/.*/\\n&\\n/`, twice `s/\\([^[:alnum:]_]\\)WORD\\([^[:alnum:]_]\\)/\\1NEW\\2/g`, and \
                 `s/^\\n\\(.*\\)\\n$/\\1/`, if NEW has no such word; without `g` only once; each match of WORD must begin and end with a letter, a \
-                digit or `_`; the first `s` sets the flag that `t` tests",
+                digit or `_`; the first `s` sets the flag that `t` tests; in UTF-8 each byte must \
+                be of a character",
     }
 }
 
@@ -56,14 +62,17 @@ fn same_word_hint(ends: Ends) -> &'static str {
     match ends {
         Ends::Start =>
             "for `s/\\<WORD/X&/g` write `s/^/\\n/`, `s/\\([^[:alnum:]_]\\)\\(WORD\\)/\\1X\\2/g` and `s/^\\n//`; each match of WORD must begin and \
-                end with a letter, a digit or `_`; the first `s` sets the flag that `t` tests",
+                end with a letter, a digit or `_`; the first `s` sets the flag that `t` tests; in UTF-8 each byte must \
+                be of a character",
         Ends::End =>
             "for `s/WORD\\>/X&/g` write `s/$/\\n/`, `s/\\(WORD\\)\\([^[:alnum:]_]\\)/X\\1\\2/g` and `s/\\n$//`; each match of WORD must begin and \
-                end with a letter, a digit or `_`; the first `s` sets the flag that `t` tests",
+                end with a letter, a digit or `_`; the first `s` sets the flag that `t` tests; in UTF-8 each byte must \
+                be of a character",
         _ =>
             "for `s/\\bWORD\\b/X&/` write `s/.*/\\n&\\n/`, `s/\\([^[:alnum:]_]\\)\\(WORD\\)\\([^[:alnum:]_]\\)/\\1X\\2\\3/` and \
                 `s/^\\n\\(.*\\)\\n$/\\1/`; with `g` this leaves out words that share a byte between them; each match of WORD must begin and end \
-                with a letter, a digit or `_`; the first `s` sets the flag that `t` tests",
+                with a letter, a digit or `_`; the first `s` sets the flag that `t` tests; in UTF-8 each byte must \
+                be of a character",
     }
 }
 
@@ -71,19 +80,22 @@ fn same_word_hint(ends: Ends) -> &'static str {
 pub(crate) fn next_to_word(spot: Spot) -> &'static str {
     match spot.purpose() {
         Purpose::Range =>
-            "match what is next to the word: in a range `/[^[:alnum:]_]WORD[^[:alnum:]_]/` for `/\\<WORD\\>/`, if WORD is neither first nor last in \
+            "match what is next to the word, in UTF-8 only where each byte is of a character: \
+                in a range `/[^[:alnum:]_]WORD[^[:alnum:]_]/` for `/\\<WORD\\>/`, if WORD is neither first nor last in \
                 a line, and each match of it begins and ends with a letter, a digit or `_`",
         Purpose::Deletes =>
-            "match what is next to the word: for `/\\<WORD/d` write `/^WORD/d` and `/[^[:alnum:]_]WORD/d`; for `/WORD\\>/d` write `/WORD$/d` and \
+            "match what is next to the word, in UTF-8 only where each byte is of a character: \
+                for `/\\<WORD/d` write `/^WORD/d` and `/[^[:alnum:]_]WORD/d`; for `/WORD\\>/d` write `/WORD$/d` and \
                 `/WORD[^[:alnum:]_]/d`; for `/\\<WORD\\>/d` write `/^WORD$/d`, `/^WORD[^[:alnum:]_]/d`, `/[^[:alnum:]_]WORD$/d` and \
                 `/[^[:alnum:]_]WORD[^[:alnum:]_]/d`; each match of WORD must begin and end with a letter, a digit or `_`",
         Purpose::Unless =>
-            "match what is next to the word: for `/\\<WORD/!d` write `/^WORD/b keep`, `/[^[:alnum:]_]WORD/b keep`, `d` and `:keep` on lines of \
+            "match what is next to the word, in UTF-8 only where each byte is of a character: \
+                for `/\\<WORD/!d` write `/^WORD/b keep`, `/[^[:alnum:]_]WORD/b keep`, `d` and `:keep` on lines of \
                 their own; for `/WORD\\>/!d` write `/WORD$/b keep`, `/WORD[^[:alnum:]_]/b keep`, `d` and `:keep`; for both ends the four pairs of \
                 these; each match of WORD must begin and end with a letter, a digit or `_`",
         _ if spot.is_used_again() => AGAIN,
-        _ =>
-            "match what is next to the word: for `/\\<WORD/p` write `/^WORD/b do`, `/[^[:alnum:]_]WORD/b do`, `b on`, `:do`, `p` and `:on` on lines \
+        _ => "match what is next to the word, in UTF-8 only where each byte is of a character: \
+                for `/\\<WORD/p` write `/^WORD/b do`, `/[^[:alnum:]_]WORD/b do`, `b on`, `:do`, `p` and `:on` on lines \
                 of their own; for `/WORD\\>/p` write `/WORD$/b do`, `/WORD[^[:alnum:]_]/b do`, `b on`, `:do`, `p` and `:on`; for both ends the four \
                 pairs of these; each match of WORD must begin and end with a letter, a digit or `_`",
     }
