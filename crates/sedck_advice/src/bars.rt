@@ -168,7 +168,7 @@ fn tested_end_hint(spot: Spot) -> &'static str {
     }
 }
 
-/// Whether a label precedes the fault, so that the `t` behind it may lead back.
+/// Whether a label precedes the fault, so that the `t` after it may lead back.
 fn follows_label(spot: Spot) -> bool {
     for command in spot.before.split(ends_command) {
         if without_blanks(command).starts_with(b":") {

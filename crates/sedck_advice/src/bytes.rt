@@ -90,7 +90,7 @@ pub(crate) fn before_any<'a>(text: &'a [u8], bytes: &str) -> &'a [u8] {
     first_bytes(text, length)
 }
 
-/// Whether the text ends with this byte behind a backslash that isn't escaped itself.
+/// Whether the text ends with this byte after a backslash that isn't escaped itself.
 pub(crate) fn ends_escaped(text: &[u8], byte: u8) -> bool {
     let before = first_bytes(text, text.len().saturating_sub(1));
     let backslashes = before.len().saturating_sub(before_any(before, "\\").len());
@@ -117,7 +117,7 @@ pub(crate) fn first_command(text: &[u8]) -> &[u8] {
     until_any(text, ";\n")
 }
 
-/// The text behind that `;` or newline.
+/// The text after that `;` or newline.
 pub(crate) fn behind_command(text: &[u8]) -> &[u8] {
     skipped(text, first_command(text).len().saturating_add(1))
 }

@@ -13,7 +13,7 @@ pub(crate) struct Comment<'a> {
     pub bytes: &'a [u8],
     /// Whether only blanks are before it in its line.
     pub is_alone: bool,
-    /// Whether it is right behind the flags of an `s`.
+    /// Whether it is right after the flags of an `s`.
     pub follows_flags: bool,
 }
 
@@ -42,7 +42,7 @@ pub(crate) fn comments_in(alloc: Global, text: &[u8]) -> Result<Vec<Comment>, Al
 const MOST: usize = 100;
 
 /// Where the first comments are that begin with an `n`, but for a first line that is `#n` alone, and but for those that BusyBox skips
-/// unread behind an `s`.
+/// unread after an `s`.
 pub(crate) fn silencing(alloc: Global, text: &[u8]) -> Result<Vec<usize>, AllocError> {
     let mut offsets = Vec::new(alloc);
     for comment in &comments_in(alloc, text)? {

@@ -34,7 +34,7 @@ fn letter_hint(escaped: u8) -> &'static str {
         b'`' | b'\'' =>
             "for the ends of the pattern space write `^` first in an expression and `$` last",
         b'd' | b'x' | b'o' | b'c' =>
-            "write the byte itself, but a newline as `\\n`, and the delimiter behind a backslash",
+            "write the byte itself, but a newline as `\\n`, and the delimiter after a backslash",
         b'r' | b'f' | b'v' | b'a' =>
             "GNU sed reads this as a control character, as `\\a` for BEL: write that character itself, or the letter if that is meant",
         _ => PLAIN,

@@ -44,7 +44,7 @@ struct Seen {
     previous: u8,
     /// Whether a list, a `)` or a `.` is before, which a sign of repetition would repeat.
     may_repeat: bool,
-    /// Whether the byte before is of a word behind a backslash or an `@`, as TeX and Texinfo write commands.
+    /// Whether the byte before is of a word after a backslash or an `@`, as TeX and Texinfo write commands.
     is_markup: bool,
     /// Whether a parenthesis is before.
     is_open: bool,

@@ -121,7 +121,7 @@ const LINES: &str =
 
 const QUOTES: &str = "quotes belong to the shell: leave them out of the script";
 
-/// Whether the `T` and the `b` behind it are one `t`: neither has an address, and the `T` leads right behind the `b`.
+/// Whether the `T` and the `b` after it are one `t`: neither has an address, and the `T` leads right after the `b`.
 fn is_turned_test(spot: Spot) -> bool {
     let branch = without_blanks(behind_command(spot.rest));
     let label = without_blanks(behind_command(branch));
@@ -145,7 +145,7 @@ fn verb_hint(verb: u8) -> Option<&'static str> {
         ),
         b'z' => Some(
             "for `z` write `g` if no command uses the hold space; else write `s/.*//`, which sets the flag that `t` tests, is what `//` means \
-                behind it, and in UTF-8 stops at a byte that is no character",
+                after it, and in UTF-8 stops at a byte that is no character",
         ),
         b'I' => Some(
             "for `/hello/I` write `/[hH][eE][lL][lL][oO]/`, if the expression has no reference",
@@ -155,7 +155,7 @@ fn verb_hint(verb: u8) -> Option<&'static str> {
         b'v' => Some("`v` requires a version of GNU sed: leave it out"),
         b'W' => Some(
             "for `W out` write `h`, `s/\\n.*//`, `w out` and `g`, if nothing needs the hold space; the `s` sets the flag that `t` tests, is what `//` \
-                means behind it, and in UTF-8 stops at a byte that is no character",
+                means after it, and in UTF-8 stops at a byte that is no character",
         ),
         b'F' | b'R' => Some(OUTSIDE),
         b'"' | b'\'' => Some(QUOTES),
@@ -413,7 +413,7 @@ fn replacement_hint(rest: &[u8]) -> &'static str {
         b'1'..=b'9' =>
             "the expression has fewer groups: a group is written `\\(` and `\\)`; is the script meant for `sed -E`?",
         b'x' | b'o' | b'c' | b'd' => {
-            "write the byte itself, but a newline as `\\n`, `&` as `\\&`, a backslash as `\\\\`, and the delimiter behind a backslash"
+            "write the byte itself, but a newline as `\\n`, `&` as `\\&`, a backslash as `\\\\`, and the delimiter after a backslash"
         }
         b'r' | b'f' | b'v' | b'a' =>
             "GNU sed reads this as a control character: write that character itself, or the letter if that is meant",

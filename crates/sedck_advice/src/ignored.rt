@@ -77,7 +77,7 @@ fn code_among(codes: &[Code], name: &[u8]) -> Option<Code> {
     None
 }
 
-/// The codes of warnings and notes on what a script is, beside those on names: all but those on what isn't known of it.
+/// The codes of warnings and notes on what a script is, beside those on names: all but those on what is unknown of it.
 static NAMED: &'static [Code] = &[
     Code::OptionsInFirstLine,
     Code::BraceBehindLabel,
@@ -244,7 +244,7 @@ fn unknown_words_of(alloc: Global, word: Word) -> Result<(String, &'static str),
     Ok((format!(in alloc; "{before}{name}{behind}")?, hint))
 }
 
-/// What is said before and behind the word where it is named, or without it, and a hint.
+/// What is said before and after the word where it is named, or without it, and a hint.
 fn words_around(word: Word) -> (&'static str, &'static str, &'static str) {
     match word.role {
         Role::Code if word.named().is_some() => (

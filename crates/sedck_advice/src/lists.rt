@@ -77,7 +77,7 @@ struct Found {
     range: Option<usize>,
 }
 
-/// A bracket list, from its `[` to behind its `]`.
+/// A bracket list, from its `[` to after its `]`.
 #[derive(Clone, Copy)]
 struct List {
     start: usize,
@@ -103,7 +103,7 @@ fn found_in(alloc: Global, text: &[u8], locations: &[Location]) -> Result<Found,
     Ok(found)
 }
 
-/// Where the first backslash is in a list of the expression that GNU sed takes for one byte with the letter behind it.
+/// Where the first backslash is in a list of the expression that GNU sed takes for one byte with the letter after it.
 fn escape_in(expression: Expression) -> Option<usize> {
     let mut reading = Reading::of_expression(expression.delimiter);
     let mut is_escaped = false;

@@ -154,7 +154,7 @@ fn is_repeatable(spot: Spot) -> bool {
         && (!inside.ends_with(b"*") || ends_escaped(inside, b'*'))
 }
 
-/// Whether another sign of repetition is behind that at the fault.
+/// Whether another sign of repetition is after that at the fault.
 fn is_repeated(spot: Spot) -> bool {
     begins_with_one(skipped(spot.rest, 2), REPETITIONS)
 }

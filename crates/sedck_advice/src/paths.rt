@@ -28,7 +28,7 @@ impl<'a> Paths<'a> {
         Ok(Paths { files, sorted })
     }
 
-    /// Whether the last part of this name is that of the script's own path: from which folder sed will be called isn't known.
+    /// Whether the last part of this name is that of the script's own path: from which folder sed will be called is unknown.
     pub(crate) fn is_own(&self, name: &[u8]) -> bool {
         match self.files.own {
             Some(own) => last_part(own) == last_part(name),

@@ -132,7 +132,7 @@ fn bytes_due(byte: u8) -> u8
     }
 }
 
-/// How many are still due behind a byte, where so many are before it.
+/// How many are still due after a byte, where so many are before it.
 fn due_behind_byte(byte: u8, due: u8) -> u8
     ensures { result ≡ due_behind (Byte byte) due }
 {
@@ -143,7 +143,7 @@ fn due_behind_byte(byte: u8, due: u8) -> u8
     }
 }
 
-/// How many are still due behind an item.
+/// How many are still due after an item.
 fn due_behind(item: &Bre, due: u8) -> u8
     ensures { result ≡ due_behind (tree item.now) due }
 {

@@ -10,7 +10,7 @@ use sedck_parts::Reading;
 enum Ends {
     /// Before all of it alone.
     Start,
-    /// Behind all of it alone.
+    /// After all of it alone.
     End,
     Both,
     Other,
@@ -155,7 +155,7 @@ pub(crate) fn copies_in(spot: Spot) -> Copies {
     Copies::Nothing
 }
 
-/// Whether the fault is a start of a word right behind `^`, or an end right before `$`.
+/// Whether the fault is a start of a word right after `^`, or an end right before `$`.
 fn is_at_line_end(spot: Spot) -> bool {
     let end = byte_at(spot.rest, 1);
     let is_behind = spot.inside() == b"^".as_slice() && end != b'>';
