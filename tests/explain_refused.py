@@ -22,12 +22,13 @@ ANY_ADDRESS = "an address is a line number, `$`, or an expression between delimi
 ANY_FLAG = ("does the text have the delimiter? Then use another one, as in `s,a/b,c,`; the flags are `g`, `p`, a number, and `w` with a file "
             "name, each once")
 SKIPPED = ("for `0~3d` alone in a script write `n`, `n` and `d`; for `1~2d` write `$d`, `N` and `s/.*\\n//`; for `2~3d` put an `n` before these, "
-           "and for `1~3d` after them")
+           "and for `1~3d` after them; "
+           "in UTF-8 the `s` stops at a byte that is no character")
 STEPS = "for `0~3p` alone in a script write `n`, `n` and `p`; for `2~5p` write `n`, `p`, `n`, `n` and `n`; the command may not delete"
 GNU = "this extension of GNU sed has no equivalent in POSIX: do it outside the script"
 BYTE = "write the byte itself, but a newline as `\\n`, and the delimiter behind a backslash"
-WORD = ("match what is next to the word: for `/\\<WORD/p` write `/^WORD/b do`, `/[^[:alnum:]_]WORD/b do`, `b on`, `:do`, `p` and `:on` on lines of "
-        "their own; for `/WORD\\>/p` write `/WORD$/b do`, `/WORD[^[:alnum:]_]/b do`, `b on`, `:do`, `p` and `:on`; for both ends the four pairs of "
+WORD = ("match what is next to the word, in UTF-8 only where each byte is of a character: for `/\\<WORD/p` write `/^WORD/b do`, "
+        "`/[^[:alnum:]_]WORD/b do`, `b on`, `:do`, `p` and `:on` on lines of their own; for `/WORD\\>/p` write `/WORD$/b do`, `/WORD[^[:alnum:]_]/b do`, `b on`, `:do`, `p` and `:on`; for both ends the four pairs of "
         "these; each match of WORD must begin and end with a letter, a digit or `_`")
 GROUPS = ("no escape of POSIX means an end of a word: match the byte next to it as a group of its own, after which the groups of WORD have "
           "other numbers, and `&` has that byte too")
@@ -57,6 +58,9 @@ ANCHOR = "seds get this anchor wrong: its group is repeated, or the expression h
 OUTSIDE = ("an anchor holds in one place: move it out of the group, as in `^\\(a\\)`, if that is meant; "
            "a literal one is written `\\^` or `\\$`")
 
+SEVERAL = ("`^` and `$` match only at the ends of the pattern space: match `\\n` instead, and write `[^\\n]` for `.` and `[^x\\n]` for `[^x]`, "
+           "which match no newline with `M`; where that is one line leave `M` out")
+
 REFUSED = [
     (b"p\n" * 524288 + b"p", 524289, 1, "too-long", "the script is longer than 1,048,576 bytes", SPLIT),
     (b"p\n\tp\0p\n", 2, 3, "nul-byte", "a script can't contain a NUL byte", None),
@@ -64,15 +68,16 @@ REFUSED = [
     (b"p\nT end\n", 2, 1, "unknown-command", NO_VERB,
      "for `T end` write `t go`, `b end` and `:go` on lines of their own; for `/x/T end` put the first two into a block, `/x/{` and `}`"),
     (b"$!z\n", 1, 3, "unknown-command", NO_VERB, 
-     "for `z` write `g` if no command uses the hold space; else write `s/.*//`, which sets the flag that `t` tests, and in UTF-8 stops at a byte that "
-     "is no character"),
+     "for `z` write `g` if no command uses the hold space; else write `s/.*//`, which sets the flag that `t` tests, is what `//` means behind "
+     "it, and in UTF-8 stops at a byte that is no character"),
     (b"/x/Q", 1, 4, "unknown-command", NO_VERB, "for `/x/Q` alone in a script write `/x/,$d`"),
     (b"1e", 1, 2, "unknown-command", NO_VERB, "POSIX sed can't run other programs: do it outside the script"),
     (b"F\n", 1, 1, "unknown-command", NO_VERB, GNU),
     (b"p;R x\n", 1, 3, "unknown-command", NO_VERB, GNU),
     (b"p;v\n", 1, 3, "unknown-command", NO_VERB, "`v` requires a version of GNU sed: leave it out"),
     (b"W x\n", 1, 1, "unknown-command", NO_VERB,
-     "for `W out` write `h`, `s/\\n.*//`, `w out` and `g`, if nothing needs the hold space; the `s` sets the flag that `t` tests"),
+     "for `W out` write `h`, `s/\\n.*//`, `w out` and `g`, if nothing needs the hold space; the `s` sets the flag that `t` tests, "
+     "is what `//` means behind it, and in UTF-8 stops at a byte that is no character"),
     (b":b\nT\nb b\n", 2, 1, "unknown-command", NO_VERB, "for `T end`, `b again` and `:end` write `t again`"),
     (b"p\n Q", 2, 2, "unknown-command", NO_VERB,
      "for `/x/Q` alone in a script write `/x/,$d`; for `Q` without an address, as in a block, write `:end`, `$d`, `N`, `s/.*\\n//` and `b end` on lines of their own, "
@@ -81,7 +86,7 @@ REFUSED = [
      "for `/x/Q` alone in a script write `/x/,$d`; for `Q` without an address, as in a block, write `:end`, `$d`, `N`, `s/.*\\n//` and `b end` on lines of their own, "
      "which print what `a` or `r` adds before; the status is then 0, since no command of POSIX gives another one"),
     (b"/x/M!p\n", 1, 4, "unknown-command", NO_VERB,
-     "`^` and `$` match only at the ends of the pattern space: match `\\n` instead; where that is one line leave `M` out"),
+     SEVERAL),
     (b"k\n", 1, 1, "unknown-command", NO_VERB, None),
     (b"-n p\n", 1, 1, "unknown-command", NO_VERB, "an option of sed is no part of a script: give it to sed itself"),
     (b"p;1", 1, 4, "unknown-command", NO_VERB, "a command is missing after the address"),
@@ -92,8 +97,11 @@ REFUSED = [
     (b"1p;5,~4p\n", 1, 6, "bad-address", NO_ADDRESS, "for `5,~4` write `5,8`"),
     (b"/a/,2~4p\n", 1, 6, "unknown-command", NO_VERB, None),
     (b"0~4,5p\n", 1, 1, "bad-address", NO_ADDRESS, None),
+    (b"2,0~4p\n", 1, 3, "bad-address", NO_ADDRESS, None),
+    (b"2, 1~4p\n", 1, 5, "unknown-command", NO_VERB, None),
     (b"p;10~11!d\n", 1, 5, "unknown-command", NO_VERB,
-     "for `0~3!d` alone in a script write `$d`, `N`, `$d`, `N` and `s/.*\\n//`; for `1~3!d` write `n`, `$!N` and `d`"),
+     "for `0~3!d` alone in a script write `$d`, `N`, `$d`, `N` and `s/.*\\n//`; for `1~3!d` write `n`, `$!N` and `d`; "
+     "in UTF-8 the `s` stops at a byte that is no character"),
     (b"12~11!d\n", 1, 3, "unknown-command", NO_VERB, None),
     (b"p\n0~3d\n", 2, 1, "bad-address", NO_ADDRESS, SKIPPED),
     (b"0,/x/s/x/y/\n", 1, 1, "bad-address", NO_ADDRESS,
@@ -110,12 +118,13 @@ REFUSED = [
     (b"s/a/\\0/\n", 1, 5, "bad-replacement", NO_PART, "for `\\0` write `&`"),
     (b"s/a/x\\U&/\n", 1, 6, "bad-replacement", NO_PART, LETTERS),
     (b"s/a/\\l&/\n", 1, 5, "bad-replacement", NO_PART, LETTERS),
-    (b"s/a/\\x41/\n", 1, 5, "bad-replacement", NO_PART, "write the byte itself, `&` as `\\&` and a backslash as `\\\\`"),
+    (b"s/a/\\x41/\n", 1, 5, "bad-replacement", NO_PART, "write the byte itself, but a newline as `\\n`, `&` as `\\&`, a backslash as `\\\\`, "
+     "and the delimiter behind a backslash"),
     (b"s/a/\\q/\n", 1, 5, "bad-replacement", NO_PART, "write the character without the backslash"),
-    (b"s/a/b/I\n", 1, 7, "bad-flag", NO_FLAG, "for `s/hello/x/I` write `s/[hH][eE][lL][lL][oO]/x/`"),
+    (b"s/a/b/I\n", 1, 7, "bad-flag", NO_FLAG, "for `s/hello/x/I` write `s/[hH][eE][lL][lL][oO]/x/`, if the expression has no reference"),
     (b"s/a/b/e\n", 1, 7, "bad-flag", NO_FLAG, "POSIX sed can't run other programs: do it outside the script"),
     (b"s/a/b/gM\n", 1, 8, "bad-flag", NO_FLAG,
-     "`^` and `$` match only at the ends of the pattern space: match `\\n` instead; where that is one line leave `M` out"),
+     SEVERAL),
     (b"s/a/b/'\n", 1, 7, "bad-flag", NO_FLAG, "quotes belong to the shell: leave them out of the script"),
     (b"s/a/b/0\n", 1, 7, "bad-flag", NO_FLAG, "matches are counted from 1"),
     (b"s/a/b/4294967296\n", 1, 7, "bad-flag", NO_FLAG, "give only one number among the flags, of at most 4,294,967,295"),
