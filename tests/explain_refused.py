@@ -26,7 +26,7 @@ SKIPPED = ("for `0~3d` alone in a script write `n`, `n` and `d`; for `1~2d` writ
            "in UTF-8 the `s` stops at a byte that is no character")
 STEPS = "for `0~3p` alone in a script write `n`, `n` and `p`; for `2~5p` write `n`, `p`, `n`, `n` and `n`; the command may not delete"
 GNU = "this extension of GNU sed has no equivalent in POSIX: do it outside the script"
-BYTE = "write the byte itself, but a newline as `\\n`, and the delimiter behind a backslash"
+BYTE = "write the byte itself, but a newline as `\\n`, and the delimiter after a backslash"
 WORD = ("match what is next to the word, in UTF-8 only where each byte is of a character: for `/\\<WORD/p` write `/^WORD/b do`, "
         "`/[^[:alnum:]_]WORD/b do`, `b on`, `:do`, `p` and `:on` on lines of their own; for `/WORD\\>/p` write `/WORD$/b do`, `/WORD[^[:alnum:]_]/b do`, `b on`, `:do`, `p` and `:on`; for both ends the four pairs of "
         "these; each match of WORD must begin and end with a letter, a digit or `_`")
@@ -68,7 +68,7 @@ REFUSED = [
     (b"p\nT end\n", 2, 1, "unknown-command", NO_VERB,
      "for `T end` write `t go`, `b end` and `:go` on lines of their own; for `/x/T end` put the first two into a block, `/x/{` and `}`"),
     (b"$!z\n", 1, 3, "unknown-command", NO_VERB, 
-     "for `z` write `g` if no command uses the hold space; else write `s/.*//`, which sets the flag that `t` tests, is what `//` means behind "
+     "for `z` write `g` if no command uses the hold space; else write `s/.*//`, which sets the flag that `t` tests, is what `//` means after "
      "it, and in UTF-8 stops at a byte that is no character"),
     (b"/x/Q", 1, 4, "unknown-command", NO_VERB, "for `/x/Q` alone in a script write `/x/,$d`"),
     (b"1e", 1, 2, "unknown-command", NO_VERB, "POSIX sed can't run other programs: do it outside the script"),
@@ -77,7 +77,7 @@ REFUSED = [
     (b"p;v\n", 1, 3, "unknown-command", NO_VERB, "`v` requires a version of GNU sed: leave it out"),
     (b"W x\n", 1, 1, "unknown-command", NO_VERB,
      "for `W out` write `h`, `s/\\n.*//`, `w out` and `g`, if nothing needs the hold space; the `s` sets the flag that `t` tests, "
-     "is what `//` means behind it, and in UTF-8 stops at a byte that is no character"),
+     "is what `//` means after it, and in UTF-8 stops at a byte that is no character"),
     (b":b\nT\nb b\n", 2, 1, "unknown-command", NO_VERB, "for `T end`, `b again` and `:end` write `t again`"),
     (b"p\n Q", 2, 2, "unknown-command", NO_VERB,
      "for `/x/Q` alone in a script write `/x/,$d`; for `Q` without an address, as in a block, write `:end`, `$d`, `N`, `s/.*\\n//` and `b end` on lines of their own, "
@@ -119,7 +119,7 @@ REFUSED = [
     (b"s/a/x\\U&/\n", 1, 6, "bad-replacement", NO_PART, LETTERS),
     (b"s/a/\\l&/\n", 1, 5, "bad-replacement", NO_PART, LETTERS),
     (b"s/a/\\x41/\n", 1, 5, "bad-replacement", NO_PART, "write the byte itself, but a newline as `\\n`, `&` as `\\&`, a backslash as `\\\\`, "
-     "and the delimiter behind a backslash"),
+     "and the delimiter after a backslash"),
     (b"s/a/\\q/\n", 1, 5, "bad-replacement", NO_PART, "write the character without the backslash"),
     (b"s/a/b/I\n", 1, 7, "bad-flag", NO_FLAG, "for `s/hello/x/I` write `s/[hH][eE][lL][lL][oO]/x/`, if the expression has no reference"),
     (b"s/a/b/e\n", 1, 7, "bad-flag", NO_FLAG, "POSIX sed can't run other programs: do it outside the script"),
@@ -169,7 +169,7 @@ REFUSED = [
     (b"s//x/\n", 1, 3, "no-previous-expression", "an empty expression repeats the one used last, and the script has none", "write the expression"),
     (b"s|a\\|b|c|\n", 1, 4, "escaped-delimiter", "this delimiter can't be escaped: seds differ on what it then means",
      "use a delimiter that isn't in the expression"),
-    # expressions; the places behind escaped delimiters count these as the two bytes that they are in the script
+    # expressions; the places after escaped delimiters count these as the two bytes that they are in the script
     (b"p\n\ts/a\\+/b/\n", 2, 5, "bad-escape", NO_ESCAPE, "for `x\\+` write `x\\{1,\\}` or `xx*`"),
     (b"s/a\\/b\\/c\\+d/x/\n", 1, 10, "bad-escape", NO_ESCAPE, "for `x\\+` write `x\\{1,\\}` or `xx*`"),
     (b"s/a\\\\\\/b\\?/x/\n", 1, 9, "bad-escape", NO_ESCAPE, "for `x\\?` write `x\\{0,1\\}`; if the character `?` is meant write `?`"),

@@ -53,7 +53,7 @@ REPLACED = [
     Row("capitals", "s/.*/\\U&/\n", "`y/abc../ABC../`", "y/abcdefghijklmnopqrstuvwxyz/ABCDEFGHIJKLMNOPQRSTUVWXYZ/\n",
         ("one Two\n", "\n", "x1\n")),
     Row("named byte in a replacement", "s/,/\\x26/\n", "`&` as `\\&`", "s/,/\\&/\n", ("a,b\n", "x\n", ",,\n"), wrong=("s/,/&/\n", "s/,/x26/\n")),
-    Row("named delimiter in a replacement", "s/a/\\x2fw/\n", "the delimiter behind a backslash", "s/a/\\/w/\n", ("ab\n", "b\n", "aa\n"), wrong=("s/a/\\/\\/w/\n",)),
+    Row("named delimiter in a replacement", "s/a/\\x2fw/\n", "the delimiter after a backslash", "s/a/\\/w/\n", ("ab\n", "b\n", "aa\n"), wrong=("s/a/\\/\\/w/\n",)),
     Row("letter in a replacement", "s/a/\\q/\n", "without the backslash", "s/a/q/\n", ("a\n", "b\n", "aa\n")),
     Row("delimiter in a list", "s/[/]/x/g\n", "use another one, as in `s,[/],x,`", "s,[/],x,g\n",
         ("a/b\n", "a\\b/c\n", "\\/\\/\n"), wrong=("s/[\\/]/x/g\n",)),
