@@ -117,7 +117,7 @@ fn reading_hint(script: &Script, walk: &Walk) -> &'static str {
 fn restart_hint(script: &Script, walk: &Walk) -> &'static str {
     if has_verb(script, walk, VerbForm::Padding) {
         return "`D` starts again without reading a line: if the `s` splits a line, let it put in all newlines at once: for `s/X/&\\n/`, `P` and `D`, where X \
-            begins with no `^`, write `s/X/&\\n/g`, and then `s/\\n$//` if the end of a line isn't to be split";
+            begins with no `^`, write `s/X/&\\n/g`, then `s/\\n$//` if the end of a line isn't to be split, and with `-n` a `p`";
     }
     if has_verb(script, walk, VerbForm::Substituting) {
         return "`D` starts again without reading a line: if the `s` splits a line, let it put in all newlines at once, as docs/MENDING.md folds \
