@@ -614,6 +614,7 @@ UNREAD = [
     ("a.sh", "su - u <<E\nsed p f\nE\nsudo -s <<E\nsed p f\nE\nssh h bash -s <<E\nsed p f\nE\nchroot /m <<E\nsed p f\nE\n\"$x\" <<E\nsed p f\nE\nssh h <<< 'sed p f'\n",
      ["2:1", "5:1", "8:1", "11:1", "14:1", "16:12"]),
     ("a.sh", "cat <<E\nsed p f\nE\nsudo tee f <<E\nsed p f\nE\n\"$x\" <<E\nuse sed to edit\nE\nssh h <<E\nuptime\nE\n", []),
+    ("t.m4", "x:\n\t@sed -n p f > g\n", []),
     ("a.bash", "((sed + 1))\n: &> g sed p f\n[[ a || $x = sed ]]\n", []),
     ("a.sh", "cat <<EOF\nE\\\nOF\nsed p f\nEOF\ncat <<'EOF'\nE\\\nOF\nEOF\n", ["1:7"]),
     # Between backquotes dash and bash join lines also in single quotes, in comments and in here-documents.
