@@ -746,9 +746,9 @@ def judged_by_the_shell():
             for literal in LITERAL.finditer(text):
                 line = text[text.rfind(b"\n", 0, literal.start()) + 1:literal.start()]
                 is_descriptor = re.search(rb"[ \t][0-9]+$", literal[0]) and text[literal.end():literal.end() + 1] in (b"<", b">")
-                # Behind `>!` of zsh, which is a file `!` to other shells, words go on.
-                is_of_zsh = text[literal.end():].lstrip(b" \t").startswith(b">!")
-                if not BEFORE.search(line) or b"#" in line or b"'" in line or b'"' in line or is_descriptor or is_of_zsh:
+                # Words go on behind `>!` of zsh, which is a file `!` to other shells, and from `<(..)` of bash, which is a word.
+                goes_on = text[literal.end():].lstrip(b" \t").startswith((b">!", b"<(", b">("))
+                if not BEFORE.search(line) or b"#" in line or b"'" in line or b'"' in line or is_descriptor or goes_on:
                     continue
                 if literal.start() not in calls:
                     others += 1
