@@ -615,6 +615,7 @@ UNREAD = [
     ("a.sh", "su - u <<E\nsed p f\nE\nsudo -s <<E\nsed p f\nE\nssh h bash -s <<E\nsed p f\nE\nchroot /m <<E\nsed p f\nE\n\"$x\" <<E\nsed p f\nE\nssh h <<< 'sed p f'\n",
      ["2:1", "5:1", "8:1", "11:1", "14:1", "16:12"]),
     ("a.sh", "cat <<E\nsed p f\nE\nsudo tee f <<E\nsed p f\nE\n\"$x\" <<E\nuse sed to edit\nE\nssh h <<E\nuptime\nE\n", []),
+    ("t.m4", "x:\n\t@sed -n p f > g\n", []),
     ("a.bash", "((sed + 1))\n: &> g sed p f\n[[ a || $x = sed ]]\n", []),
     ("a.sh", "cat <<EOF\nE\\\nOF\nsed p f\nEOF\ncat <<'EOF'\nE\\\nOF\nEOF\n", ["1:7"]),
     # Between backquotes dash and bash join lines also in single quotes, in comments and in here-documents.
@@ -746,9 +747,9 @@ def judged_by_the_shell():
             for literal in LITERAL.finditer(text):
                 line = text[text.rfind(b"\n", 0, literal.start()) + 1:literal.start()]
                 is_descriptor = re.search(rb"[ \t][0-9]+$", literal[0]) and text[literal.end():literal.end() + 1] in (b"<", b">")
-                # Behind `>!` of zsh, which is a file `!` to other shells, words go on.
-                is_of_zsh = text[literal.end():].lstrip(b" \t").startswith(b">!")
-                if not BEFORE.search(line) or b"#" in line or b"'" in line or b'"' in line or is_descriptor or is_of_zsh:
+                # Words go on behind `>!` of zsh, which is a file `!` to other shells, and from `<(..)` of bash, which is a word.
+                goes_on = text[literal.end():].lstrip(b" \t").startswith((b">!", b"<(", b">("))
+                if not BEFORE.search(line) or b"#" in line or b"'" in line or b'"' in line or is_descriptor or goes_on:
                     continue
                 if literal.start() not in calls:
                     others += 1
