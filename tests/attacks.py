@@ -288,7 +288,20 @@ MACROS = [Row("a macro of M4 that is defined by " + how, before + call, "sh made
     ("define", "define(abc, w evil)\n", "sed -n 'abc' f\n", "sed -n 'w evil' f\n"),
     ("M4 itself", "", "sed -n \"ifelse(a,a,w evil)\" f\n", "sed -n \"w evil\" f\n"),
     ("m4_define, as the sed", "m4_define([sed],[sed -n -f es; :])\n", "sed p f\n", "sed -n -f es f; : p f\n"),
+    ("M4 itself, as lines that are joined", "", "sed -n p f dnl x\n-e 'w evil'\n", "sed -n p f -e 'w evil'\n"),
     ("AC_DEFUN, as an operand", "AC_DEFUN([MY_FILES],[-e 'w evil' f])\n", "sed p MY_FILES\n", "sed p -e 'w evil' f\n"),
+]]
+
+# Macros of spec files, of which rpm 4.18 makes other text.
+SPECS = [Row("a spec file: " + name, text, "sh made.sh", harm, "a.spec", {"made.sh": made, **files}, **more) for name, harm, text, made, files, more in [
+    ("an option", LOOPS, "%build\nsed ':a;s/%-x[a]*//;ta' f\n", "sed ':a;s/[a]*//;ta' f\n", {}, {"values": ("",)}),
+    ("a sign before a short name", LOOPS, "%build\nsed ':a;s/%?x[a]*//;ta' f\n", "sed ':a;s/[a]*//;ta' f\n", {}, {"values": ("",)}),
+    ("a short name", LOOPS, "%global ab a*\n%build\nsed ':a;s/%ab//;ta' f\n", "sed ':a;s/a*//;ta' f\n", {}, {"due": FOUND, "is_told": True}),
+    ("a comment behind words", WRITES, "%build\nsed -n p f %dnl x\n-e 'w evil'\n", "sed -n p f -e 'w evil'\n", {}, {"due": FOUND, "is_told": True}),
+    ("a definition behind words", WRITES, "%build\nsed -n p f %global x y\n-e 'w evil'\n", "sed -n p f -e 'w evil'\n", {}, {"due": FOUND, "is_told": True}),
+    ("a section in a branch that isn't taken", WRITES, "%build\n%if 0\n%files\n%endif\nsed -n 'w evil' f\n", "sed -n 'w evil' f\n", {}, {"due": FOUND, "is_told": True}),
+    ("a section in large letters", WRITES, "%Build\nsed -n 'w evil' f\n", "sed -n 'w evil' f\n", {}, {"due": FOUND, "place": "2:1"}),
+    ("a bracket behind a backslash", WRITES, "%build\nsed -n 's/a/b%{?x:\\}/#}/;w evil\n' f\n", "sed -n 's/a/b/;w evil\n' f\n", {}, {}),
 ]]
 
 # ---- Values that the file seems to set: each run has another one than `p`
@@ -589,7 +602,7 @@ OUTPUTS = [Row("an output behind an operand", LIMITED + "sed p big >> big\n", "s
         "case a in a) sed 's/a/b/' f;; esac > f", "run() { sed 's/a/b/' f; } > f\nrun", "{ sed p; } < f > f", "{ sed p f | cat; } > f", "{ x=$(sed p f); } > f",
         "{ x=`sed p f`; } > f", "{ : <<E; } > f\n$(sed p f)\nE", "for x in $(sed p f); do :; done > f", "{ { sed p f; } 2> g; } > f"]]
 
-ROWS = (CONDITIONS + OTHER_WORDS + OTHER_READINGS + OTHER_PROGRAMS + BEFORE + MACROS + VALUES + VALUES_OF_MAKE + RECALL + TEXTS + NEVER + PROSE + INNOCENT
+ROWS = (CONDITIONS + OTHER_WORDS + OTHER_READINGS + OTHER_PROGRAMS + BEFORE + MACROS + SPECS + VALUES + VALUES_OF_MAKE + RECALL + TEXTS + NEVER + PROSE + INNOCENT
         + OUTPUTS)
 
 

@@ -2,7 +2,7 @@
 
 use crate::host::Host;
 use crate::make_text::reference_end;
-use crate::parts::{Brackets, Part, QUOTES, is, named};
+use crate::parts::{Brackets, Part, QUOTES, is, is_word_of, named};
 use sedck_origin::{Result, Unit};
 use std::alloc::Global;
 
@@ -62,6 +62,8 @@ struct Spec {
     is_definition: bool,
     /// Whether the next one is left out with it.
     is_continued: bool,
+    /// Whether a directive in the section may leave out the line that begins it.
+    is_branched: bool,
     open: Option<Open>,
 }
 
@@ -75,6 +77,7 @@ pub(crate) fn host_of_spec(alloc: Global, file: &[u8]) -> Result<Host> {
         is_left_out: false,
         is_definition: false,
         is_continued: false,
+        is_branched: false,
         open: None,
     };
     let mut rest = Part::whole(file);
@@ -94,7 +97,10 @@ impl Spec {
     fn read_line(&mut self, line: Part) -> Result<()> {
         let (directive, _) = line.after_blanks().split_word();
         let (word, rest) = line.split_word();
-        match (named(WORDS, directive), named(WORDS, word)) {
+        // The letters of a section's name may be large.
+        let letters = word.iter().map(|byte| byte.to_ascii_lowercase());
+        let section: Vec<u8> = letters.collect(self.alloc)?;
+        match (named(WORDS, directive), named(WORDS, &section)) {
             (Some(Sort::Branch), _) => self.read_branch(line),
             (Some(sort @ (Sort::Directive | Sort::Definition)), _) => {
                 self.is_definition = matches!(sort, Sort::Definition);
@@ -114,12 +120,16 @@ impl Spec {
             line.push_newline(&mut self.units)?;
         }
         self.is_definition = false;
+        self.is_branched = true;
         self.read_text(line, true)
     }
 
     /// Reads a line of a section.
     fn read_text(&mut self, line: Part, is_left_out: bool) -> Result<()> {
         self.is_left_out = is_left_out;
+        if self.is_branched && self.is_shell == Some(false) && !is_left_out {
+            self.host.note(line.mention_of_sed())?;
+        }
         let mut rest = line;
         for _ in 0..line.len() {
             let Some(byte) = rest.first() else { break };
@@ -140,6 +150,7 @@ impl Spec {
             self.note_macro(line.between(open.start, line.start))?;
         }
         self.is_continued = false;
+        self.is_branched = false;
         self.open = None;
         self.is_shell = Some(is_shell);
         Ok(())
@@ -174,9 +185,14 @@ impl Spec {
     /// Reads the byte that begins this part of a line, and answers what isn't read yet.
     fn read<'a>(&mut self, rest: Part<'a>, byte: u8) -> Result<Part<'a>> {
         if let Some(open) = self.open {
+            // A backslash keeps a bracket behind it from being counted.
+            if byte == b'\\' {
+                return Ok(rest.skip(2));
+            }
             self.read_in_macro(open, rest, byte)?;
             return Ok(rest.skip(1));
         }
+        self.note_definition(rest)?;
         // What is in the text of a macro isn't read.
         if self.is_in_definition() && rest.is_call(QUOTES) {
             self.host.unread.push(rest.start)?;
@@ -189,6 +205,23 @@ impl Spec {
         let unit = spec_unit(rest, byte);
         self.add(unit)?;
         Ok(rest.from(unit.end()))
+    }
+
+    /// Tells of a definition or a comment behind other words of shell text, which is left out with its newline, and of a macro that is given a
+    /// shorter name than is looked for.
+    fn note_definition(&mut self, rest: Part) -> Result<()> {
+        if !rest.begins_with(b'%') {
+            return Ok(());
+        }
+        let (word, name) = rest.split_word();
+        let (is_defined, is_comment) = (is_word_of(word, "%define %global"), is(word, "%dnl"));
+        let length = name.before(name.after_name()).len();
+        let is_short = is_defined && length < 3;
+        let is_lost = self.is_text() && (is_defined || is_comment);
+        if is_short || is_lost {
+            self.host.unread.push(rest.start)?;
+        }
+        Ok(())
     }
 
     /// Reads a byte of a macro with brackets, which may close it. What is in `%(..)` is read by the shell when it is replaced.
@@ -239,13 +272,21 @@ fn spec_unit(part: Part, byte: u8) -> Unit {
     if next.first() == Some(b'%') {
         return Unit::Byte(b'%', next.start);
     }
-    let name = next.after_any("?!");
+    let option = next.after_any("?!");
+    let is_option = option.begins_with(b'-');
+    let name = option.skip(usize::from(is_option));
     let behind = name.after_name();
-    // A name begins with no digit and has three letters at least.
-    if name.first().is_some_and(|first| first.is_ascii_digit()) || name.before(behind).len() < 3 {
+    let is_numbered = name.first().is_some_and(|first| first.is_ascii_digit());
+    // A sign and an option are replaced by themselves. Else a name begins with no digit and has three letters at least.
+    if name.start == next.start && (is_numbered || name.before(behind).len() < 3) {
         return Unit::Byte(b'%', part.start);
     }
-    Unit::made(part.start, behind.start)
+    let end = if is_option {
+        behind.after_any("*")
+    } else {
+        behind
+    };
+    Unit::made(part.start, end.start)
 }
 
 /// Whether a section with these options is run by a shell: with no option `-p`, or one with a shell's path.
