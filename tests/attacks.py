@@ -300,6 +300,7 @@ MACROS = [Row("a macro of M4 that is defined by " + how, before + call, "sh made
     ("define", "define(abc, w evil)\n", "sed -n 'abc' f\n", "sed -n 'w evil' f\n"),
     ("M4 itself", "", "sed -n \"ifelse(a,a,w evil)\" f\n", "sed -n \"w evil\" f\n"),
     ("m4_define, as the sed", "m4_define([sed],[sed -n -f es; :])\n", "sed p f\n", "sed -n -f es f; : p f\n"),
+    ("M4 itself, between the quotes of a shell", "AC_DEFUN([X],[sed -n '$1' f])\n", "X([w evil])\n", "sed -n 'w evil' f\n"),
     ("M4 itself, as lines that are joined", "", "sed -n p f dnl x\n-e 'w evil'\n", "sed -n p f -e 'w evil'\n"),
     ("AC_DEFUN, as an operand", "AC_DEFUN([MY_FILES],[-e 'w evil' f])\n", "sed p MY_FILES\n", "sed p -e 'w evil' f\n"),
 ]]
