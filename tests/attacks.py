@@ -214,6 +214,9 @@ OTHER_WORDS = [
     Row("a pattern that vanishes", "shopt -s nullglob\nsed s/a*/b/ 'w evil' f\n", "bash a.sh", WRITES, due={"unknown"}),
     Row("a pattern that vanishes in a makefile", "SHELL = bash -O nullglob\nall:\n\t@sed s/a*/b/ 'w evil' f\n", "make", WRITES, "Makefile", due={"unknown"}),
     Row("a pattern that vanishes by the environment", "sed s/a*/b/ 'w evil' f\n", "BASHOPTS=nullglob bash a.sh", WRITES),
+    Row("a number in braces before a redirection", "#!/bin/bash\nsed {9}>g p f\n", "bash a.sh", REFUSED),
+    Row("a control character of ksh", "#!/bin/ksh\nsed -n $'s/a/\\C/#/;w evil\\n' f\n", "ksh a.sh", WRITES),
+    Row("a brace that ends a command of zsh", "#!/bin/zsh\n{ sed -n 'w evil' f }\n", "zsh a.sh", WRITES, due=FOUND, place="2:3", words=("-n", "w evil", "f")),
     Row("an alias with another language", "alias sed='sed -E'\nsed ':a;s/ab?/a/;ta' f\n", "sh a.sh", LOOPS),
 ]
 
@@ -235,7 +238,16 @@ OTHER_READINGS = [Row("read otherwise: " + name, text, run, harm, files=files, d
     ("<# of ksh", "ksh a.sh", WRITES, "#!/bin/ksh\nsed p < f <#((1)) -e 'w evil' f\n", {}),
     ("a pattern of zsh that vanishes", "zsh a.sh", WRITES, "#!/bin/zsh\nsed p(N) 'w evil' f\n", {}),
     ("a pattern of zsh that runs a text", "zsh a.sh", WRITES, "#!/bin/zsh\nsed p f(e:'sed wevil f':)\n", {}),
-]] + [Row("a pattern of zsh that vanishes in a makefile", "SHELL = zsh\nall:\n\t@sed p(N) 'w evil' f\n", "make", WRITES, "Makefile", due=FOUND, is_told=True)
+    ("a pattern of zsh that runs a text behind a sign", "zsh a.sh", WRITES, "#!/bin/zsh\nsed p *(e:'sed wevil f':)\n", {}),
+    ("two digits before a redirection in ksh", "ksh a.sh", WRITES, "#!/bin/ksh\nsed -e p -l 12>g -e 'w evil' f\n", {}),
+    ("two digits before a redirection in mksh", "mksh a.sh", WRITES, "#!/bin/mksh\nsed -e p -l 12>g -e 'w evil' f\n", {}),
+    ("two digits before a redirection in zsh", "zsh a.sh", WRITES, "#!/bin/zsh\nsed -e p -l 12>g -e 'w evil' f\n", {}),
+    ("a name before a redirection in mksh", "mksh a.sh", REFUSED, "#!/bin/mksh\nsed {foo}>g p f\n", {}),
+    ("a subscript of zsh", "zsh a.sh", LOOPS, '#!/bin/zsh\nx=ab\nsed ":a;s/^$x[9]//;ta" f\n', {}),
+    ("a modifier of zsh", "zsh a.sh", LOOPS, '#!/bin/zsh\nx=a\nsed ":a;s,^$x:t*,a,;ta" f\n', {}),
+    ("whether a name is set in zsh", "zsh a.sh", LOOPS, '#!/bin/zsh\nx=a\nsed ":a;s/$+x/1/;ta" f\n', {"f": "1\n"}),
+]] + [Row("read otherwise: a name behind %s in zsh" % sign, '#!/bin/zsh\nsed "s/$%sx/b/" f\n' % sign, LOOP_VALUE + "zsh a.sh", LOOPS, due=FOUND, is_told=True)
+      for sign in "=~^"] + [Row("a pattern of zsh that vanishes in a makefile", "SHELL = zsh\nall:\n\t@sed p(N) 'w evil' f\n", "make", WRITES, "Makefile", due=FOUND, is_told=True)
 ] + [Row("read otherwise: " + name, "#!/bin/zsh\n" + text, "zsh a.sh", harm, files=files) for name, harm, text, files in [
     ("a here-document behind a pipe", WRITES, "cat es | sed -n -f - f <<'E'\np\nE\n", {}),
     ("a here-document behind a file", WRITES, "sed -n -f - f < es <<'E'\np\nE\n", {}),
@@ -288,6 +300,7 @@ MACROS = [Row("a macro of M4 that is defined by " + how, before + call, "sh made
     ("define", "define(abc, w evil)\n", "sed -n 'abc' f\n", "sed -n 'w evil' f\n"),
     ("M4 itself", "", "sed -n \"ifelse(a,a,w evil)\" f\n", "sed -n \"w evil\" f\n"),
     ("m4_define, as the sed", "m4_define([sed],[sed -n -f es; :])\n", "sed p f\n", "sed -n -f es f; : p f\n"),
+    ("M4 itself, between the quotes of a shell", "AC_DEFUN([X],[sed -n '$1' f])\n", "X([w evil])\n", "sed -n 'w evil' f\n"),
     ("M4 itself, as lines that are joined", "", "sed -n p f dnl x\n-e 'w evil'\n", "sed -n p f -e 'w evil'\n"),
     ("AC_DEFUN, as an operand", "AC_DEFUN([MY_FILES],[-e 'w evil' f])\n", "sed p MY_FILES\n", "sed p -e 'w evil' f\n"),
 ]]
@@ -505,6 +518,10 @@ TEXTS = [Row("told: " + name, text, run, WRITES, file, files, due=FOUND) for nam
     ("braces behind [[", "a.sh", "zsh a.sh", "#!/bin/zsh\nif [[ -n x ]] { sed wevil f }\n", {}),
     ("noglob", "a.sh", "zsh a.sh", "#!/bin/zsh\nnoglob sed wevil f\n", {}),
     ("a hyphen", "a.sh", "zsh a.sh", "#!/bin/zsh\n- sed wevil f\n", {}),
+    ("always behind a call", "a.sh", "zsh a.sh", "#!/bin/zsh\n{ sed -n p f } always { sed wevil f }\n", {}),
+    ("=sed", "a.sh", "zsh a.sh", "#!/bin/zsh\n=sed wevil f\n", {}),
+    ("${=x}", "a.sh", "zsh a.sh", "#!/bin/zsh\nx='sed -n'\n${=x} wevil f\n", {}),
+    ("$=x", "a.sh", "zsh a.sh", "#!/bin/zsh\nx='sed -n'\n$=x wevil f\n", {}),
     ("always", "a.sh", "zsh a.sh", "#!/bin/zsh\n{ : } always { sed wevil f }\n", {}),
     ("${ }", "a.sh", "ksh a.sh", "#!/bin/ksh\necho ${ sed wevil f; }\n", {}),
     # Files that a sed runs.
@@ -524,7 +541,7 @@ TEXTS = [Row("told: " + name, text, run, WRITES, file, files, due=FOUND) for nam
     "steps:\n  - &a run: |\n     sed wevil f\n",
     "steps:\n  - run: !!str sed wevil f\n",
 ]] + [Row("told: %s" % text, text + "\n", due=FOUND) for text in [
-    "watch sed 5d f", "docker exec c sed :x", "ssh h sed p", "ssh h 'cat f | sed 5d'", "git filter-branch --tree-filter \"sed -i ':x;bx' f\"", "git rebase --exec='sed -i p f' x",
+    "sed -i p f 12> g", "watch sed 5d f", "docker exec c sed :x", "ssh h sed p", "ssh h 'cat f | sed 5d'", "git filter-branch --tree-filter \"sed -i ':x;bx' f\"", "git rebase --exec='sed -i p f' x",
     "EDITOR=\"sed -i ':x;bx'\" crontab -e", "export EDITOR=\"sed -i ':x;bx'\"", "env GIT_EDITOR='sed -i p' git commit", "foo \"$SED\" p f", "foo '/bin/sed -i p f'", "runuser -u root -- sed p f",
     "unshare --user sed -nfes sed p f", "foo sed p f", "sudo foo sed p f", "time foo sed p f", "foo | bar sed p f", "eval $x sed p f", "sh -c 'foo sed p f'",
 ]] + [Row("told: a file of sed that is given", "w evil\n", file="a.sed", due=FOUND),

@@ -17,7 +17,9 @@ use crate::texts::{Held, Texts};
 use crate::units::{hole_of, lone_hole, rest};
 use crate::values::{MOST, Value, has_placeholder, line_starts};
 use crate::words::{CallWord, Filler, quoted};
-use sedck_hosts::{Assignment, Kind, host_of, is_run_by_sed, kind_of, reads_dollar_quotes};
+use sedck_hosts::{
+    Assignment, Kind, host_of, is_bash, is_dollar_quoting, is_run_by_sed, is_zsh, kind_of, shell_of,
+};
 use sedck_origin::{Hole, Result, Text, Unit, Way, begins_with, has_hole};
 use sedck_shell::{Dialect, Form};
 use std::alloc::Global;
@@ -31,13 +33,17 @@ const SPARE: usize = 65_536;
 
 /// How a file of this kind, with this path and these bytes, is read.
 fn form_of(kind: Kind, path: &str, file: &[u8]) -> Form {
+    let is_script = kind == Kind::Shell;
+    let shell = if is_script { shell_of(path, file) } else { &[] };
     Form {
         dialect: match kind {
             Kind::Autoconf => Dialect::Macros,
             _ if path.ends_with(".in") || path.ends_with(".am") => Dialect::Template,
             _ => Dialect::Plain,
         },
-        has_dollar_quotes: kind == Kind::Shell && reads_dollar_quotes(path, file),
+        has_dollar_quotes: is_dollar_quoting(shell),
+        is_bash: is_bash(shell),
+        is_zsh: is_zsh(shell),
     }
 }
 

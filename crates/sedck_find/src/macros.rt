@@ -83,10 +83,11 @@ impl<'a> Macros<'a> {
                 || words.any(|word| self.are_named_in(&word.traced.bytes)))
     }
 
-    /// Whether a word of the text is the name of a macro: of one of these, or one of Autoconf, Automake, Libtool, pkg-config or M4.
+    /// Whether a word of the text is the name of a macro: of one of these, or one of Autoconf, Automake, Libtool, pkg-config or M4; or it has a
+    /// parameter, which a macro replaces between all quotes of a shell.
     fn are_named_in(&self, text: &[u8]) -> bool {
         (0..text.len()).any(|index| match name_in(text, index) {
-            [] => false,
+            [] => is_parameter(rest(text, index)),
             [b'_', b'A', b'A'..=b'Z', b'_', ..] | [b'A', b'A'..=b'Z', b'_', ..] => true,
             [b'm', b'4', b'_', ..] | [b'L', b'T', b'_', ..] | [b'P', b'K', b'G', b'_', ..] => true,
             name => {
@@ -101,12 +102,14 @@ impl<'a> Macros<'a> {
         let Origin::Hole(hole) = origin else {
             return false;
         };
-        let written = self.file.get(hole.start..hole.end);
-        matches!(
-            written,
-            Some([b'@', ..] | [b'$', b'0'..=b'9' | b'@' | b'*' | b'#'])
-        )
+        let written = self.file.get(hole.start..hole.end).unwrap_or(&[]);
+        written.starts_with(b"@") || (written.len() == 2 && is_parameter(written))
     }
+}
+
+/// Whether a parameter of a macro begins the text.
+fn is_parameter(text: &[u8]) -> bool {
+    matches!(text, [b'$', b'0'..=b'9' | b'@' | b'*' | b'#', ..])
 }
 
 /// The name that begins at the index of the text; nothing where none begins there.

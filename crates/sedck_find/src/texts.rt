@@ -10,7 +10,7 @@ use crate::units::{
     after, begins_open, bytes_of, has_hole, has_letter, is_letters, is_word_in, last_part, rest,
     without,
 };
-use sedck_hosts::is_dollar_quoting;
+use sedck_hosts::{is_bash, is_dollar_quoting, is_zsh};
 use sedck_origin::{Result, Text, Unit, Way, begins_with, byte_at, is_text};
 use sedck_shell::{Form, ShellCommand, ShellWord, read_shell};
 use std::alloc::Global;
@@ -130,7 +130,10 @@ impl Texts<'_> {
     fn note_part(&mut self, part: &Part, command: &ShellCommand, form: Form) -> Result<()> {
         let path = bytes_of(self.names.alloc, last_part(&part.name.units))?;
         let mut other = form;
-        other.has_dollar_quotes &= path.is_some_and(|path| is_dollar_quoting(&path));
+        let shell = path.as_deref().unwrap_or(&[]);
+        other.has_dollar_quotes &= is_dollar_quoting(shell);
+        other.is_bash &= is_bash(shell);
+        other.is_zsh |= is_zsh(shell);
         match part.program {
             Program::Shell => self.note_shell(part, command, other),
             Program::Again => self.note_again(part, form),

@@ -92,20 +92,30 @@ pub fn kind_of(path: &str, bytes: &[u8]) -> Option<Kind> {
     }
 }
 
-/// Whether the shell that runs a file with this path and these bytes reads `$'..'`: by its first line, or by its name where it has none
-/// with an interpreter. A plain `sh` needn't read it.
-pub fn reads_dollar_quotes(path: &str, bytes: &[u8]) -> bool {
+/// The name of the shell that runs a file with this path and these bytes: by its first line, or by the end of its name where it has none with
+/// an interpreter.
+pub fn shell_of<'a>(path: &'a str, bytes: &'a [u8]) -> &'a [u8] {
     if bytes.starts_with(b"#!") {
-        return interpreter(bytes).is_some_and(is_dollar_quoting);
+        return interpreter(bytes).unwrap_or(&[]);
     }
     let path = path.as_bytes();
-    let path = path.strip_suffix(b".in").unwrap_or(path);
-    path.ends_with(b".bash") || path.ends_with(b".ksh")
+    let (stem, last) = split_last(path.strip_suffix(b".in").unwrap_or(path), b'.');
+    if stem.is_empty() { &[] } else { last }
 }
 
-/// Whether the shell of this name reads `$'..'`.
+/// Whether the shell of this name reads `$'..'`. A plain `sh` needn't read it.
 pub fn is_dollar_quoting(name: &[u8]) -> bool {
     is_word_of(name, DOLLAR_QUOTING)
+}
+
+/// Whether the shell of this name is bash.
+pub fn is_bash(name: &[u8]) -> bool {
+    is_word_of(name, "bash @BASH@")
+}
+
+/// Whether the shell of this name is zsh, perhaps with a version behind that.
+pub fn is_zsh(name: &[u8]) -> bool {
+    name.starts_with(b"zsh")
 }
 
 /// Whether the first line of a file with these bytes names a sed, whose script the file is then.

@@ -14,4 +14,4 @@ mod spec;
 mod yaml;
 
 pub use host::{Assignment, Host, host_of};
-pub use kind::{Kind, is_dollar_quoting, is_run_by_sed, kind_of, reads_dollar_quotes};
+pub use kind::{Kind, is_bash, is_dollar_quoting, is_run_by_sed, is_zsh, kind_of, shell_of};

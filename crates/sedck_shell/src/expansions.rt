@@ -16,6 +16,7 @@ impl Reader<'_, '_> {
     pub fn read_expansion(&mut self, unit: Unit) -> Result<()> {
         let length = self.rest.name_length();
         self.note_joined(unit, length)?;
+        self.note_signs(unit, length)?;
         match self.rest.peek() {
             Some(b'(') => self.open_substitution(),
             Some(b'{') => self.open_parameter(),
@@ -42,6 +43,22 @@ impl Reader<'_, '_> {
             }
             _ => self.add(unit),
         }
+    }
+
+    /// Tells of what zsh alone reads in an expansion without braces, whose name has so many letters: a sign before the name, and a subscript or
+    /// a modifier behind it.
+    fn note_signs(&mut self, unit: Unit, length: usize) -> Result<()> {
+        let first = self.rest.peek();
+        let behind = self.rest.skip(length.max(1));
+        let is_sign = is_in(first, "=~^+") || (first == Some(b'#') && behind.name_length() > 0);
+        let is_named = length > 0 || is_in(first, "@*");
+        let is_modifier = behind.peek() == Some(b':')
+            && behind
+                .byte(1)
+                .is_some_and(|byte| byte.is_ascii_alphabetic());
+        let is_part = is_named && (behind.peek() == Some(b'[') || is_modifier);
+        let is_other = self.form.is_zsh && (is_sign || is_part);
+        self.output.note_if(is_other, unit.start())
     }
 
     /// Reads a backquote, and the command that it begins.
@@ -91,8 +108,14 @@ impl Reader<'_, '_> {
 
     /// Opens `${`. In a pattern that is taken off or replaced a single quote quotes, also between double quotes.
     fn open_parameter(&mut self) -> Result<()> {
+        let is_first = self.form.is_zsh
+            && !self.top.has_word
+            && self.top.draft.command.words.is_empty();
         self.open(1, Enclosure::Parameter, true)?;
         let first = self.rest.peek();
+        // The name of a command may be several words with such a sign.
+        self.output
+            .note_if(is_first && is_in(first, "=~^("), self.here.start())?;
         // Some shells read commands there, and no others anything.
         self.output
             .note_if(is_in(first, " \t\n|"), self.here.start())?;
@@ -197,6 +220,19 @@ impl Reader<'_, '_> {
             rest = rest.skip(1);
         }
         None
+    }
+
+    /// Tells of a sed in the parenthesis that begins here, which may be a text that zsh runs for each name.
+    pub fn note_qualifiers(&mut self) -> Result<()> {
+        if !self.form.is_zsh {
+            return Ok(());
+        }
+        let inner = self.rest;
+        let length = self.parenthesis_end(inner).unwrap_or(0);
+        if let Some(offset) = sed_within(inner.take(length)) {
+            self.output.unread.push(offset)?;
+        }
+        Ok(())
     }
 
     /// Tells of a sed in the expression behind so many units, where a shell that doesn't know `((` reads commands within parentheses.

@@ -1,8 +1,8 @@
 //! Operators: ends of commands, parentheses and redirections (XCU 2.7, 2.9).
 
 use crate::frame::{Awaited, Delimiter, Enclosure};
-use crate::reader::{Reader, is_in, length_of};
-use crate::words::begins_with;
+use crate::reader::{Reader, begins_name, is_in, length_of};
+use crate::words::{begins_with, has_sed};
 use sedck_origin::{Cursor, Result, Unit, name_length};
 
 impl Reader<'_, '_> {
@@ -56,7 +56,10 @@ impl Reader<'_, '_> {
     fn read_both(&mut self) -> Result<()> {
         self.end_word()?;
         let is_appended = self.rest.byte(1) == Some(b'>');
-        self.part_command();
+        // Not each plain shell has it.
+        if !self.form.has_dollar_quotes {
+            self.part_command();
+        }
         self.forget_output();
         self.top.awaited = written(Stream::Output, !is_appended);
         Ok(self.pass(if is_appended { 2 } else { 1 }))
@@ -71,6 +74,7 @@ impl Reader<'_, '_> {
             return Ok(());
         }
         if self.opens_words() {
+            self.note_qualifiers()?;
             return self.open(0, Enclosure::Array, true);
         }
         let blanks = length_of(self.rest, " \t");
@@ -181,6 +185,8 @@ impl Reader<'_, '_> {
         }
         let word = self.take_word();
         if word.units.len() > 1 {
+            let is_told = !self.form.is_bash && has_sed(&self.top.draft.command.words);
+            self.output.note_if(is_told, word.start)?;
             self.part_command();
         }
         Ok(Some(stream_of(&word.units)))
@@ -248,7 +254,8 @@ fn written(stream: Stream, is_emptied: bool) -> Awaited {
 fn is_descriptor(units: &[Unit]) -> bool {
     match units {
         [Unit::Byte(b'{', _), name @ .., Unit::Byte(b'}', _)] => {
-            !name.is_empty() && name_length(name) == name.len()
+            let begins = name.first().and_then(|first| first.byte());
+            begins.is_some_and(begins_name) && name_length(name) == name.len()
         }
         _ => length_of(Cursor::Units(units), "0123456789") == units.len(),
     }

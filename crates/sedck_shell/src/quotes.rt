@@ -213,7 +213,7 @@ fn length_after(text: Cursor, letter: u8) -> usize {
     }
 }
 
-/// Whether the escape sequence with this letter, and these units behind it, may be a byte 0. Bash takes the last byte of a number, and as many
+/// Whether the escape sequence with this letter, and these units behind it, may be a byte 0, or more than these units. Bash takes the last byte of a number, and as many
 /// digits as there are between braces.
 fn may_end(text: Cursor, letter: u8) -> bool {
     let is_zero = length_of(text, "0") == text.len();
@@ -222,6 +222,8 @@ fn may_end(text: Cursor, letter: u8) -> bool {
         b'4' => is_zero && text.len() == 2,
         b'x' | b'u' | b'U' => text.peek() == Some(b'{') || (is_zero && text.len() > 0),
         b'c' => text.peek() == Some(b'@'),
+        // Some shells take what is behind it for a part of it.
+        b'C' | b'M' => true,
         _ => false,
     }
 }

@@ -23,6 +23,10 @@ pub struct Form {
     pub dialect: Dialect,
     /// Whether the shell reads `$'..'`, `[[`, `((` and `&>`, as bash does and dash doesn't.
     pub has_dollar_quotes: bool,
+    /// Whether it is bash: others have fewer descriptors before redirections.
+    pub is_bash: bool,
+    /// Whether it may be zsh, which reads more of braces, parentheses and signs.
+    pub is_zsh: bool,
 }
 
 /// A text that is read by itself: a command between backquotes, or a here-document.
@@ -251,8 +255,13 @@ impl<'a> Reader<'a, '_> {
             b'~' if self.begins_tilde() => {
                 self.add_hole_over(self.rest.name_length(), Way::Quoted)
             }
+            b'=' if self.form.is_zsh && !self.top.has_word => self.read_equals(unit),
             _ if is_in(Some(byte), ";&|<>()") => self.read_operator(unit, byte),
             _ if is_in(Some(byte), "*?[") => self.read_pattern(unit),
+            b'}' if !self.top.has_word => {
+                self.end_before_brace()?;
+                self.read_brace(unit, byte)
+            }
             _ if is_in(Some(byte), "{},.") => self.read_brace(unit, byte),
             _ => self.add_byte(unit),
         }
@@ -281,6 +290,13 @@ impl<'a> Reader<'a, '_> {
             b'.' if next == Some(b'.') => braces.has_list = braces.from.is_some(),
             _ => {}
         }
+        self.add(unit)
+    }
+
+    /// Reads `=` at the beginning of a word, where it stands for the path to the program of zsh's that is named behind it.
+    fn read_equals(&mut self, unit: Unit) -> Result<()> {
+        let length = self.rest.name_length();
+        self.output.note_if(length > 0, unit.start())?;
         self.add(unit)
     }
 

@@ -157,7 +157,7 @@ impl Reader<'_, '_> {
         }
         self.top.awaited = Awaited::Word;
         if let Some(count) = self.top.draft.parted
-            && !self.form.has_dollar_quotes
+            && !self.form.is_bash
             && let Some(sed) = parted_sed(&self.top.draft.command.words, count)
         {
             self.output.unread.push(sed)?;
@@ -206,6 +206,17 @@ impl Reader<'_, '_> {
             true => self.read_first_reserved(units),
             false => self.read_second_reserved(units),
         }
+    }
+
+    /// Ends the command before a brace that is a word by itself, which ends the group around it in zsh, wherever it stands.
+    pub fn end_before_brace(&mut self) -> Result<()> {
+        let next = self.rest.peek();
+        let is_word = !self.top.has_word && (next.is_none() || is_in(next, " \t\n;&|<>()"));
+        let is_other = self.top.is_pattern || self.top.is_test || !self.top.has_commands();
+        if self.form.is_zsh && is_word && !is_other && matches!(self.top.awaited, Awaited::Word) {
+            return self.end_command();
+        }
+        Ok(())
     }
 
     /// Ends `[[`. What is behind an operator of it is no command and is left, and the answer is whether it was that.
@@ -369,13 +380,18 @@ fn is_descriptor_copy(word: &ShellWord) -> bool {
 
 /// The offset of the first of these words, from this number on, where one of all is a sed; or else of one there that may be.
 fn parted_sed(words: &[ShellWord], count: usize) -> Option<usize> {
-    let has_sed = words.iter().any(|word| ends_with_sed(&word.units));
+    let is_call = has_sed(words);
     for word in words.get(count..)? {
-        if has_sed || matches!(*word.units, [Unit::Hole(hole)] if hole.way.is_split()) {
+        if is_call || matches!(*word.units, [Unit::Hole(hole)] if hole.way.is_split()) {
             return Some(word.start);
         }
     }
     None
+}
+
+/// Whether one of the words is a sed.
+pub(crate) fn has_sed(words: &[ShellWord]) -> bool {
+    words.iter().any(|word| ends_with_sed(&word.units))
 }
 
 /// The names of seds.
