@@ -260,7 +260,7 @@ impl Names<'_> {
         Ok(())
     }
 
-    /// Notes that the name at the beginning of the word may be set, and any other where it isn't known.
+    /// Notes that the name at the beginning of the word may be set, and any other where it is unknown.
     fn note_name(&mut self, word: &ShellWord) -> Result<()> {
         if has_hole(&word.units) {
             self.note_open(word.start);
@@ -322,7 +322,7 @@ pub(crate) fn is_c_locale(units: &[Unit]) -> Option<bool> {
 }
 
 /// Whether the command may make LC_ALL read-only: bash then runs a call after an assignment to it in the locale that was before. What
-/// isn't known may be its name.
+/// is unknown may be its name.
 pub(crate) fn may_fix_locale(words: &[ShellWord]) -> bool {
     let is_fixing = |word: &ShellWord| is_word_in(&word.units, FIXING);
     let place = words.iter().position(is_fixing);

@@ -293,7 +293,7 @@ fn changed_by(names: &Names<'_>, part: &Part) -> Result<Option<Unknown>> {
 }
 
 /// The words of a call after its name, with the options in the value of a variable that is the name, and whether all that is put into them
-/// is known. What isn't known of the name and of what runs it is noted.
+/// is known. What is unknown of the name and of what runs it is noted.
 fn words_of(filler: &mut Filler<'_>, held: &Held, part: &Part) -> Result<(Vec<CallWord>, bool)> {
     let alloc = filler.names.alloc;
     let mut words = Vec::new(alloc);

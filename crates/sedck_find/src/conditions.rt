@@ -19,7 +19,7 @@ struct Conditions {
     script: Option<usize>,
     end: Option<usize>,
     holes: Vec<OpenHole>,
-    /// Whether a word may be anything, so that the call isn't known.
+    /// Whether a word may be anything, so that the call is unknown.
     is_unknown: bool,
 }
 

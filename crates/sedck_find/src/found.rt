@@ -101,11 +101,11 @@ pub enum FoundScript {
     Foreign(Call),
     /// No sed takes the words.
     Refused(CallFault),
-    /// It isn't known before a run.
+    /// It is unknown before a run.
     Unknown(Unknown),
 }
 
-/// Why a script isn't known before a run.
+/// Why a script is unknown before a run.
 #[derive(Clone, Copy)]
 pub enum Unknown {
     /// A variable or a command gives the script as a whole, or options.
@@ -124,7 +124,7 @@ pub enum Unknown {
     Suffix,
 }
 
-/// What isn't known of a call, on which its words depend.
+/// What is unknown of a call, on which its words depend.
 #[derive(Clone, Copy)]
 pub struct OpenHole {
     /// Where the file has it, and how it becomes a part of a word.

@@ -17,7 +17,7 @@ struct Roles {
     reading: Reading,
     text: Traced,
     holes: Vec<OpenHole>,
-    /// Whether a hole has no role, so that the script isn't known.
+    /// Whether a hole has no role, so that the script is unknown.
     is_unknown: bool,
     /// Whether a hole of an expression or a list ends here.
     follows_hole: bool,

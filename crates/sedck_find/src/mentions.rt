@@ -1,4 +1,4 @@
-//! What may call sed where no call is found: words of a command that isn't known, texts that it may run, and values that others run.
+//! What may call sed where no call is found: words of a command that is unknown, texts that it may run, and values that others run.
 
 use crate::assigning::is_assignment;
 use crate::names::Names;
@@ -111,7 +111,7 @@ pub(crate) fn editor_in(words: &[ShellWord]) -> Option<usize> {
     editor.map(|word| word.start)
 }
 
-/// Whether a name that isn't known has `sed` written in it: after its holes, or in the place of one.
+/// Whether a name that is unknown has `sed` written in it: after its holes, or in the place of one.
 fn names_sed(names: &Names<'_>, units: &[Unit]) -> bool {
     let end = rest(units, units.len().saturating_sub(3));
     let mut holes = units.iter().take(LONGEST).filter_map(hole_of);
@@ -165,7 +165,7 @@ fn has_text(units: &[Unit], is_run: bool) -> bool {
     })
 }
 
-/// Whether the units have a call of sed as a word of a text: what looks like one, where it isn't known that the text is run.
+/// Whether the units have a call of sed as a word of a text: what looks like one, where it is unknown whether the text is run.
 pub(crate) fn may_have_call(units: &[Unit], is_run: bool) -> bool {
     (0..units.len()).any(|index| {
         begins_call(units, index) && (is_run || has_script(rest(units, index)))

@@ -92,7 +92,7 @@ impl<'a> Names<'a> {
         self.file.get(hole.start..hole.end).unwrap_or(&[])
     }
 
-    /// Notes the name of a function or an alias. Any may be run where it isn't known, or is a word before a command that not each shell reserves.
+    /// Notes the name of a function or an alias. Any may be run where it is unknown, or is a word before a command that not each shell reserves.
     pub fn note_function(&mut self, name: &[Unit]) -> Result<()> {
         match bytes_of(self.alloc, name)? {
             Some(name) if !is_one_in(&name, "time coproc") => {

@@ -62,7 +62,7 @@ fn overwritten(target: &Target) -> Option<Overwritten> {
     })
 }
 
-/// The paths of the files that the script reads by `r`. A name has no part that isn't known.
+/// The paths of the files that the script reads by `r`. A name has no part that is unknown.
 fn paths_read(alloc: Global, script: &[u8]) -> Result<Vec<Vec<u8>>> {
     let mut paths = Vec::new(alloc);
     let mut name = Vec::new(alloc);
@@ -141,7 +141,7 @@ fn path_at(filler: &mut Filler<'_>, word: &ShellWord) -> Result<Option<Vec<u8>>>
     written_path(filler.names, &word.traced)
 }
 
-/// The path that these bytes are, in which names of variables are between bytes 0; none where what isn't known may be something else at
+/// The path that these bytes are, in which names of variables are between bytes 0; none where what is unknown may be something else at
 /// each place.
 fn written_path(names: &Names<'_>, traced: &Traced) -> Result<Option<Vec<u8>>> {
     let mut written = Vec::new(names.alloc);

@@ -44,7 +44,7 @@ pub(crate) struct Run<'a> {
     pub is_direct: bool,
     /// Whether a command that runs it has the name of a function or an alias.
     pub is_redefined: bool,
-    /// The number of the word that may be a runner or nothing, where that isn't known, and whether there are more of them.
+    /// The number of the word that may be a runner or nothing, where that is unknown, and whether there are more of them.
     pub unknown: Option<usize>,
     pub has_more_unknown: bool,
     /// Whether the words right before the name set LC_ALL to C or POSIX.
@@ -107,7 +107,7 @@ struct Finder<'n, 'a> {
     wrapper_name: usize,
 }
 
-/// The commands in these words of a command, also those that aren't known.
+/// The commands in these words of a command, also those that are unknown.
 pub(crate) fn parts_of<'a>(names: &Names<'_>, words: &'a [ShellWord]) -> Result<Vec<Part<'a>>> {
     let mut finder = Finder {
         names,

@@ -29,7 +29,7 @@ pub(crate) enum Program {
 /// A command that runs another one.
 #[derive(Clone, Copy)]
 pub(crate) struct Wrapper {
-    /// Its names; nothing where it isn't known what runs the command.
+    /// Its names; nothing where it is unknown what runs the command.
     pub names: &'static str,
     /// The letters of the options that take an argument.
     letters: &'static str,
@@ -105,7 +105,7 @@ pub(crate) enum Before {
 pub(crate) fn before_command(wrapper: Wrapper, word: &[Unit]) -> Before {
     match word {
         _ if !is_option(word) => Before::Word,
-        // An option with a value that isn't known, as `-P$N`.
+        // An option with a value that is unknown, as `-P$N`.
         _ if has_hole(word) => Before::Option,
         _ if is_letters(word) => wrapper.letters_before(rest(word, 1)),
         _ if is_word_in(word, LONG) => Before::Awaiting,
@@ -154,7 +154,7 @@ pub(crate) fn glued_units(units: &[Unit]) -> usize {
     }
 }
 
-/// Whether the word is the name of a sed, perhaps after what isn't known, or a variable that has one.
+/// Whether the word is the name of a sed, perhaps after what is unknown, or a variable that has one.
 pub(crate) fn is_sed_word(names: &Names<'_>, units: &[Unit]) -> bool {
     if let Some(hole) = lone_hole(units) {
         let written = names.written_hole(hole);

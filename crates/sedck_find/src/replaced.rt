@@ -23,7 +23,7 @@ pub(crate) enum Replacing<'a> {
     /// `{}`.
     Braces,
     Text(&'a [Unit]),
-    /// What isn't known.
+    /// What is unknown.
     Anything,
 }
 
@@ -38,7 +38,7 @@ impl<'a> Replaced<'a> {
         }
     }
 
-    /// The texts that are replaced; none where one isn't known.
+    /// The texts that are replaced; none where one is unknown.
     pub fn texts(&self, alloc: Global) -> Result<Option<Vec<Vec<u8>>>> {
         let mut texts = Vec::new(alloc);
         if self.has_braces {

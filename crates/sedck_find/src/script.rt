@@ -92,7 +92,7 @@ fn is_suffix(call: &Call, words: &[CallWord]) -> bool {
         && call.given.iter().any(is_operand)
 }
 
-/// Why the script isn't known, if its words say so.
+/// Why the script is unknown, if its words say so.
 fn unknown_words(call: &Call, around: Around<'_>) -> Option<Unknown> {
     let (Piece::Text(origin) | Piece::File(origin)) = call.pieces.first()?;
     if has_open_word(&call.given, around.words, origin.word) {
@@ -115,7 +115,7 @@ fn has_open_word(given: &[Given], words: &[CallWord], first: usize) -> bool {
         })
 }
 
-/// Why the piece isn't known.
+/// Why the piece is unknown.
 fn unknown_piece(piece: Piece, around: Around<'_>) -> Option<Unknown> {
     let (Piece::Text(origin) | Piece::File(origin)) = piece;
     let word = around.words.get(origin.word)?;

@@ -66,7 +66,7 @@ fn has_names(alloc: Global, bytes: &[u8], names: &str) -> Result<bool> {
 }
 
 impl Names<'_> {
-    /// Notes what `set`, `shopt` and a shell set by these operands. What isn't known may be any option.
+    /// Notes what `set`, `shopt` and a shell set by these operands. What is unknown may be any option.
     pub fn note_options(&mut self, operands: &[ShellWord]) {
         let mut parts = operands.split(|word| word.is("--"));
         let options = parts.next().unwrap_or(operands);

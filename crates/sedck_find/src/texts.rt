@@ -206,7 +206,7 @@ impl Texts<'_> {
     }
 }
 
-/// Whether a command with these words may call sed: one of them has that name in it, or is a name that isn't known.
+/// Whether a command with these words may call sed: one of them has that name in it, or is a name that is unknown.
 fn may_call(words: &[ShellWord]) -> bool {
     words.iter().any(|word| {
         let next = rest(&word.units, 1);
@@ -220,7 +220,7 @@ fn is_handing(name: &ShellWord) -> bool {
     is_word_in(last_part(&name.units), HANDING)
 }
 
-/// Whether it isn't known which command it is.
+/// Whether it is unknown which command it is.
 fn is_open(part: &Part) -> bool {
     matches!(part.program, Program::Other) && has_hole(last_part(&part.name.units))
 }

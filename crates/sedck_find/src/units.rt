@@ -70,12 +70,12 @@ pub(crate) fn lone_hole(units: &[Unit]) -> Option<Hole> {
     }
 }
 
-/// Whether a part of the units isn't known.
+/// Whether a part of the units is unknown.
 pub(crate) fn has_hole(units: &[Unit]) -> bool {
     known_part(units).len() < units.len()
 }
 
-/// Whether it isn't known how the units begin.
+/// Whether it is unknown how the units begin.
 pub(crate) fn begins_open(units: &[Unit]) -> bool {
     !units.is_empty() && byte_at(units, 0).is_none()
 }

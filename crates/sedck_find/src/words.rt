@@ -32,12 +32,12 @@ impl CallWord {
         }
     }
 
-    /// Whether what isn't known is there.
+    /// Whether what is unknown is there.
     pub fn is_hole(&self, index: usize) -> bool {
         self.hole_at(index).is_some()
     }
 
-    /// What isn't known there.
+    /// What is unknown there.
     pub fn hole_at(&self, index: usize) -> Option<Hole> {
         match self.traced.origins.get(index) {
             Some(Origin::Hole(hole)) => Some(*hole),
@@ -146,7 +146,7 @@ impl<'a> Filler<'a> {
 
     /// The word, of these units, with the values that are known.
     pub fn word(&mut self, word: &ShellWord, units: &[Unit]) -> Result<CallWord> {
-        // What isn't known of a long word doesn't matter.
+        // What is unknown of a long word doesn't matter.
         let units = units.get(..LONGEST).unwrap_or(units);
         let spare = word.start.saturating_add(2);
         let end = word.units.last().map_or(spare, |last| last.end());
@@ -228,7 +228,7 @@ impl<'a> Filler<'a> {
         fits
     }
 
-    /// The words of the value after its first one: options, if the value is the name of a sed with options. None where that isn't known.
+    /// The words of the value after its first one: options, if the value is the name of a sed with options. None where that is unknown.
     pub fn options(&mut self, hole: Hole) -> Result<Option<Vec<CallWord>>> {
         let alloc = self.names.alloc;
         let mut options = Vec::new(alloc);

@@ -81,7 +81,7 @@ impl<'a> Docker<'a> {
         Ok(())
     }
 
-    /// Ends an instruction, whose last line is given. Behind `ONBUILD` and `HEALTHCHECK` another one stands.
+    /// Ends an instruction, whose last line is given. After `ONBUILD` and `HEALTHCHECK` another one stands.
     fn end_instruction(&mut self, units: &[Unit], line: Part<'a>) -> Result<()> {
         let mut rest = units;
         for _ in 0..3 {
@@ -130,7 +130,7 @@ impl<'a> Docker<'a> {
         Ok(())
     }
 
-    /// Reads the command of `RUN`, behind whose last line here-documents may stand. A text with one isn't shell text if another
+    /// Reads the command of `RUN`, after whose last line here-documents may stand. A text with one isn't shell text if another
     /// interpreter's name is at its beginning.
     fn read_run(&mut self, command: &[Unit], line: Part<'a>) -> Result<()> {
         let Some((here, _)) = here_of(command, line) else {
@@ -151,7 +151,7 @@ impl<'a> Docker<'a> {
     }
 
     /// Takes the here-documents of an instruction off what isn't read, and adds their lines; answers whether each is ended. Where one isn't,
-    /// the lines behind the instruction are read as others, and a call of sed in them is noted once.
+    /// the lines after the instruction are read as others, and a call of sed in them is noted once.
     fn take_heres(
         &mut self,
         command: &[Unit],
@@ -246,7 +246,7 @@ impl<'a> Docker<'a> {
     }
 }
 
-/// The units without the word that begins them, and without the blanks behind it.
+/// The units without the word that begins them, and without the blanks after it.
 fn after_first(units: &[Unit]) -> &[Unit] {
     until_blank(until_blank(units, true), false)
 }
@@ -282,7 +282,7 @@ fn has_other_interpreter(file: &[u8], units: &[Unit]) -> bool {
     })
 }
 
-/// The first here-document in the words of an instruction with this last line, and the words behind its own. It is shell text by itself if
+/// The first here-document in the words of an instruction with this last line, and the words after its own. It is shell text by itself if
 /// nothing else stands there.
 fn here_of<'a, 'b>(units: &'b [Unit], line: Part<'a>) -> Option<(Here<'a>, &'b [Unit])> {
     let mut rest = units;
@@ -367,15 +367,15 @@ enum Place {
     Before,
     /// In a string.
     Inside,
-    /// Behind a backslash in a string.
+    /// After a backslash in a string.
     Escape,
-    /// Behind a string.
+    /// After a string.
     Behind,
-    /// Behind the list.
+    /// After the list.
     End,
 }
 
-/// Where the byte behind this one is; none if no list has it there, as in `[ "$a" = b ]` of a shell.
+/// Where the byte after this one is; none if no list has it there, as in `[ "$a" = b ]` of a shell.
 fn next_place(place: Place, byte: u8) -> Option<Place> {
     match (place, byte) {
         (Place::Start, b'[') => Some(Place::Before),

@@ -81,8 +81,8 @@ fn host_of_autoconf(alloc: Global, file: &[u8]) -> Result<Host> {
     Ok(host)
 }
 
-/// What is behind the comment of M4 that begins the part. Its newline goes with it, which joins two lines, where a word is before it. It is kept
-/// behind arguments and brackets, where that has no other words.
+/// What is after the comment of M4 that begins the part. Its newline goes with it, which joins two lines, where a word is before it. It is kept
+/// after arguments and brackets, where that has no other words.
 fn behind_comment(part: Part) -> Part<'_> {
     let mut before = part.file.get(..part.start).unwrap_or(&[]).iter().rev();
     let last = before.find(|byte| !matches!(**byte, b' ' | b'\t'));
@@ -90,7 +90,7 @@ fn behind_comment(part: Part) -> Part<'_> {
     part.from_any("\n").skip(usize::from(!is_apart))
 }
 
-/// The unit that begins the part of a source of Autoconf, perhaps behind a comment; none where no more is left.
+/// The unit that begins the part of a source of Autoconf, perhaps after a comment; none where no more is left.
 fn autoconf_unit(part: Part) -> Option<Unit> {
     let is_dnl = !part.byte_before().is_some_and(is_name_byte)
         && part.starts_with("dnl")

@@ -39,7 +39,7 @@ static LANGUAGES: Names = &[
     (Kind::Autoconf, "m4"),
 ];
 
-/// Names of files, or what is behind the last dot of one. The scripts are those of Debian's packages but for one.
+/// Names of files, or what is after the last dot of one. The scripts are those of Debian's packages but for one.
 static NAMES: Names = &[
     (Kind::Shell, "preinst postinst prerm postrm configure"),
     (Kind::Make, "Makefile makefile GNUmakefile Kbuild"),
@@ -47,7 +47,7 @@ static NAMES: Names = &[
     (Kind::Docker, "Dockerfile dockerfile Containerfile"),
 ];
 
-/// What is behind the last dot of a name.
+/// What is after the last dot of a name.
 static SUFFIXES: Names = &[
     (Kind::Shell, "sh bash ksh dash"),
     (Kind::Make, "mk mak make am"),
@@ -56,17 +56,17 @@ static SUFFIXES: Names = &[
     (Kind::Spec, "spec"),
 ];
 
-/// What may be before a dot, whatever is behind it.
+/// What may be before a dot, whatever is after it.
 static STEMS: Names = &[
     (Kind::Make, "Makefile makefile GNUmakefile Kbuild"),
     (Kind::Make, "Makevars Rules"),
     (Kind::Docker, "Dockerfile"),
 ];
 
-/// What is behind the last dot of files in other languages, which no makefile has there: `Makefile.PL` is a script of Perl's.
+/// What is after the last dot of files in other languages, which no makefile has there: `Makefile.PL` is a script of Perl's.
 const OTHERS: &str = "PL pl pm py rb js ts java c h cc cpp hs html xml json md";
 
-/// What may be before `.m4` in a source of Autoconf, behind another dot.
+/// What may be before `.m4` in a source of Autoconf, after another dot.
 const BEFORE_M4: &str = "ac in sh";
 
 /// Names of programs. Shells are there also as they are named when a package is configured.
@@ -113,7 +113,7 @@ pub fn is_bash(name: &[u8]) -> bool {
     is_word_of(name, "bash @BASH@")
 }
 
-/// Whether the shell of this name is zsh, perhaps with a version behind that.
+/// Whether the shell of this name is zsh, perhaps with a version after that.
 pub fn is_zsh(name: &[u8]) -> bool {
     name.starts_with(b"zsh")
 }
@@ -123,7 +123,7 @@ pub fn is_run_by_sed(bytes: &[u8]) -> bool {
     interpreter(bytes).is_some_and(|name| is_word_of(name, "sed gsed ssed"))
 }
 
-/// What is before the last such byte, and what is behind it; nothing and all if there is none.
+/// What is before the last such byte, and what is after it; nothing and all if there is none.
 fn split_last(bytes: &[u8], byte: u8) -> (&[u8], &[u8]) {
     let Some(last) = bytes.iter().rposition(|other| *other == byte) else {
         return (&[], bytes);
@@ -132,7 +132,7 @@ fn split_last(bytes: &[u8], byte: u8) -> (&[u8], &[u8]) {
     (bytes.get(..last).unwrap_or(&[]), behind)
 }
 
-/// The name behind the path to it.
+/// The name after the path to it.
 pub(crate) fn without_path(path: &[u8]) -> &[u8] {
     split_last(path, b'/').1
 }
@@ -162,7 +162,7 @@ fn part_kind(name: &[u8]) -> Option<Kind> {
     }
 }
 
-/// The kind by what is before the last dot of the name, and what is behind it.
+/// The kind by what is before the last dot of the name, and what is after it.
 fn dotted_kind(stem: &[u8], last: &[u8]) -> Option<Kind> {
     let (before, first) = split_last(stem, b'.');
     match named(STEMS, first) {
@@ -179,7 +179,7 @@ fn is_other_language(before: &[u8], first: &[u8]) -> bool {
     is_lettered && !before.is_empty() && !is_word_of(first, BEFORE_M4)
 }
 
-/// The kind by the first line, which names an interpreter behind `#!`.
+/// The kind by the first line, which names an interpreter after `#!`.
 pub(crate) fn interpreter_kind(bytes: &[u8]) -> Option<Kind> {
     program_kind(interpreter(bytes)?)
 }

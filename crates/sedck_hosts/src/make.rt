@@ -76,7 +76,7 @@ fn has_eval(file: Part) -> bool {
     (file.start..file.end).any(|offset| is_eval(file.from(offset)))
 }
 
-/// Whether `$(eval ..)` begins the part, or what is behind the bracket of `$(call eval,..)`.
+/// Whether `$(eval ..)` begins the part, or what is after the bracket of `$(call eval,..)`.
 fn is_eval(part: Part) -> bool {
     if part.starts_with("$(") || part.starts_with("${") {
         return is(called_name(part.skip(2)), "eval");
@@ -99,7 +99,7 @@ fn has_foreign_shell(file: Part) -> bool {
     false
 }
 
-/// Whether the line sets SHELL so, perhaps for its targets alone. A value that isn't known as a whole may be a shell.
+/// Whether the line sets SHELL so, perhaps for its targets alone. A value that is unknown as a whole may be a shell.
 fn sets_foreign_shell(line: Part) -> bool {
     let statement = after_modifiers(after_conditionals(line));
     let behind = until(statement, ":#;").after_any(":");
@@ -174,7 +174,7 @@ impl Make {
         self.read_rule(line)
     }
 
-    /// Reads a line with targets, behind which an assignment or a recipe may stand.
+    /// Reads a line with targets, after which an assignment or a recipe may stand.
     fn read_rule(&mut self, line: Part) -> Result<()> {
         let colon = until(line, ":#;");
         if !colon.begins_with(b':') {
@@ -224,7 +224,7 @@ impl Make {
         self.host.add(units)
     }
 
-    /// Reads an assignment. With `!=` its value is shell text; after `+=` and `!=` the value of the name isn't known. Behind one that changes
+    /// Reads an assignment. With `!=` its value is shell text; after `+=` and `!=` the value of the name is unknown. After one that changes
     /// how recipes begin they aren't read.
     fn define(&mut self, line: Part, definition: Definition) -> Result<()> {
         let (name, value) = (definition.name.bytes(), definition.value);
@@ -247,7 +247,7 @@ impl Make {
         self.assign(name, text.units)
     }
 
-    /// Adds an assignment to a name that isn't known, or of a value that is only a part or for some targets. It isn't read as a text.
+    /// Adds an assignment to a name that is unknown, or of a value that is only a part or for some targets. It isn't read as a text.
     fn add_unknown(&mut self, line: Part, definition: Definition<'_>) -> Result<()> {
         let value = definition.value;
         self.add(line.to(value.start), Reading::Value)?;
@@ -255,7 +255,7 @@ impl Make {
         self.assign_unknown(definition.name.bytes(), line)
     }
 
-    /// Adds an assignment of a value that isn't known: all of the line is its hole.
+    /// Adds an assignment of a value that is unknown: all of the line is its hole.
     fn assign_unknown(&mut self, name: &[u8], line: Part) -> Result<()> {
         let mut value = Vec::new(self.alloc);
         value.push(Unit::made(line.start, line.end))?;
@@ -272,7 +272,7 @@ impl Make {
     }
 }
 
-/// Where a call of sed is in a reference with two dollar signs: behind `.SECONDEXPANSION` make expands those of a rule a second time.
+/// Where a call of sed is in a reference with two dollar signs: after `.SECONDEXPANSION` make expands those of a rule a second time.
 fn mention_in_doubled(names: Part) -> Option<usize> {
     let mut rest = names;
     for _ in 0..names.len() {
@@ -325,7 +325,7 @@ fn definition_at(whole: Part) -> Option<Definition<'_>> {
     is_word_of(sign, OPERATORS).then_some(Definition { name, sign, value })
 }
 
-/// The part from the first of these bytes on that stands outside of references and behind no backslash.
+/// The part from the first of these bytes on that stands outside of references and after no backslash.
 fn until<'a>(part: Part<'a>, wanted: &str) -> Part<'a> {
     let mut rest = part;
     for _ in 0..part.len() {
@@ -339,7 +339,7 @@ fn until<'a>(part: Part<'a>, wanted: &str) -> Part<'a> {
     part.from(rest.start.min(part.end))
 }
 
-/// The command of a recipe's line: what is behind blanks, `@`, `-` and `+`, but not behind the `@` of a name with two of them around it.
+/// The command of a recipe's line: what is after blanks, `@`, `-` and `+`, but not after the `@` of a name with two of them around it.
 fn command_of(line: Part) -> Part<'_> {
     let mut rest = line;
     for _ in 0..line.len() {

@@ -11,7 +11,7 @@ pub(crate) enum Reading {
     Recipe,
     /// Another line, or the value of an assignment: continued lines are joined by a space, and a comment ends it.
     Value,
-    /// The same, of an assignment whose value isn't known as a whole, so that calls of sed in it are noted.
+    /// The same, of an assignment whose value is unknown as a whole, so that calls of sed in it are noted.
     Unread,
     /// The argument of `$(shell ..)`: continued lines are joined by a space. So many of these are around it, with its own.
     Argument(usize),
@@ -81,7 +81,7 @@ pub(crate) struct MakeText<'a> {
     shells: usize,
     /// Whether a call of sed was noted in the outermost of them.
     is_noted: bool,
-    /// The offset where brackets end behind `$$`, in which make joins the lines of a recipe.
+    /// The offset where brackets end after `$$`, in which make joins the lines of a recipe.
     joined_to: usize,
     quoting: Quoting,
     /// What hasn't been read yet.
@@ -229,7 +229,7 @@ impl<'a> MakeText<'a> {
         }
     }
 
-    /// Adds the dollar sign for `$$`. GNU make takes brackets behind it for those of a reference where it looks for lines to join.
+    /// Adds the dollar sign for `$$`. GNU make takes brackets after it for those of a reference where it looks for lines to join.
     fn add_dollar(&mut self, here: Part<'a>) -> Result<()> {
         let (next, after) = (here.skip(1), here.skip(2));
         if after.begins_with_any("({") && here.start >= self.joined_to {
@@ -239,7 +239,7 @@ impl<'a> MakeText<'a> {
     }
 
     /// Reads several dollar signs of a part that may be expanded twice: with their reference they are a hole, in which a call of sed is noted.
-    /// Where they have none a byte behind them may be lost.
+    /// Where they have none a byte after them may be lost.
     fn read_twice(&mut self, here: Part<'a>) -> Result<()> {
         self.quoting.pass(&self.units);
         let behind = here.after_any("$");
@@ -317,7 +317,7 @@ impl<'a> MakeText<'a> {
     }
 
     /// Reads a backslash outside of references. One before a newline stays in a recipe, where a tab that begins the next line is left out, but
-    /// not in brackets behind `$$`.
+    /// not in brackets after `$$`.
     fn read_backslash(&mut self, here: Part<'a>) -> Result<()> {
         let after = here.skip(2);
         let has_newline = here.skip(1).first() == Some(b'\n');
@@ -374,7 +374,7 @@ impl<'a> MakeText<'a> {
         self.join_by(blank, Unit::made(here.start, next.start))
     }
 
-    /// Joins two lines by the blank, or without one behind an operator. A tab is what make's space is only where no quote is open.
+    /// Joins two lines by the blank, or without one after an operator. A tab is what make's space is only where no quote is open.
     fn join_by(&mut self, blank: Option<Unit>, hole: Unit) -> Result<()> {
         self.quoting.pass(&self.units);
         let next = self.rest.first().unwrap_or(b' ');
@@ -382,7 +382,7 @@ impl<'a> MakeText<'a> {
             Some(unit) if self.quoting.is_bare() || unit.byte() == Some(b' ') => self.add(unit),
             None if self.quoting.is_apart(next) => Ok(()),
             _ => {
-                // A call of sed isn't read behind a hole: its name and that are one word.
+                // A call of sed isn't read after a hole: its name and that are one word.
                 if self.rest.is_call(QUOTES) {
                     self.unread.push(self.rest.start)?;
                 }
@@ -457,14 +457,14 @@ pub(crate) fn reference_end(part: Part) -> usize {
     part.end
 }
 
-/// How a shell reads what comes behind the units that were passed, by the quotes before it (XCU 2.2).
+/// How a shell reads what comes after the units that were passed, by the quotes before it (XCU 2.2).
 #[derive(Clone, Copy, Default)]
 struct Quoting {
     /// How many units were passed.
     passed: usize,
     /// The quote that is open.
     quote: Option<u8>,
-    /// The byte before, if there is one; a letter where it isn't known or is quoted by a backslash.
+    /// The byte before, if there is one; a letter where it is unknown or is quoted by a backslash.
     before: u8,
     /// Whether a backslash quotes what comes next.
     is_escaped: bool,
@@ -478,7 +478,7 @@ impl Quoting {
         self.quote.is_none() && !self.is_escaped && !self.is_lost
     }
 
-    /// Whether an operator is before, behind which a command may begin, and no blank is needed between it and this byte.
+    /// Whether an operator is before, after which a command may begin, and no blank is needed between it and this byte.
     fn is_apart(self, next: u8) -> bool {
         self.is_bare()
             && matches!(self.before, b';' | b'&' | b'|' | b'(')
@@ -486,7 +486,7 @@ impl Quoting {
             && !matches!(next, b'&' | b'>')
     }
 
-    /// Passes the units that weren't passed yet; what isn't known is taken for a letter.
+    /// Passes the units that weren't passed yet; what is unknown is taken for a letter.
     fn pass(&mut self, units: &[Unit]) {
         for unit in units.iter().skip(self.passed) {
             let byte = if self.is_escaped { None } else { unit.byte() };

@@ -125,7 +125,7 @@ impl<'a> Part<'a> {
         self.to(last.map_or(self.start, |last| self.skip(last).skip(1).start))
     }
 
-    /// The word that begins the part and ends at a blank, and the part behind it and its blanks.
+    /// The word that begins the part and ends at a blank, and the part after it and its blanks.
     pub fn split_word(self) -> (&'a [u8], Part<'a>) {
         let rest = self.from_any(" \t");
         (self.before(rest), rest.after_blanks())
@@ -146,7 +146,7 @@ impl<'a> Part<'a> {
         rest
     }
 
-    /// Its first line without its newline and carriage return, and what is behind that; nothing where it is empty. Where lines are joined, those
+    /// Its first line without its newline and carriage return, and what is after that; nothing where it is empty. Where lines are joined, those
     /// that continue the line by a backslash before a newline belong to it.
     pub fn split_line(self, is_joined: bool) -> Option<(Part<'a>, Part<'a>)> {
         let mut is_quoted = false;
@@ -225,7 +225,7 @@ impl<'a> Part<'a> {
         (self.start..self.end).find(|offset| self.from(*offset).is_call(QUOTES))
     }
 
-    /// Whether a call of sed seems to begin the part: its name, perhaps some of the closers, and blanks with more behind them.
+    /// Whether a call of sed seems to begin the part: its name, perhaps some of the closers, and blanks with more after them.
     pub fn is_call(self, closers: &str) -> bool {
         let length = self.sed_length();
         if length == 0 {
@@ -307,7 +307,7 @@ impl Brackets {
         Brackets { opener, count: 0 }
     }
 
-    /// What is open behind this byte; nothing where it closes the first.
+    /// What is open after this byte; nothing where it closes the first.
     pub fn after(self, byte: u8) -> Option<Brackets> {
         let closer = match self.opener {
             b'(' => b')',
@@ -326,5 +326,5 @@ impl Brackets {
 /// What names of variables are made of.
 const NAME_BYTES: &str = "abcdefghijklmnopqrstuvwxyzABCDEFGHIJKLMNOPQRSTUVWXYZ0123456789_";
 
-/// What may close a word behind the name of sed.
+/// What may close a word after the name of sed.
 pub(crate) const QUOTES: &str = "\"'";

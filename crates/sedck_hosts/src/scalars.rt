@@ -81,7 +81,7 @@ pub(crate) fn plain_scalar(whole: Part) -> Option<Part<'_>> {
     (before != b':').then_some(whole.to(end).before_blanks())
 }
 
-/// The indentation that the header of a block scalar gives, behind `|` or `>`: 0 if it gives none. None if it is no header.
+/// The indentation that the header of a block scalar gives, after `|` or `>`: 0 if it gives none. None if it is no header.
 pub(crate) fn header(whole: Part) -> Option<usize> {
     let rest = whole.after_any("+-123456789");
     let mut signs = whole.before(rest).iter();

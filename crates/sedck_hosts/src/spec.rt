@@ -112,7 +112,7 @@ impl Spec {
         }
     }
 
-    /// Reads a directive by which lines are left out or put in: a line by itself that isn't known, since a command or a quote may be open.
+    /// Reads a directive by which lines are left out or put in: a line by itself that is unknown, since a command or a quote may be open.
     fn read_branch(&mut self, line: Part) -> Result<()> {
         self.is_left_out = false;
         self.add(Unit::made(line.start, line.end))?;
@@ -185,7 +185,7 @@ impl Spec {
     /// Reads the byte that begins this part of a line, and answers what isn't read yet.
     fn read<'a>(&mut self, rest: Part<'a>, byte: u8) -> Result<Part<'a>> {
         if let Some(open) = self.open {
-            // A backslash keeps a bracket behind it from being counted.
+            // A backslash keeps a bracket after it from being counted.
             if byte == b'\\' {
                 return Ok(rest.skip(2));
             }
@@ -207,7 +207,7 @@ impl Spec {
         Ok(rest.from(unit.end()))
     }
 
-    /// Tells of a definition or a comment behind other words of shell text, which is left out with its newline, and of a macro that is given a
+    /// Reports a definition or a comment after other words of shell text, which is left out with its newline, and a macro that is given a
     /// shorter name than is looked for.
     fn note_definition(&mut self, rest: Part) -> Result<()> {
         if !rest.begins_with(b'%') {

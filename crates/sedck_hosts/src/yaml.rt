@@ -32,7 +32,7 @@ struct List {
 /// A line without what begins it.
 #[derive(Clone, Copy)]
 struct Line<'a> {
-    /// What stands behind spaces and the dashes of sequences.
+    /// What stands after spaces and the dashes of sequences.
     text: Part<'a>,
     indentation: usize,
     /// The indentation of the text.
@@ -120,7 +120,7 @@ impl<'a> Yaml<'a> {
         is_item
     }
 
-    /// Reads a line with a key, behind which `end` is.
+    /// Reads a line with a key, after which `end` is.
     fn read_key(&mut self, line: Line<'a>, end: Part<'a>) -> Result<()> {
         let key = unquoted(line.text.before(end));
         let (text, parent) = (end.after_blanks().skip(1).after_blanks(), line.column);
@@ -157,7 +157,7 @@ impl<'a> Yaml<'a> {
     }
 
     /// Passes a line that begins with no key which is read, and notes a call of sed in it where it may have one: in a mapping in brackets, as
-    /// `- {run: sed p}`, behind a tag or an anchor, or with all lines that belong to it in a key or a value that is marked by `?` or `:`.
+    /// `- {run: sed p}`, after a tag or an anchor, or with all lines that belong to it in a key or a value that is marked by `?` or `:`.
     fn pass_line(&mut self, line: Line<'a>) -> Result<()> {
         let (text, parent) = (line.text, line.column);
         if has_sign(text, "?:") {
@@ -204,7 +204,7 @@ impl<'a> Yaml<'a> {
     }
 
     /// Notes a call of sed in the node, with its anchor, of the alias that begins the text. Where no more may be looked at, the end of the
-    /// node isn't known.
+    /// node is unknown.
     fn note_alias(&mut self, alias: Part<'a>) -> Result<()> {
         let Some(anchor) = self.anchors.remove(anchor_of(alias)) else {
             return Ok(());
@@ -228,7 +228,7 @@ impl<'a> Yaml<'a> {
         self.host.note(anchor.text.to(end).mention_of_sed())
     }
 
-    /// What is behind a value on the line that was read: the next line that begins another node, and all behind that.
+    /// What is after a value on the line that was read: the next line that begins another node, and all after that.
     fn rest_behind(&self, value: Value<'a>) -> Part<'a> {
         self.rest.after_lines(|line| !is_node(line, value.parent))
     }
@@ -314,7 +314,7 @@ fn after_anchor(value: Value<'_>) -> Value<'_> {
     Value { text, ..value }
 }
 
-/// The name behind the byte that begins an anchor or an alias.
+/// The name after the byte that begins an anchor or an alias.
 fn anchor_of(text: Part) -> &[u8] {
     let (word, _) = text.split_word();
     word.get(1..).unwrap_or(&[])
@@ -349,13 +349,13 @@ fn after_dashes(whole: Part) -> Line<'_> {
     }
 }
 
-/// The part without tags and anchors that begin it, where a key stands behind them.
+/// The part without tags and anchors that begin it, where a key stands after them.
 fn key_behind(part: Part<'_>) -> Part<'_> {
     let rest = part.after_words(4, |word| word.starts_with(b"&") || word.starts_with(b"!"));
     if key_end(rest).is_some() { rest } else { part }
 }
 
-/// What is behind the key that begins the part: its colon, perhaps behind blanks; none if no key does.
+/// What is after the key that begins the part: its colon, perhaps after blanks; none if no key does.
 fn key_end(part: Part) -> Option<Part<'_>> {
     let behind = part.after_any(KEY_BYTES);
     let is_key = behind.start > part.start && has_sign(behind.after_blanks(), ":");

@@ -45,8 +45,8 @@ impl Reader<'_, '_> {
         }
     }
 
-    /// Tells of what zsh alone reads in an expansion without braces, whose name has so many letters: a sign before the name, and a subscript or
-    /// a modifier behind it.
+    /// Reports what zsh alone reads in an expansion without braces, whose name has so many letters: a sign before the name, and a subscript or
+    /// a modifier after it.
     fn note_signs(&mut self, unit: Unit, length: usize) -> Result<()> {
         let first = self.rest.peek();
         let behind = self.rest.skip(length.max(1));
@@ -126,7 +126,7 @@ impl Reader<'_, '_> {
         Ok(())
     }
 
-    /// Whether a pattern that is taken off or replaced begins behind the name of a parameter. Dash knows the former alone, and no subscripts.
+    /// Whether a pattern that is taken off or replaced begins after the name of a parameter. Dash knows the former alone, and no subscripts.
     fn begins_pattern(&self, behind: Cursor) -> bool {
         if !self.form.has_dollar_quotes {
             return is_in(behind.peek(), "#%");
@@ -190,7 +190,7 @@ impl Reader<'_, '_> {
         }
     }
 
-    /// Whether the two parentheses before what is behind so many units begin an expression, and no group within parentheses (XCU 2.6.3):
+    /// Whether the two parentheses before what is after so many units begin an expression, and no group within parentheses (XCU 2.6.3):
     /// whether the one that closes the second is followed by another.
     pub fn is_expression(&mut self, count: usize) -> bool {
         let inner = self.rest.skip(count);
@@ -222,7 +222,7 @@ impl Reader<'_, '_> {
         None
     }
 
-    /// Tells of a sed in the parenthesis that begins here, which may be a text that zsh runs for each name.
+    /// Reports a sed in the parenthesis that begins here, which may be a text that zsh runs for each name.
     pub fn note_qualifiers(&mut self) -> Result<()> {
         if !self.form.is_zsh {
             return Ok(());
@@ -235,7 +235,7 @@ impl Reader<'_, '_> {
         Ok(())
     }
 
-    /// Tells of a sed in the expression behind so many units, where a shell that doesn't know `((` reads commands within parentheses.
+    /// Reports a sed in the expression after so many units, where a shell that doesn't know `((` reads commands within parentheses.
     pub fn note_commands_within(&mut self, count: usize) -> Result<()> {
         if self.form.has_dollar_quotes {
             return Ok(());
@@ -283,7 +283,7 @@ fn partner_of(text: Cursor<'_>) -> Option<Cursor<'_>> {
     None
 }
 
-/// Whether a parameter that begins with this byte, and has this behind its name, may be several words, also where it is quoted: `@`, `*`,
+/// Whether a parameter that begins with this byte, and has this after its name, may be several words, also where it is quoted: `@`, `*`,
 /// `!name@` and `name[@]`.
 fn is_several(first: Option<u8>, behind: Cursor) -> bool {
     is_in(first, "@*")

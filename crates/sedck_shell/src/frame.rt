@@ -28,7 +28,7 @@ pub(crate) enum Enclosure {
     Text,
     /// `$( )`, and `<( )` and `>( )`.
     Substitution,
-    /// `( )`, also behind a word.
+    /// `( )`, also after a word.
     Group,
     /// `name=( )`, and `@( )` of a pattern.
     Array,
@@ -56,7 +56,7 @@ pub(crate) enum Awaited {
     HereString,
     /// A file that is opened for writing, which is emptied before or not, and to which its output goes or not.
     Target { is_emptied: bool, is_output: bool },
-    /// Behind `>&` the descriptor to which its output goes, or in some shells a file.
+    /// After `>&` the descriptor to which its output goes, or in some shells a file.
     Copied,
     /// Another word of a redirection.
     Skipped,
@@ -146,9 +146,9 @@ pub(crate) struct Frame {
 pub(crate) struct Braces {
     /// The number of the unit with the first brace.
     pub from: Option<usize>,
-    /// Whether a comma or two dots stand behind it.
+    /// Whether a comma or two dots stand after it.
     pub has_list: bool,
-    /// The number of the unit with the last brace behind those.
+    /// The number of the unit with the last brace after those.
     pub to: Option<usize>,
 }
 
@@ -159,7 +159,7 @@ pub(crate) struct Flow {
     pub depth: usize,
     /// The number of the innermost of all groups around it.
     pub group: Option<usize>,
-    /// Whether an operator precedes it, behind which a newline doesn't count.
+    /// Whether an operator precedes it, after which a newline doesn't count.
     pub is_awaited: bool,
 }
 

@@ -1,4 +1,4 @@
-//! Groups, conditions and loops: what is redirected behind one is so for the commands in it (XCU 2.9.4).
+//! Groups, conditions and loops: what is redirected after one is so for the commands in it (XCU 2.9.4).
 
 use crate::command::{ShellWord, Target};
 use crate::frame::Draft;

@@ -42,7 +42,7 @@ impl Reader<'_, '_> {
         Ok(self.pass(1))
     }
 
-    /// Reads `;`, or `;;` and `;&`, behind which a pattern follows.
+    /// Reads `;`, or `;;` and `;&`, after which a pattern follows.
     fn read_semicolon(&mut self, second: Option<u8>) -> Result<()> {
         self.end_command()?;
         if is_in(second, ";&") {
@@ -65,7 +65,7 @@ impl Reader<'_, '_> {
         Ok(self.pass(if is_appended { 2 } else { 1 }))
     }
 
-    /// Reads `(`: a group, the parentheses of a function, a list behind `name=`, or a part of a pattern.
+    /// Reads `(`: a group, the parentheses of a function, a list after `name=`, or a part of a pattern.
     fn open_parenthesis(&mut self) -> Result<()> {
         if self.top.is_pattern {
             if self.top.has_word {
@@ -91,7 +91,7 @@ impl Reader<'_, '_> {
         self.open(0, Enclosure::Group, false)
     }
 
-    /// Tells of a parenthesis behind words of a command, which is a pattern in some shells, unless it begins the body of a function. Values of
+    /// Reports a parenthesis after words of a command, which is a pattern in some shells, unless it begins the body of a function. Values of
     /// make's may be nothing.
     fn note_parenthesis(&mut self) -> Result<()> {
         let words = &self.top.draft.command.words;
@@ -105,7 +105,7 @@ impl Reader<'_, '_> {
         self.output.note_if(is_pattern, self.here.start())
     }
 
-    /// Whether `((` begins an expression where a command may begin, and behind `for`.
+    /// Whether `((` begins an expression where a command may begin, and after `for`.
     fn begins_expression(&self) -> bool {
         let words = &self.top.draft.command.words;
         !self.has_macros() && (words.is_empty() || (words.len() == 1 && begins_with(words, "for")))
@@ -238,7 +238,7 @@ fn redirection(bytes: (u8, Option<u8>, Option<u8>), stream: Stream) -> (Awaited,
     }
 }
 
-/// What the word behind `>` and the like is for this stream, also behind `<>`, which leaves what is in the file.
+/// What the word after `>` and the like is for this stream, also after `<>`, which leaves what is in the file.
 fn written(stream: Stream, is_emptied: bool) -> Awaited {
     let is_output = stream == Stream::Output;
     if !is_output && !is_emptied {

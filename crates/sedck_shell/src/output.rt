@@ -221,7 +221,7 @@ impl Reader<'_, '_> {
     }
 }
 
-/// The line of the delimiter with which the here-document ends that begins the text, what is behind it, and whether some shells find the
+/// The line of the delimiter with which the here-document ends that begins the text, what is after it, and whether some shells find the
 /// end before, at lines that are joined by backslashes and are the delimiter then, or read such lines otherwise.
 fn body_end<'a>(text: Cursor<'a>, pending: &Pending) -> Option<(Cursor<'a>, Cursor<'a>, bool)> {
     let mut line = text;

@@ -28,7 +28,7 @@ impl Reader<'_, '_> {
         self.top.quoted_from = unit.start();
     }
 
-    /// Reads a unit between `$'` and `'` where shells differ, which makes a hole of it all. Behind a backslash they find different ends.
+    /// Reads a unit between `$'` and `'` where shells differ, which makes a hole of it all. After a backslash they find different ends.
     pub fn read_either(&mut self, unit: Unit) -> Result<()> {
         match unit.byte() {
             Some(b'\\') => {
@@ -51,7 +51,7 @@ impl Reader<'_, '_> {
         self.top.floor = self.brackets;
     }
 
-    /// Reads a backslash that isn't quoted, and what it quotes: a newline behind it is left out with it. One at the end of a text is itself,
+    /// Reads a backslash that isn't quoted, and what it quotes: a newline after it is left out with it. One at the end of a text is itself,
     /// but bash leaves it out at the end of a file.
     pub fn read_backslash(&mut self, unit: Unit) -> Result<()> {
         self.output.note_if(self.rest.len() == 0, unit.start())?;
@@ -81,7 +81,7 @@ impl Reader<'_, '_> {
         }
     }
 
-    /// Ends a text between double quotes. One behind a dollar sign isn't known: some shells put a translation in its place, and others keep
+    /// Ends a text between double quotes. One after a dollar sign is unknown: some shells put a translation in its place, and others keep
     /// the sign. Since it may have commands of the script, it is a hole that may be anything.
     fn close_double(&mut self, unit: Unit) -> Result<()> {
         self.top.quote = Quote::None;
@@ -206,15 +206,15 @@ fn length_after(text: Cursor, letter: u8) -> usize {
         b'x' => length_of(text.take(2), HEXADECIMAL),
         b'u' => length_of(text.take(4), HEXADECIMAL),
         b'U' => length_of(text.take(8), HEXADECIMAL),
-        // Behind it shells differ in what a backslash quotes.
+        // After it shells differ in what a backslash quotes.
         b'c' if text.peek() == Some(b'\\') => 2,
         b'c' => usize::from(text.peek().is_some_and(|byte| byte != b'\'')),
         _ => 0,
     }
 }
 
-/// Whether the escape sequence with this letter, and these units behind it, may be a byte 0, or more than these units. Bash takes the last byte of a number, and as many
-/// digits as there are between braces.
+/// Whether the escape sequence with this letter, and these units after it, may be a byte 0, or more than these units. Bash takes the last byte
+/// of a number, and as many digits as there are between braces.
 fn may_end(text: Cursor, letter: u8) -> bool {
     let is_zero = length_of(text, "0") == text.len();
     match letter {
@@ -222,7 +222,7 @@ fn may_end(text: Cursor, letter: u8) -> bool {
         b'4' => is_zero && text.len() == 2,
         b'x' | b'u' | b'U' => text.peek() == Some(b'{') || (is_zero && text.len() > 0),
         b'c' => text.peek() == Some(b'@'),
-        // Some shells take what is behind it for a part of it.
+        // Some shells take what is after it for a part of it.
         b'C' | b'M' => true,
         _ => false,
     }

@@ -135,7 +135,7 @@ const DEPTH: usize = 100;
 pub(crate) struct Reader<'a, 'o> {
     pub alloc: Global,
     pub form: Form,
-    /// What begins with the unit that is read, and what is behind that and isn't read yet.
+    /// What begins with the unit that is read, and what is after that and isn't read yet.
     pub here: Cursor<'a>,
     pub rest: Cursor<'a>,
     /// The offset in the file of the last unit that was passed in one step.
@@ -172,7 +172,7 @@ impl<'a> Reader<'a, '_> {
         matches!(self.form.dialect, Dialect::Macros)
     }
 
-    /// The offset in the file behind the unit after so many more; 0 where the text ends before.
+    /// The offset in the file after the unit after so many more; 0 where the text ends before.
     pub fn end_after(&self, count: usize) -> usize {
         self.here.get(count).map_or(0, Unit::end)
     }
@@ -293,14 +293,14 @@ impl<'a> Reader<'a, '_> {
         self.add(unit)
     }
 
-    /// Reads `=` at the beginning of a word, where it stands for the path to the program of zsh's that is named behind it.
+    /// Reads `=` at the beginning of a word, where it stands for the path to the program of zsh's that is named after it.
     fn read_equals(&mut self, unit: Unit) -> Result<()> {
         let length = self.rest.name_length();
         self.output.note_if(length > 0, unit.start())?;
         self.add(unit)
     }
 
-    /// Whether a tilde here stands for a folder: at the beginning of a word, and in a value also behind a colon (XCU 2.6.1).
+    /// Whether a tilde here stands for a folder: at the beginning of a word, and in a value also after a colon (XCU 2.6.1).
     fn begins_tilde(&self) -> bool {
         let word = Cursor::Units(&self.top.word.units);
         match self.top.word.units.last() {
@@ -333,7 +333,7 @@ impl<'a> Reader<'a, '_> {
         self.add(unit)
     }
 
-    /// Opens what encloses the units behind so many more.
+    /// Opens what encloses the units after so many more.
     pub fn open(&mut self, count: usize, enclosure: Enclosure, is_hole: bool) -> Result<()> {
         if enclosure != Enclosure::Group {
             self.note_opening();
@@ -426,7 +426,7 @@ impl<'a> Reader<'a, '_> {
     }
 
     /// Reads a text to its end. Where a quote or an expansion isn't closed, what was read from there on is forgotten, and the answer is what
-    /// is behind the line.
+    /// is after the line.
     pub fn read_text(&mut self) -> Result<Option<Cursor<'a>>> {
         self.read_all()?;
         if self.is_closed() {
@@ -445,7 +445,7 @@ impl<'a> Reader<'a, '_> {
         self.top.is_plain && matches!(self.top.quote, Quote::None | Quote::Comment)
     }
 
-    /// Tells of a backslash and a newline behind the unit and so many letters of a name, which a shell leaves out, where the byte behind them
+    /// Reports a backslash and a newline after the unit and so many letters of a name, which a shell leaves out, where the byte after them
     /// belongs to the operator or the expansion that begins with the unit.
     pub fn note_joined(&mut self, unit: Unit, length: usize) -> Result<()> {
         let rest = self.rest.skip(length);
@@ -457,7 +457,7 @@ impl<'a> Reader<'a, '_> {
     }
 }
 
-/// Whether the byte behind belongs to the operator or the expansion that begins with the first one, with so many letters of a name between.
+/// Whether the byte after belongs to the operator or the expansion that begins with the first one, with so many letters of a name between.
 fn is_part(first: Option<u8>, length: usize, behind: u8) -> bool {
     match first {
         Some(b'$') if length > 0 => is_name_byte(behind),
@@ -466,7 +466,7 @@ fn is_part(first: Option<u8>, length: usize, behind: u8) -> bool {
     }
 }
 
-/// What is behind the name that begins the word; none where it doesn't begin with one.
+/// What is after the name that begins the word; none where it doesn't begin with one.
 fn behind_name(word: Cursor<'_>) -> Option<Cursor<'_>> {
     let length = word.name_length();
     (length > 0).then_some(word.skip(length))

@@ -28,7 +28,7 @@ impl Reader<'_, '_> {
         }
     }
 
-    /// Adds a unit to the word. What isn't known in the text that is read is there before its quotes are.
+    /// Adds a unit to the word. What is unknown in the text that is read is there before its quotes are.
     pub fn add(&mut self, unit: Unit) -> Result<()> {
         self.begin_word(unit.start());
         let mut unit = unit;
@@ -114,7 +114,7 @@ impl Reader<'_, '_> {
         std::mem::replace(&mut self.top.word, ShellWord::new(self.alloc))
     }
 
-    /// Notes what may be other words in the word of a redirection: what is there before a shell reads it, and what some shells have behind `>!`.
+    /// Notes what may be other words in the word of a redirection: what is there before a shell reads it, and what some shells have after `>!`.
     fn note_redirection(&mut self, word: &ShellWord) -> Result<()> {
         let has_sign = !word.is_quoted && byte_at(&word.units, 0) == Some(b'!');
         self.output.note_if(has_sign, word.start)?;
@@ -149,7 +149,7 @@ impl Reader<'_, '_> {
         }
     }
 
-    /// Tells of an operator that has no word, behind which some shells have others, and of a sed in a command that has words where the shell may
+    /// Reports an operator that has no word, after which some shells have others, and a sed in a command that has words where the shell may
     /// begin another command: what bash reads as one may be two to it.
     fn note_parted(&mut self) -> Result<()> {
         if !matches!(self.top.awaited, Awaited::Word) && !self.has_macros() {
@@ -219,7 +219,7 @@ impl Reader<'_, '_> {
         Ok(())
     }
 
-    /// Ends `[[`. What is behind an operator of it is no command and is left, and the answer is whether it was that.
+    /// Ends `[[`. What is after an operator of it is no command and is left, and the answer is whether it was that.
     fn end_test(&mut self) -> bool {
         self.top.is_test = false;
         let words = &mut self.top.draft.command.words;
@@ -305,7 +305,7 @@ impl Reader<'_, '_> {
         self.top.awaited = Awaited::Word;
     }
 
-    /// Whether a newline doesn't end the command: in an array, behind an operator, also in `[[`, and before `in` of `case`.
+    /// Whether a newline doesn't end the command: in an array, after an operator, also in `[[`, and before `in` of `case`.
     fn goes_on(&self) -> bool {
         let words = &self.top.draft.command.words;
         self.top.enclosure == Enclosure::Array
@@ -314,7 +314,7 @@ impl Reader<'_, '_> {
             || (words.len() == 2 && begins_with(words, "case"))
     }
 
-    /// Ends a line, behind which here-documents may follow.
+    /// Ends a line, after which here-documents may follow.
     pub fn end_line(&mut self) -> Result<()> {
         self.end_word()?;
         if !self.goes_on() {
@@ -372,7 +372,7 @@ impl Reader<'_, '_> {
     }
 }
 
-/// Whether the word behind `>&` is a descriptor, or the hyphen that closes one.
+/// Whether the word after `>&` is a descriptor, or the hyphen that closes one.
 fn is_descriptor_copy(word: &ShellWord) -> bool {
     let mut units = word.units.iter();
     units.all(|unit| unit.byte().is_none() || is_in(unit.byte(), "0123456789-"))
