@@ -85,7 +85,7 @@ ROWS = [
     ("a.sh", [], "sh -c 'sed p; sed \"s/a b/c/\"'\neval 'sed d'\n", 0, [("1:8", A, ["p"]), ("1:15", A, ["s/a b/c/"]), ("2:7", A, ["d"])]),
     # Names.
     ("a.sh", [], "/usr/bin/sed p; gsed d; $SED x; ${SED-sed} =; \"$SED\" g; busybox sed h\n", 5, [("1:1", A, ["p"]), ("1:17", A, ["d"]), ("1:25", IF, ["x"]), ("1:33", IF, ["="]), ("1:47", A, ["g"]), ("1:65", A, ["h"])]),
-    ("a.sh", [], "${SED-gsed} p; $(which gsed) d; \"${X:-ssed}\" x; ${ased} =; x=$(which gsed)\n\"$x\" g\n", 5, [("1:1", IF, ["p"]), ("1:16", IF, ["d"]), ("1:33", A, ["x"]), ("2:1", A, ["g"])]),
+    ("a.sh", [], "${SED-gsed} p; $(which gsed) d; \"${X:-ssed}\" x; ${ased} =\n", 5, [("1:1", IF, ["p"]), ("1:16", IF, ["d"]), ("1:33", A, ["x"])]),
     ("a.sh", [], "LC_ALL=C sed p; env A=b sed d; exec sed x; command sed =; sudo -u me sed g\n", 0, [("1:10", A, ["p"]), ("1:25", A, ["d"]), ("1:37", A, ["x"]), ("1:52", A, ["="]), ("1:70", A, ["g"])]),
     ("a.sh", [], "xargs -0 -n 1 sed -n p; find . -name '*.c' -exec sed -n '1p' {} + -o -exec sed d {} \\;\n", 5, [("1:15", IF, ["-n", "p"]), ("1:50", A, ["-n", "1p", "x"]), ("1:76", A, ["d", "x"])]),
     ("a.sh", [], "xargs sed -e p --\nxargs -P$N -n1 sed -n p\nxargs -I% sed 's/a/%/' %\n", 5, [("1:7", A, ["-e", "p", "--"]), ("2:16", IF, ["-n", "p"]), ("3:11", IF, None)]),
@@ -485,11 +485,11 @@ b=u
 sed "s/$b/$a/" f
 sed "$x"
 """
-SAID = [(1, '"$SED" isn\'t known: the answer holds if it is the name of a sed, without options; or give --assume SED=sed (3 calls of this file depend on it)'),
-        (2, '"$a" isn\'t known: the answer holds if it isn\'t empty, and has no `/`, no newline, and none of `\\[.*^$`; or give --assume a=VALUE (2 calls of this file depend on it)'),
-        (2, '"$f" isn\'t known: the answer holds if no word of it begins with `-`; or give --assume f=VALUE (2 calls of this file depend on it)'),
-        (3, '"$a" isn\'t known: the answer holds if it has no `/`, no newline, and none of `\\&`; or give --assume a=VALUE (2 calls of this file depend on it)'),
-        (4, '"p" isn\'t known: the answer holds if POSIXLY_CORRECT isn\'t set, with which an option after an operand is none; or give --assume POSIXLY_CORRECT'),
+SAID = [(1, '"$SED" is unknown: the answer holds if it is the name of a sed, without options; or give --assume SED=sed (3 calls of this file depend on it)'),
+        (2, '"$a" is unknown: the answer holds if it isn\'t empty, and has no `/`, no newline, and none of `\\[.*^$`; or give --assume a=VALUE (2 calls of this file depend on it)'),
+        (2, '"$f" is unknown: the answer holds if no word of it begins with `-`; or give --assume f=VALUE (2 calls of this file depend on it)'),
+        (3, '"$a" is unknown: the answer holds if it has no `/`, no newline, and none of `\\&`; or give --assume a=VALUE (2 calls of this file depend on it)'),
+        (4, '"p" is unknown: the answer holds if POSIXLY_CORRECT isn\'t set, with which an option after an operand is none; or give --assume POSIXLY_CORRECT'),
         (6, 'the answer holds if "$b" is "u", as line 5 sets it; or give --assume b=VALUE')]
 KINDS = [("sed", 1, 3), ("operand", 1, 2), ("order", 1, 1), ("script", 2, 3), ("value", 1, 1)]
 
