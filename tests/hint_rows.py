@@ -284,7 +284,7 @@ COMMANDS = [
         wrong=("s/xy/y/\n",)),
     Row("W", "N\nW out\ns/a/b/\n", "for `W out` write `h`", "N\nh\ns/\\n.*//\nw out\ng\ns/a/b/\n", ("a\nb\n", "b\na\n", "x\n"), wrong=("N\ns/\\n.*//\nw out\ns/a/b/\n",)),
     Row("z", "/b/z\n", "else write `s/.*//`", "/b/s/.*//\n", ("a\nb\n", "ab\n", "\n")),
-    Row("z before an empty expression", "/b/{\nz\ns//y/\n}\n", "is what `//` means behind it", "/b/{\ns/.*//\ns/b/y/\n}\n", ("a\nb\n", "ab\n", "\n"),
+    Row("z before an empty expression", "/b/{\nz\ns//y/\n}\n", "is what `//` means after it", "/b/{\ns/.*//\ns/b/y/\n}\n", ("a\nb\n", "ab\n", "\n"),
         wrong=("/b/{\ns/.*//\ns//y/\n}\n",)),
     Row("z by the hold space", "s/a/b/\n/b/z\nt\ns/$/!/\n", "for `z` write `g` if no command uses the hold space", "s/a/b/\n/b/g\nt\ns/$/!/\n",
         ("a\nb\n", "ab\n", "\n"), wrong=("s/a/b/\n/b/s/.*//\nt\ns/$/!/\n",)),
