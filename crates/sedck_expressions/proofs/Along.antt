@@ -1,15 +1,39 @@
 -- Going through a list of items: what is left of it, and that nothing before is sought.
-use Rattle.sedck_expressions.proofs.Common.{◌≡◌, ℕ, ◌+◌, ◌≤◌, Bool, true, false, List, [], ◌∷◌, ◌++◌, drop, Option, Some, Result, Ok, inl, inr, refl, sym, ap, ◌∙◌, arith, append_assoc, IsTrue, codes, ◌||◌, ◌&&◌, or-true, nat_tests, drop-drop, begins, unread, Cursor, HasOneAt, begins_pair, Tree, Trees, Then, Nil, Seq, Group, Repeat, Level, Position, SpellsItems, SpellsCount, behind, has_part, one_has_part, is_reference, is_anchor, repeats_anchor, has_misjudged_reference, is_misjudged, StopsAt, Sought}
+use Rattle.sedck_expressions.proofs.Common.{◌≡◌, ℕ, ◌+◌, ◌≤◌, Bool, true, false, List, [], ◌∷◌, ◌++◌, length, drop, Option, Some, Result, Ok, inl, inr, refl, sym, ap, subst, ◌∙◌, arith, append_assoc, length-append, IsTrue, codes, ◌||◌, ◌&&◌, or-true, nat_tests, drop-drop, begins, unread, Cursor, HasOneAt, begins_pair, Tree, Trees, Then, Nil, Seq, Group, Repeat, Level, Position, SpellsItems, SpellsCount, behind, has_part, one_has_part, is_reference, is_anchor, repeats_anchor, has_misjudged_reference, is_misjudged, StopsAt, Sought}
 use Rattle.std.specs.Prelude.{unwrap_or}
 use Rattle.std.specs.Result.{result_unwrap_or}
+use Rattle.std.proofs.lemmas.List.{length-drop}
 use Rattle.sedck_expressions.proofs.OffsetLemmas.{stands_at, stands_behind}
-use Rattle.sedck_expressions.specs.Misjudged.{IsMisjudgedAt}
-use Rattle.sedck_expressions.specs.Private.Along.{HasNone}
+use Rattle.sedck_expressions.specs.Misjudged.{HasNoneSought, IsFirstSought, IsFirstAmong, IsFirstMisjudged, IsMisjudgedAt}
 use Rattle.sedck_expressions.specs.declared.fault.ReFault.{ReFault}
 use Rattle.sedck_expressions.specs.declared.fault.ReFault.TheVariants.{BadReference, NothingToRepeat}
 
--- These items are left of the list, and the text from here on spells them; those before them have nothing that is sought.
-pub record IsLeft (sought : Sought) (level : Level) (after text : List ℕ) (all ts : Trees) : Type 0 where
+-- the tree has nothing of this that is sought
+abbrev pub HasNone : Sought → Tree → Type 0
+HasNone sought = HasNoneSought sought.references sought.anchors
+
+abbrev pub IsFirst : Sought → Tree → List ℕ → ℕ → ReFault → Type 0
+IsFirst sought = IsFirstSought sought.references sought.anchors
+
+-- how far the text has been read where this is left
+pub read_on : (old new : Cursor) (text after : List ℕ) → new.whole ≡ old.whole → unread old ≡ text ++ after → unread new ≡ after
+    → new.at ≡ old.at + length text
+read_on old new text after same cut left =
+    omega (
+      arith,
+      old.within,
+      new.within,
+      ap (λ w. length w.now) same,
+      ap length cut,
+      ap length left,
+      length-append text after,
+      length-drop old.at old.whole.now,
+      length-drop new.at new.whole.now,
+    )
+
+-- These items are left of the list, and the text from here on spells them; those before them have nothing that is sought, so what is first
+-- among these is the first of all.
+pub record IsLeft (sought : Sought) (level : Level) (start here : ℕ) (whole after text : List ℕ) (all ts : Trees) : Type 0 where
   pub position : Position
   pub own : List ℕ
   pub cut : text ≡ own ++ after
@@ -17,42 +41,57 @@ pub record IsLeft (sought : Sought) (level : Level) (after text : List ℕ) (all
   pub references : IsTrue sought.references → one_has_part is_reference ts ≡ one_has_part is_reference all
   pub anchors : IsTrue sought.anchors → one_has_part is_anchor ts ≡ one_has_part is_anchor all
   pub repeated : one_has_part repeats_anchor ts ≡ one_has_part repeats_anchor all
+  pub first : (fault : ReFault) → IsFirstAmong sought.references sought.anchors ts own here fault
+      → IsFirstAmong sought.references sought.anchors all whole start fault
 
 -- one item of the list is passed
-pub left_more : {sought : Sought} {level : Level} {after text : List ℕ} {all : Trees} (more : List ℕ) (t : Tree) (ts : Trees)
-    (left : IsLeft sought level after text all (Then t ts)) → more ≡ left.spelled.1 ++ after → HasNone sought t → IsLeft sought level after more all ts
-left_more more t ts left is none = record {
+pub left_more : {sought : Sought} {level : Level} {start here : ℕ} {whole after text : List ℕ} {all : Trees} (next : ℕ) (more : List ℕ) (t : Tree) (ts : Trees)
+    (left : IsLeft sought level start here whole after text all (Then t ts)) → next ≡ here + length left.spelled.0 → more ≡ left.spelled.1 ++ after
+    → HasNone sought t → IsLeft sought level start next whole after more all ts
+left_more {sought} {level} next more t ts left at is none = record {
   position = behind left.position t;
   own = left.spelled.1;
   cut = is;
   spelled = left.spelled.4;
-  references = λ s. sym (ap (λ b. b || one_has_part is_reference ts) (none.references s)) ∙ left.references s;
-  anchors = λ s. sym (ap (λ b. b || one_has_part is_anchor ts) (none.anchors s)) ∙ left.anchors s;
-  repeated = sym (ap (λ b. b || one_has_part repeats_anchor ts) none.repeated) ∙ left.repeated;
+  references = λ s. sym (ap (λ b. b || one_has_part is_reference ts) (none.no_reference s)) ∙ left.references s;
+  anchors = λ s. sym (ap (λ b. b || one_has_part is_anchor ts) (none.no_anchor s)) ∙ left.anchors s;
+  repeated = sym (ap (λ b. b || one_has_part repeats_anchor ts) none.no_repeated) ∙ left.repeated;
+  first = λ fault among.
+      let (u, v, parts, item, others) = left.spelled in
+      left.first fault (
+        u,
+        v,
+        parts,
+        (level, left.position, v, item),
+        inr (
+          none,
+          subst (λ n. IsFirstAmong sought.references sought.anchors ts v n fault) at among,
+        ),
+      );
 }
 
 -- nothing of the list is left
-pub left_none : {sought : Sought} {level : Level} {after text : List ℕ} {all : Trees} → IsLeft sought level after text all Nil
-    → (text ≡ after) × HasNone sought (Seq all)
+pub left_none : {sought : Sought} {level : Level} {start here : ℕ} {whole after text : List ℕ} {all : Trees}
+    → IsLeft sought level start here whole after text all Nil → (text ≡ after) × HasNone sought (Seq all)
 left_none {after = after} left = (
   left.cut ∙ ap (λ x. x ++ after) left.spelled,
   record {
-    references = λ s. sym (left.references s);
-    anchors = λ s. sym (left.anchors s);
-    repeated = sym left.repeated;
+    no_reference = λ s. sym (left.references s);
+    no_anchor = λ s. sym (left.anchors s);
+    no_repeated = sym left.repeated;
   },
 )
 
 pub none_group : {sought : Sought} (k : ℕ) (body : Tree) → HasNone sought body → HasNone sought (Group k body)
-none_group k body none = record { references = none.references; anchors = none.anchors; repeated = none.repeated }
+none_group k body none = record { no_reference = none.no_reference; no_anchor = none.no_anchor; no_repeated = none.no_repeated }
 
 -- where also each anchor was sought in what is repeated
 pub none_repeat : {sought : Sought} (body : Tree) (least : ℕ) (most : Option ℕ) → HasNone (record sought { anchors = true }) body
     → HasNone sought (Repeat body least most)
 none_repeat body least most none = record {
-  references = none.references;
-  anchors = λ _. none.anchors refl;
-  repeated = ap (λ b. b || has_part repeats_anchor body) (none.anchors refl) ∙ none.repeated;
+  no_reference = none.no_reference;
+  no_anchor = λ _. none.no_anchor refl;
+  no_repeated = ap (λ b. b || has_part repeats_anchor body) (none.no_anchor refl) ∙ none.no_repeated;
 }
 
 nothing_misjudged : (reference by_group repeated anchor : Bool) → ((reference && by_group) ≡ true → reference ≡ false) → (reference ≡ true → anchor ≡ false)
@@ -65,8 +104,8 @@ nothing_misjudged true false repeated anchor f g h = rw (h, g refl) refl
 pub none_misjudged : (sought : Sought) (t : Tree) → sought.references ≡ has_misjudged_reference t → sought.anchors ≡ has_part is_reference t
     → HasNone sought t → is_misjudged t ≡ false
 none_misjudged sought t references anchors none =
-    nothing_misjudged (has_part is_reference t) _ (has_part repeats_anchor t) (has_part is_anchor t) (λ e. none.references (references ∙ e))
-    (λ e. none.anchors (anchors ∙ e)) none.repeated
+    nothing_misjudged (has_part is_reference t) _ (has_part repeats_anchor t) (has_part is_anchor t) (λ e. none.no_reference (references ∙ e))
+    (λ e. none.no_anchor (anchors ∙ e)) none.no_repeated
 
 -- what stops inside stops outside
 pub stops_group : (sought : Sought) (text : List ℕ) (k : ℕ) (body : Tree) (fault : ReFault) → StopsAt sought body text fault → StopsAt sought (Group k body) text fault
@@ -81,22 +120,31 @@ stops_repeat sought text body least most (NothingToRepeat offset) (at, inl (any,
 stops_repeat sought text body least most (NothingToRepeat offset) (at, inr has) = (at, inr (ap (λ b. has_part is_anchor body || b) has ∙ or-true (has_part is_anchor body)))
 stops_repeat sought text body least most fault stop = absurd stop
 
-pub stops_all : (sought : Sought) (text : List ℕ) {level : Level} {after left : List ℕ} {all : Trees} (t : Tree) (ts : Trees) (fault : ReFault)
-    → IsLeft sought level after left all (Then t ts) → StopsAt sought t text fault → StopsAt sought (Seq all) text fault
+pub stops_all : (sought : Sought) (text : List ℕ) {level : Level} {start here : ℕ} {whole after left : List ℕ} {all : Trees} (t : Tree) (ts : Trees)
+    (fault : ReFault) → IsLeft sought level start here whole after left all (Then t ts) → StopsAt sought t text fault → StopsAt sought (Seq all) text fault
 stops_all sought text t ts (BadReference offset) left stop = stop
 stops_all sought text t ts (NothingToRepeat offset) left (at, inl (any, has)) =
     (at, inl (any, sym (left.anchors any) ∙ ap (λ b. b || one_has_part is_anchor ts) has))
 stops_all sought text t ts (NothingToRepeat offset) left (at, inr has) = (at, inr (sym left.repeated ∙ ap (λ b. b || one_has_part repeats_anchor ts) has))
 stops_all sought text t ts fault left stop = absurd stop
 
+pub first_all : (sought : Sought) {level : Level} {start here : ℕ} {whole after text : List ℕ} {all : Trees} (t : Tree) (ts : Trees) (fault : ReFault)
+    (left : IsLeft sought level start here whole after text all (Then t ts)) → IsFirst sought t left.spelled.0 here fault
+    → IsFirst sought (Seq all) whole start fault
+first_all sought {level} t ts fault left first =
+    let (u, v, parts, item, others) = left.spelled in
+    left.first fault (u, v, parts, (level, left.position, v, item), inl first)
+
 -- the first reference or anchor that was sought is one for which the expression is misjudged
 pub stops_misjudged : (sought : Sought) (text : List ℕ) (t : Tree) (fault : ReFault) → sought.references ≡ has_misjudged_reference t
-    → sought.anchors ≡ has_part is_reference t → StopsAt sought t text fault → IsMisjudgedAt text t fault
-stops_misjudged sought text t (BadReference offset) references anchors stop = (stop.0, stop.1, sym references ∙ stop.2)
-stops_misjudged sought text t (NothingToRepeat offset) references anchors (at, inl (any, has)) =
-    (at, rw (sym anchors ∙ any, has) (or-true (has_part repeats_anchor t)))
-stops_misjudged sought text t (NothingToRepeat offset) references anchors (at, inr has) = (at, rw has refl)
-stops_misjudged sought text t fault references anchors stop = absurd stop
+    → sought.anchors ≡ has_part is_reference t → StopsAt sought t text fault → IsFirst sought t text 0 fault → IsMisjudgedAt text t fault
+stops_misjudged sought text t fault references anchors stop first = go fault stop (rw (references, anchors) at first)
+  where
+    go : (fault : ReFault) → StopsAt sought t text fault → IsFirstMisjudged text t fault → IsMisjudgedAt text t fault
+    go (BadReference offset) stop first = (stop.0, stop.1, sym references ∙ stop.2, first)
+    go (NothingToRepeat offset) (at, inl (any, has)) first = (at, rw (sym anchors ∙ any, has) (or-true (has_part repeats_anchor t)), first)
+    go (NothingToRepeat offset) (at, inr has) first = (at, rw has refl, first)
+    go fault stop first = absurd stop
 
 -- ---- Signs, groups and references in the text
 

@@ -21,5 +21,6 @@ pub mod SetLoop
 pub mod OffsetLemmas
 pub mod ViewLemmas
 pub mod Along
+pub mod FirstSought
 pub mod PartLemmas
 pub mod WithoutBackslash

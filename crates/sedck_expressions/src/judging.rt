@@ -101,7 +101,7 @@ fn after_sign<'a>(cursor: Cursor<'a>) -> Cursor<'a>
 fn pass_item<'a>(item: &Bre, sought: Sought, cursor: Cursor<'a>) -> Result<Cursor<'a>, ReFault>
     ensures same { IfOk result (λ x. x.whole ≡ cursor.entry.whole) }
     ensures passes { (level : shape.Level) (position : shape.Position) (text rest after : List ℕ) → unread cursor.entry ≡ text ++ after
-        → SpellsItem level position text rest (tree item.now) → Passes sought (tree item.now) cursor.entry.whole.now after result }
+        → SpellsItem level position text rest (tree item.now) → Passes sought (tree item.now) cursor.entry text after result }
 {
     match item {
         Bre::Byte(_) => Ok(after_byte(cursor)),
@@ -144,7 +144,7 @@ fn pass_item<'a>(item: &Bre, sought: Sought, cursor: Cursor<'a>) -> Result<Curso
 fn pass_list<'a>(list: &Bre, sought: Sought, cursor: Cursor<'a>) -> Result<Cursor<'a>, ReFault>
     ensures same { IfOk result (λ x. x.whole ≡ cursor.entry.whole) }
     ensures passes { (level : shape.Level) (text after : List ℕ) → unread cursor.entry ≡ text ++ after
-        → SpellsList level text (tree list.now) → Passes sought (tree list.now) cursor.entry.whole.now after result }
+        → SpellsList level text (tree list.now) → Passes sought (tree list.now) cursor.entry text after result }
 {
     match list {
         Bre::Seq(items) => pass_items(items, sought, cursor),
@@ -158,7 +158,7 @@ fn pass_items<'a>(items: &[Bre], sought: Sought, cursor: Cursor<'a>) -> Result<C
     ensures same { IfOk result (λ x. x.whole ≡ cursor.entry.whole) }
     ensures passes { (level : shape.Level) (position : shape.Position) (text after : List ℕ) → unread cursor.entry ≡ text ++ after
         → SpellsItems level position text (trees (map tree items.now))
-        → PassesAll sought (trees (map tree items.now)) cursor.entry.whole.now after result }
+        → PassesAll sought (trees (map tree items.now)) cursor.entry text after result }
 {
     let mut next = cursor;
     for item in items {

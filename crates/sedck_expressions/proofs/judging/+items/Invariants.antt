@@ -8,5 +8,5 @@ invariant-pass_items-loop-item l = record {
   same : l.next.whole ≡ l.cursor.whole;
   left : (level : shape.Level) (position : shape.Position) (text after : List ℕ) → unread l.cursor ≡ text ++ after
       → SpellsItems level position text (trees (map tree l.items))
-      → IsLeft l.sought level after (unread l.next) (trees (map tree l.items)) (trees (map tree (drop l.item-index l.items)));
+      → IsLeft l.sought level l.cursor.at l.next.at text after (unread l.next) (trees (map tree l.items)) (trees (map tree (drop l.item-index l.items)));
 }
