@@ -1,9 +1,10 @@
 -- What an address is, by its first byte.
-use Rattle.sedck_commands.proofs.Common.{◌≡◌, ◌≢◌, ℕ, List, ◌∷◌, refl, ap, sym, ◌∙◌, subst, subst₂, arith, IsTrue, is_delimiter, Place, Number, PlaceText}
+use Rattle.sedck_commands.proofs.Common.{◌≡◌, ◌≢◌, ℕ, List, ◌∷◌, refl, ap, sym, ◌∙◌, subst, subst₂, arith, IsTrue, is_delimiter, Place, Number, PlaceText, is_digit, true, begins_address, Longest, is_blank}
 use Rattle.sedck_commands.specs.Program.{Last}
 use Rattle.sedck_commands.specs.Parts as p
-use Rattle.sedck_commands.specs.Private.AddressReading.{ContextText, CustomText}
+use Rattle.sedck_commands.specs.Private.AddressReading.{ContextText, CustomText, IsBehindComma}
 use Rattle.sedck_commands.proofs.UniqueItems.{place_class, place_begins}
+use Rattle.sedck_commands.specs.FirstFaults.{IsAfterComma}
 use Rattle.sedck_commands.proofs.FirstBytes.{heads, tails}
 
 pub last_text : {text rest : List ℕ} {b : ℕ} → text ≡ b ∷ rest → b ≡ 36 → PlaceText text Last rest
@@ -39,3 +40,16 @@ custom_delimiter {rest = rest} {q = q} e c =
     let same : c.0 ≡ _ = heads (sym c.2 ∙ e) in
     let more : c.1 ≡ _ = tails (sym c.2 ∙ e) in
     (subst (λ b. IsTrue (is_delimiter b)) same c.3, subst₂ (λ b t. ContextText b t q rest) same more c.4)
+
+-- a byte of an address that is none of its signs is a digit
+pub only_digit : (b : ℕ) → IsTrue (begins_address b) → b ≢ 36 → b ≢ 47 → b ≢ 92 → is_digit b ≡ true
+only_digit b begins f g h = grind (arith, begins, f, g, h)
+
+pub after_comma : {text second : List ℕ} → IsBehindComma text second → IsAfterComma text second
+after_comma {text = text} x = record {
+  blanks = x.blanks;
+  more = x.more;
+  front = x.front;
+  before = subst (λ b. Longest is_blank text x.blanks (b ∷ x.more)) x.is_comma x.before;
+  after = x.behind;
+}

@@ -20,7 +20,7 @@ begins_tail : {text rest : List ℕ} → BracketBegins text rest → EndsIn text
 begins_tail (b.negated {a = a} {b = c} h) = (a ∷ c ∷ [], refl)
 begins_tail (b.plain {b = c} n) = (c ∷ [], refl)
 
-list_behind_one : {text r s : List ℕ} → BracketList text r → BracketList text s → r ≡ s
+pub list_behind_one : {text r s : List ℕ} → BracketList text r → BracketList text s → r ≡ s
 list_behind_one {s = s} l m = let same = begins_one m.first l.first in
     tails (longest_one l.run (subst (λ t. Longest _ t m.inside (93 ∷ s)) same m.run)).1
 

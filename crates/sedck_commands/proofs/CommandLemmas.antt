@@ -1,7 +1,11 @@
 -- A command is its addresses, its marks and its verb.
-use Rattle.sedck_commands.proofs.Common.{◌≡◌, ℕ, Bool, ◌||◌, eqb, List, [], ◌∷◌, ◌++◌, Option, Some, None, length, refl, ap, ◌∙◌, subst₂, arith, list_any, option_or, Longest, Pattern, Previous, Expression, Address, AddressText, WrittenVerb, VerbText, Takes, CommandText, EndsIn, is_mark, IsOnlyAddress, has_previous, location_of, Location, unread, Cursor, unread_length, longest_one}
+use Rattle.sedck_commands.proofs.Common.{◌≡◌, ℕ, Bool, ◌||◌, eqb, List, [], ◌∷◌, ◌++◌, Option, Some, None, length, refl, ap, ◌∙◌, arith, list_any, option_or, IfSome, Longest, Place, PlaceText, Pattern, Previous, Expression, Address, AddressText, WrittenVerb, VerbText, CommandText, EndsIn, is_mark, IsOnlyAddress, has_previous, location_of, Location, unread, Cursor, unread_length, longest_one}
 use Rattle.sedck_commands.specs.Parts as p
-use Rattle.sedck_commands.specs.ReadItems.{IsEmptyAt}
+use Rattle.sedck_commands.specs.Program.{address_patterns}
+use Rattle.sedck_commands.specs.FirstFaults.{IsAfterComma, AreAddresses, EmptyVerb}
+use Rattle.sedck_commands.specs.Private.AddressReading.{EmptyOfPlace}
+use Rattle.sedck_commands.specs.ReadItems.{IsEmptyAt, AddressEmpty, CommandEmpty}
+use Rattle.sedck_commands.specs.ReadItems as r
 use Rattle.sedck_commands.proofs.OffsetLemmas.{tail_cut, tail_tail, tail_cons}
 use Rattle.sedck_commands.proofs.UniqueItems.{longest_along}
 use Rattle.sedck_commands.proofs.UniqueAddresses.{place_tail}
@@ -29,9 +33,6 @@ pub command_begins : {text r marks begins rest : List ℕ} {a b : Address} {n : 
     → Longest is_mark r marks begins → (c : CommandText text b n v rest) → c.begins ≡ begins
 command_begins {b = b} {v = v} only l c =
     (longest_one (longest_along (only b c.behind c.marks c.begins _ v c.addresses c.run c.verbs).1 c.run) l).1
-
-pub takes_along : {a b : Address} {m n : Bool} (v : WrittenVerb) → a ≡ b → m ≡ n → Takes v a m → Takes v b n
-takes_along v e f h = subst₂ (λ x y. Takes v x y) e f h
 
 -- ---- Locations
 
@@ -63,3 +64,22 @@ pub empty_append : (text : List ℕ) (ps qs : List Pattern) (o u : Option ℕ) �
 empty_append text ps qs None None h k = previous_append ps qs ∙ rw (h, k) refl
 empty_append text ps qs None (Some q) h k = (previous_append ps qs ∙ rw (h, k.0) refl, k.1)
 empty_append text ps qs (Some p) u h k = (previous_append ps qs ∙ rw h.0 refl, h.1)
+
+-- the first empty expression of two addresses
+pub emptied_two : {text behind second : List ℕ} {p : Place} (q : Place) (size : ℕ) (o u : Option ℕ) → PlaceText text p behind → EmptyOfPlace size text p o
+    → IsAfterComma behind second → EmptyOfPlace size second q u → IfSome (option_or o u) (AddressEmpty size text)
+emptied_two q size None None x h c k = tt
+emptied_two q size None (Some b) x h c k = r.second x h c k
+emptied_two q size (Some a) u x h c k = r.first h
+
+pub emptied_one : (text : List ℕ) (p : Place) (size : ℕ) (o : Option ℕ) → EmptyOfPlace size text p o → IfSome o (AddressEmpty size text)
+emptied_one text p size None h = tt
+emptied_one text p size (Some a) h = r.first h
+
+-- the first empty expression of a command
+pub emptied_command : {text behind marks begins : List ℕ} {a : Address} (size : ℕ) (whole : List ℕ) (o u : Option ℕ)
+    → IsEmptyAt whole (address_patterns a) o → IfSome o (AddressEmpty size text) → AreAddresses text a behind → Longest is_mark behind marks begins
+    → IfSome u (EmptyVerb size begins) → IfSome (option_or o u) (CommandEmpty size text)
+emptied_command size whole None None n h x l k = tt
+emptied_command size whole None (Some b) n h x l k = r.of_verb x n l k
+emptied_command size whole (Some a) u n h x l k = r.of_address h

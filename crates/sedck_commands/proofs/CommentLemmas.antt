@@ -25,7 +25,7 @@ no_inner_return line first is last front behind e = by first is last
           | inr (inr before) ↦ absurd (is.0.before (length front) (omega arith) before here)
         ]
 
-return_cut : (line : List ℕ) (at : ℕ) → is_byte 13 (get_or line at 0) ≡ true → at < length line → line ≡ take at line ++ 13 ∷ drop (suc at) line
+pub return_cut : (line : List ℕ) (at : ℕ) → is_byte 13 (get_or line at 0) ≡ true → at < length line → line ≡ take at line ++ 13 ∷ drop (suc at) line
 return_cut line at is within = split_at line at 0 within ∙ ap (λ b. take at line ++ b ∷ drop (suc at) line) (eqb-true _ 13 is)
 
 -- where one is before another byte

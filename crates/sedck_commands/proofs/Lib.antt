@@ -1,6 +1,7 @@
 mod Common
 pub mod CursorPlaces
 pub mod LineBytes
+mod FaultLemmas3
 pub mod FirstBytes
 pub mod NumberLemmas
 pub mod CommandEnds
@@ -25,12 +26,25 @@ pub mod FormLemmas
 pub mod CommandLemmas
 pub mod StateLemmas
 pub mod ProgressLemmas
+pub mod ItemFaults
 pub mod LocationLemmas
 pub mod ReferenceLemmas
 pub mod LiteralLengths
 pub mod PlaceLemmas
 pub mod BracketLemmas
 pub mod EscapeLemmas
+pub mod FaultLemmas1
 pub mod PlacesWithin
 pub mod ReplacementParts
 pub mod NothingAsked
+pub mod FaultLemmas2
+pub mod OneFaultEnds
+pub mod OneFaultParts
+pub mod OneFaultReplacements
+pub mod OneFaultAddresses
+pub mod OneFaultFlags
+pub mod OneFaultLabels
+pub mod OneFaultVerbs
+pub mod OneFaultItems
+pub mod OneFaultCauses
+pub mod FaultRefuses

@@ -1,5 +1,6 @@
 -- How far a delimited part has been read.
-use Rattle.sedck_commands.proofs.Common.{◌≡◌, ◌≢◌, ℕ, ◌-◌, ◌<◌, ◌≤◌, take, length-append, Some, None, inl, inr, ◌⊎◌, List, [], ◌∷◌, ◌++◌, length, refl, ap, sym, ◌∙◌, subst, append_assoc, append-nil, arith, DelimitedExpression, ExpressionText, DelimitedList, previous, expression, IsExpression, IsPattern, Piece, nat_tests, Tree, Pattern, Previous, Expression, IsPiece, IsReadUpTo, IsWrittenUpTo, list_escape, PatternText, unread, Cursor, unread_length, nil_from_length}
+use Rattle.sedck_commands.proofs.Common.{◌≡◌, ◌≢◌, ℕ, ◌-◌, ◌<◌, ◌≤◌, take, length-append, Some, None, inl, inr, ◌⊎◌, List, [], ◌∷◌, ◌++◌, length, refl, ap, sym, ◌∙◌, subst, append_assoc, append-nil, arith, DelimitedExpression, ExpressionText, DelimitedList, previous, expression, IsExpression, IsPattern, Piece, nat_tests, Tree, Pattern, Previous, Expression, IsPiece, IsReadUpTo, IsWrittenUpTo, list_escape, PatternText, unread, Cursor, unread_length, nil_from_length, ScriptFault}
+use Rattle.sedck_commands.specs.FirstFaults.{CutFault}
 use Rattle.sedck_commands.specs.Parts as p
 use Rattle.sedck_commands.specs.declared.delimited.Piece.TheVariants as piece
 use Rattle.sedck_expressions.specs.Shape.{SpellsTree}
@@ -40,16 +41,25 @@ expression_end {d} {behind = behind} h e = rw append-nil at (h.sound [] behind (
 
 -- where nothing has been read
 pub written_none : {d : ℕ} (text : Cursor) → IsWrittenUpTo d text text
-written_none text = record { same = refl; written = []; cut = refl; passed = record { sound = λ e r x. x; only = λ e r x. (e, x) } }
+written_none text = record {
+  same = refl;
+  written = [];
+  cut = refl;
+  passed = record { sound = λ e r x. x; only = λ e r x. (e, x) };
+  onward = λ size opening fault wrong. wrong;
+}
 
 -- one more piece that is no escaped delimiter
 pub written_more : {d : ℕ} {text rest behind : Cursor} (front : List ℕ) → behind.whole ≡ rest.whole → unread rest ≡ front ++ unread behind
-    → IsReadUpTo (DelimitedExpression d) (unread rest) front (unread behind) → IsWrittenUpTo d text rest → IsWrittenUpTo d text behind
-written_more {behind = behind} front same e s h = record {
+    → IsReadUpTo (DelimitedExpression d) (unread rest) front (unread behind)
+    → ((size opening : ℕ) (fault : ScriptFault) → CutFault size opening d (unread behind) fault → CutFault size opening d (unread rest) fault)
+    → IsWrittenUpTo d text rest → IsWrittenUpTo d text behind
+written_more {behind = behind} front same e s more h = record {
   same = same ∙ h.same;
   written = h.written ++ front;
   cut = h.cut ∙ ap (λ t. h.written ++ t) e ∙ sym (append_assoc h.written front (unread behind));
   passed = piece_more (h.written ++ front) refl h.passed s;
+  onward = λ size opening fault wrong. h.onward size opening fault (more size opening fault wrong);
 }
 
 -- what is written between the cursors, as a part of a view of the text

@@ -1,5 +1,5 @@
 -- What is at the place of an end of the text.
-use Rattle.sedck_commands.proofs.Common.{◌≡◌, ◌≢◌, ℕ, ◌+◌, ◌<◌, ◌-◌, Bool, true, false, not, List, [], ◌∷◌, ◌++◌, length, take, drop, refl, ap, sym, ◌∙◌, subst, subst₂, append_assoc, length-append, arith, IsTrue, drop-drop, length-drop, unread, Follows, Cursor, first_there, unread_length, Bor, false≢true, false_from_ne_true, not_from_false, both_ways, is_in, one_of, ScriptFault, is_digit, is_delimiter, IsEmptyOr, Longest, Place, Address, Pattern, Previous, Expression, Verb, place_patterns, Number, DelimitedExpression, PlaceText, AddressText, IsPattern, WrittenVerb, Simple, VerbText, EndsOrFails, StandsWhere, is_extra, begins_address, IsPlaced, verb_bytes, IsPartPlaced, is_mark, IsBehindComma, BeginsNoPlace, has_previous, written_patterns}
+use Rattle.sedck_commands.proofs.Common.{◌≡◌, ◌≢◌, ℕ, suc, inl, inr, ◌+◌, ◌<◌, ◌-◌, Bool, true, false, not, List, [], ◌∷◌, ◌++◌, length, take, drop, refl, ap, sym, ◌∙◌, subst, subst₂, append_assoc, length-append, arith, IsTrue, drop-drop, length-drop, unread, Follows, Cursor, first_there, unread_length, Bor, false≢true, false_from_ne_true, not_from_false, both_ways, is_in, one_of, ScriptFault, is_digit, is_delimiter, IsEmptyOr, Longest, Place, Address, Pattern, Previous, Expression, Verb, place_patterns, Number, DelimitedExpression, PlaceText, AddressText, IsPattern, WrittenVerb, Simple, VerbText, EndsOrFails, StandsWhere, is_extra, begins_address, IsPlaced, verb_bytes, IsPartPlaced, is_mark, IsBehindComma, BeginsNoPlace, has_previous, written_patterns}
 use Rattle.std.specs.Prelude.{if◌then◌else◌}
 use Rattle.sedck_commands.proofs.CursorPlaces.{stands_here, fails_here, read_more, verb_before}
 use Rattle.std.proofs.lemmas.Bool.{cond_both}
@@ -8,6 +8,7 @@ use Rattle.sedck_commands.specs.Program.{verb_patterns}
 use Rattle.sedck_commands.specs.Parts as p
 use Rattle.sedck_commands.specs.Items as w
 use Rattle.sedck_commands.specs.Faults.{BeginsCommand, IsVerbDue, begins_part, IsNoNumber, IsNoSecondAddress, IsEmptyExpression, IsUnread}
+use Rattle.sedck_commands.specs.FirstFaults.{EmptyPlace, EmptyVerb}
 use Rattle.sedck_commands.specs.Private.AddressReading.{IsSecond}
 use Rattle.sedck_commands.proofs.OffsetLemmas.{tail_length, expression_tail, take_front}
 use Rattle.sedck_commands.proofs.UniqueParts.{digit_no_end}
@@ -125,6 +126,18 @@ empty_address from behind h k (p.custom {delimiter = d} {text = text} e a x y) s
     let ended = empty_end (no_expression (is_previous some) y) x.cut in
     closed_here (from + 1) behind a (sym (drop-drop 1 from behind.whole.now) ∙ ap (drop 1) h ∙ ap (λ t. d ∷ t) ended) k
 
+-- an address that is an empty expression ends with its second delimiter
+pub emptied_place : {text rest : List ℕ} {q : Place} (size offset : ℕ) → offset + suc (length rest) ≡ size → PlaceText text q rest
+    → has_previous (place_patterns q) ≡ true → EmptyPlace size text offset
+emptied_place size offset at (p.line n) some = absurd (false≢true some)
+emptied_place size offset at (p.last e) some = absurd (false≢true some)
+emptied_place {rest = rest} size offset at (p.context {text = text} e x y) some =
+    let ended = empty_end (no_expression (is_previous some) y) x.cut in
+    inl (rest, ap (λ b. b ∷ text) e ∙ ap (λ t. 47 ∷ t) ended, refl, at)
+emptied_place {rest = rest} size offset at (p.custom {delimiter = d} {text = text} e a x y) some =
+    let ended = empty_end (no_expression (is_previous some) y) x.cut in
+    inr (d, d ∷ text, ap (λ b. b ∷ d ∷ text) e, (rest, ap (λ t. d ∷ t) ended, a, at))
+
 simple_plain : {b : ℕ} {v : Verb} → Simple b v → has_previous (verb_patterns v) ≡ true → ⊥
 simple_plain w.line_number h = false≢true h
 simple_plain _ h = false≢true h
@@ -146,6 +159,15 @@ empty_verb_place begins h (w.substitute {delimiter = d} {text = text} {behind = 
     )
 empty_verb_place begins h (w.simple x e) some = absurd (simple_plain x some)
 empty_verb_place begins h _ some = absurd (false≢true some)
+
+-- the same, said of the text that begins with the verb
+pub emptied_verb : {text rest : List ℕ} {v : WrittenVerb} (size offset : ℕ) → offset + length text ≡ size + 2 → VerbText text v rest
+    → has_previous (written_patterns v) ≡ true → EmptyVerb size text offset
+emptied_verb size offset at (w.substitute {delimiter = d} {text = text} {behind = rest} e a x q z g f) some =
+    let ended = empty_end (no_expression (sym (flags_leave f).0 ∙ is_previous some) q) x.cut in
+    (d, d ∷ text, ap (λ b. b ∷ d ∷ text) e, (rest, ap (λ t. d ∷ t) ended, a, omega (arith, at, ap length ended)))
+emptied_verb size offset at (w.simple x e) some = absurd (simple_plain x some)
+emptied_verb size offset at _ some = absurd (false≢true some)
 
 -- ---- Flags
 

@@ -1,19 +1,20 @@
 -- How the items of a script go on.
-use Rattle.sedck_commands.proofs.Common.{◌≡◌, ℕ, suc, ◌<◌, ◌≤◌, ◌-◌, Bool, true, false, not, List, [], ◌∷◌, ◌++◌, length, take, map, Some, refl, ap, sym, ◌∙◌, subst, append_assoc, append-nil, length-append, inl, inr, ◌⊎◌, arith, slice_get, is_newline, is_separator, Longest, Bor, HashMap, slice_get_within, nil_from_length, Address, NoAddress, Label, Ends, WrittenVerb, Known, JumpTo, Opening, VerbText, Takes, CommandText, Item, Written, Closing, Items, EndsIn, HasLabels, commands_among, is_braced, DefinesKnown, item_of, locations_in, Turn, Opens, Closes, Stays, Jumps, verb_turn, location_of, locations_of, Location, IsOnlyLocation, AreFirstLocations, IsProgress, BeginsCommand, IsBeyond, longest_one, unread, Cursor, read_unread, unread_length}
+use Rattle.sedck_commands.proofs.Common.{◌≡◌, ℕ, suc, ◌<◌, ◌-◌, Bool, false, not, List, [], ◌∷◌, ◌++◌, length, take, map, Some, refl, ap, sym, ◌∙◌, subst, append_assoc, append-nil, length-append, inl, inr, arith, slice_get, is_newline, is_separator, Longest, slice_get_within, nil_from_length, Address, NoAddress, Label, Ends, WrittenVerb, Known, Opening, VerbText, Takes, CommandText, Item, Written, Closing, Items, EndsIn, item_of, locations_in, Turn, Opens, Closes, Stays, Jumps, verb_turn, location_of, locations_of, Location, IsOnlyLocation, AreFirstLocations, IsProgress, BeginsCommand, longest_one, unread, Cursor, read_unread, unread_length}
 use Rattle.std.proofs.Common.{◌↔◌}
 use Rattle.sedck_commands.specs.Items as w
 use Rattle.sedck_commands.specs.Labels.{IsLabelOf, AreLabelsOnce}
 use Rattle.sedck_commands.specs.Private.CommentReading.{CommentText}
 use Rattle.sedck_commands.specs.Blocks.{Turned, Nests}
 use Rattle.sedck_commands.specs.Private.Progress.{IsFront}
-use Rattle.sedck_commands.specs.ReadItems.{HasNoItems}
+use Rattle.sedck_commands.specs.FirstFaults.{ItemsFault}
+use Rattle.sedck_commands.specs.declared.fault.ScriptFault.{ScriptFault}
 use Rattle.sedck_commands.specs.declared.items.Progress.{Progress}
 use Rattle.sedck_commands.proofs.FirstBytes.{tails, heads}
 use Rattle.sedck_commands.proofs.OffsetLemmas.{tail_cut, tail_tail, tail_length, verb_text_shorter}
 use Rattle.sedck_commands.proofs.LabelPlaces.{get_front, get_seam}
 use Rattle.sedck_commands.proofs.UniqueParts.{ends_one}
 use Rattle.sedck_commands.proofs.CommandLemmas.{address_tail}
-use Rattle.sedck_commands.proofs.StateLemmas.{among_append, Deeper}
+use Rattle.sedck_commands.proofs.StateLemmas.{Deeper}
 use Rattle.sedck_commands.proofs.UniqueItems.{longest_along, command_one, no_command_other, no_command_end, empty_is_not}
 
 -- ---- Separators
@@ -23,7 +24,7 @@ no_more : {test : ℕ → Bool} {text front rest : List ℕ} → Longest test te
 no_more l = record { cut = refl; passes = refl; stops = l.stops }
 
 -- separators before what begins without one
-skipped : {text separators begins none starts : List ℕ} → Longest is_separator text separators begins → Longest is_separator begins none starts
+pub skipped : {text separators begins none starts : List ℕ} → Longest is_separator text separators begins → Longest is_separator begins none starts
     → Longest is_separator text separators starts
 skipped {text} {separators} l m = subst (λ t. Longest is_separator text separators t) (sym (longest_one m (no_more l)).1) l
 
@@ -121,35 +122,17 @@ front_closing {b} {items = items} f e h k = record {
 
 -- ---- Refusals
 
--- a `}` without a block
-pub front_unopened : {b : ℕ} {text begins behind : List ℕ} {items : List Item} {depth : ℕ} → IsFront text items depth begins → begins ≡ b ∷ behind
-    → b ≡ 125 → depth ≡ 0 → HasNoItems text
-front_unopened {items = items} {depth = depth} f e h none all x few once nests =
-    let one = f.only all x in
-    let step = closing_first e h one.2 in
-    subst (λ d. Nests (Closing ∷ step.0) d) none (subst (λ t. Nests t depth) step.2 (f.nested one.0 (subst (λ t. Nests t 0) one.1 nests)))
-
--- a comment that has a carriage return inside
-pub front_no_comment : {b : ℕ} {text begins behind : List ℕ} {items : List Item} {depth : ℕ} → IsFront text items depth begins → begins ≡ b ∷ behind
-    → b ≡ 35 → ((line rest : List ℕ) → CommentText behind line rest → ⊥) → HasNoItems text
-front_no_comment f e h none all x few once nests = let comment = comment_first e h (f.only all x).2 in none comment.0 comment.1 comment.2
-
--- a `}` without its end
-pub front_unended : {b : ℕ} {text begins behind : List ℕ} {items : List Item} {depth : ℕ} → IsFront text items depth begins → begins ≡ b ∷ behind
-    → b ≡ 125 → ((rest : List ℕ) → Ends behind rest → ⊥) → HasNoItems text
-front_unended f e h none all x few once nests = let step = closing_first e h (f.only all x).2 in none step.1 step.3
-
 -- ---- Commands
 
 pub command_shorter : {text rest : List ℕ} {a : Address} {n : Bool} {v : WrittenVerb} → CommandText text a n v rest → length rest < length text
 command_shorter c = omega (arith, tail_length (address_tail c.addresses), tail_length (tail_cut c.run), verb_text_shorter c.verbs)
 
-label_item : {a : Address} {n : Bool} {name : List ℕ} (v : WrittenVerb) → v ≡ Known (Label name) → Takes v a n
+pub label_item : {a : Address} {n : Bool} {name : List ℕ} (v : WrittenVerb) → v ≡ Known (Label name) → Takes v a n
     → Written a n v ≡ Written NoAddress false (Known (Label name))
 label_item {a} {n} v e t = let x = subst (λ u. Takes u a n) e t in cc (x.0, x.1, e)
 
 -- a label that is there already
-twice : (items more all : List Item) (name : List ℕ) (i : ℕ) → IsLabelOf items name i
+pub twice : (items more all : List Item) (name : List ℕ) (i : ℕ) → IsLabelOf items name i
     → all ≡ items ++ Written NoAddress false (Known (Label name)) ∷ more → AreLabelsOnce all → ⊥
 twice items more all name i here e once =
     let first : IsLabelOf all name i = rw e (get_front items _ i _ here) in
@@ -198,35 +181,6 @@ front_command {depth} {deep} {begins = begins} {items = items} {a = a} {n = n} {
       (f.nested (Written a n v ∷ more) (rw (append_assoc items (Written a n v ∷ []) more) at x));
 }
 
-too_deep : (v : WrittenVerb) (depth : ℕ) (P : ℕ → Type 0) → v ≡ Opening → 64 ≤ depth → Turned (verb_turn v) P depth → ⊥
-too_deep v depth P e h t = let x = subst (λ u. Turned (verb_turn u) P depth) e t in omega (arith, x.0)
-
-too_braced : (v : WrittenVerb) (depth : ℕ) (P : ℕ → Type 0) → is_braced v ≡ true → 2 ≤ depth → Turned (verb_turn v) P depth → ⊥
-too_braced (Known v) depth P e h t = absurd (cc e)
-too_braced (JumpTo tests label braced) depth P e h t = omega (arith, t.0 e, h)
-too_braced Opening depth P e h t = absurd (cc e)
-
--- a command that may not be there
-pub front_refused : {S : Type 0} {text begins : List ℕ} {items : List Item} {depth count : ℕ} (labels : HashMap (Bor (List ℕ)) ℕ S)
-    → IsFront text items depth begins → BeginsCommand begins → HasLabels labels (commands_among items) → count ≡ length (commands_among items)
-    → ((a : Address) (n : Bool) (v : WrittenVerb) (rest : List ℕ) → CommandText begins a n v rest → DefinesKnown labels v ⊎ IsBeyond depth count v)
-    → HasNoItems text
-front_refused {items = items} {depth = depth} {count = count} labels f k h e none all x few once nests =
-    let one = f.only all x in
-    let first = command_first k one.2 in
-    let item = Written first.0 first.1 first.2 in
-    let among : commands_among all ≡ commands_among items ++ item ∷ commands_among first.4 =
-    ap commands_among (one.1 ∙ ap (λ t. items ++ t) first.5) ∙ among_append items (item ∷ first.4) in
-    let behind = rw first.5 at (f.nested one.0 (rw one.1 at nests)) in
-    let size = length-append (commands_among items) (item ∷ commands_among first.4) in
-    elim (none _ _ first.2 _ first.6) [
-      | inl known ↦ twice (commands_among items) (commands_among first.4) (commands_among all) known.0 known.1 (h.at known.0 known.1 known.3)
-          (among ∙ ap (λ y. commands_among items ++ y ∷ commands_among first.4) (label_item first.2 known.2 first.6.taken)) once
-      | inr (inl deep) ↦ too_deep first.2 depth (Nests first.4) deep.0 deep.1 behind
-      | inr (inr (inl braced)) ↦ too_braced first.2 depth (Nests first.4) braced.0 braced.1 behind
-      | inr (inr (inr many)) ↦ omega (arith, e, many, few, ap length among, size)
-    ]
-
 opening_last : {text rest : List ℕ} {v : WrittenVerb} → v ≡ Opening → VerbText text v rest → text ≡ 123 ∷ rest
 opening_last e (w.opening h) = rw h refl
 opening_last e _ = absurd (cc e)
@@ -256,8 +210,21 @@ behind_begins begins rest same c = omega (arith, command_shorter c, unread_lengt
 -- the same is known where another rest is left
 pub progress_at : {text old new : List ℕ} {progress : Progress} → IsProgress text old progress
     → IsFront text (map item_of progress.items.items) (length progress.open_blocks.items) new
-    → AreFirstLocations text new (locations_in progress.items.items) → IsProgress text new progress
-progress_at p f l = record { front = f; labels = p.labels; count = p.count; located = l; few = p.few; label_places = p.label_places; opened = p.opened; empty = p.empty }
+    → AreFirstLocations text new (locations_in progress.items.items)
+    → ((fault : ScriptFault) → ItemsFault (length text) (map item_of progress.items.items) progress.open_blocks.items new fault
+    → ItemsFault (length text) (map item_of progress.items.items) progress.open_blocks.items old fault) → IsProgress text new progress
+progress_at p f l back = record {
+  front = f;
+  labels = p.labels;
+  count = p.count;
+  located = l;
+  few = p.few;
+  label_places = p.label_places;
+  opened = p.opened;
+  empty = p.empty;
+  emptied = p.emptied;
+  faults = λ fault x. p.faults fault (back fault x);
+}
 
 -- where nothing but separators is left, the items are read
 pub front_done : {text rest separators begins : List ℕ} {items : List Item} {depth : ℕ} → IsFront text items depth rest
@@ -270,15 +237,6 @@ items_end l (w.nothing m) = refl
 items_end l (w.comment m i n r x) = empty_is_not (longest_one l m).1
 items_end l (w.closing m i f x) = empty_is_not (longest_one l m).1
 items_end l (w.command m c x) = no_command_end (longest_one m l).1 c
-
--- where blocks are open at the end
-pub front_unclosed : {text rest separators begins : List ℕ} {items : List Item} {depth : ℕ} → IsFront text items depth rest
-    → Longest is_separator rest separators begins → length begins ≡ 0 → 0 < depth → HasNoItems text
-front_unclosed {rest = rest} {separators = separators} {begins = begins} {depth = depth} f l e some all x few once nests =
-    let one = f.only all x in
-    let none : one.0 ≡ [] = items_end (subst (λ t. Longest is_separator rest separators t) (nil_from_length begins e) l) one.2 in
-    let closed : depth ≡ 0 = subst (λ t. Nests t depth) none (f.nested one.0 (subst (λ t. Nests t 0) one.1 nests)) in
-    omega arith
 
 pub front_closed : {text rest : List ℕ} {items : List Item} {depth : ℕ} → IsFront text items depth rest → depth ≡ 0 → Nests items 0
 front_closed {items = items} f e = subst (λ t. Nests t 0) (append-nil items) (f.nests [] e)

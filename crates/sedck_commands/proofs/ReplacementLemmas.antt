@@ -8,7 +8,7 @@ use Rattle.sedck_commands.specs.Private.ReplacementReading.{IsGroupWithin, IsFir
 use Rattle.sedck_commands.proofs.FirstBytes.{heads}
 use Rattle.sedck_commands.proofs.UniqueParts.{at_piece, replacement_first, whole_behind, run_behind, escaped_one}
 
-plain_from : (d b : ℕ) → b ≢ d → b ≢ 92 → b ≢ 10 → b ≢ 38 → is_plain d b ≡ true
+pub plain_from : (d b : ℕ) → b ≢ d → b ≢ 92 → b ≢ 10 → b ≢ 38 → is_plain d b ≡ true
 plain_from d b h i j k = not_from_false _ (or_from _ _ (ne_eqb b d h) (or_from _ _ (ne_eqb b 92 i) (or_from _ _ (ne_eqb b 10 j) (ne_eqb b 38 k))))
 
 pub first_whole : {d b : ℕ} {text behind : List ℕ} (g : ℕ) → d ≢ 92 → IsPiece d text (piece.Byte b) behind → b ≡ 38 → IsFirstPart d g text Whole behind
@@ -19,7 +19,7 @@ first_whole g n h e = record {
   only = λ all r x. whole_behind n h e x;
 }
 
-run_of : (d b : ℕ) (text behind run after : List ℕ) → text ≡ b ∷ behind → is_plain d b ≡ true → Longest (is_plain d) text run after
+pub run_of : (d b : ℕ) (text behind run after : List ℕ) → text ≡ b ∷ behind → is_plain d b ≡ true → Longest (is_plain d) text run after
     → (bytes : List ℕ) × (run ≡ b ∷ bytes)
 run_of d b text behind (c ∷ run) after e h l = let same : c ≡ b = sym (heads (sym e ∙ l.cut)) in (run, ap (λ a. a ∷ run) same)
 run_of d b text behind [] [] e h l = absurd (cc (e, l.cut))

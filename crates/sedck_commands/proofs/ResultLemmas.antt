@@ -40,3 +40,8 @@ if_err_each Q (Err e) h = h e
 pub if_err_same : {A E : Type 0} (P : List ℕ → E → Type 0) (r : Result A E) (e : E) {whole other : Bor (List ℕ)} → IsErrAnd r (λ y. y ≡ e) → other ≡ whole
     → P other.now e → IfErr r (P whole.now)
 if_err_same P r e {whole} {other} h same p = if_err_from (P whole.now) r e h (subst (λ w. P w.now e) same p)
+
+-- the same, where more is known of the caller's
+pub if_err_along : {A E : Type 0} (P : List ℕ → E → Type 0) (Q : E → Type 0) (r : Result A E) (e : E) {whole other : Bor (List ℕ)} → IsErrAnd r (λ y. y ≡ e)
+    → other ≡ whole → (P whole.now e → Q e) → P other.now e → IfErr r Q
+if_err_along P Q r e {whole} {other} h same f p = if_err_from Q r e h (f (subst (λ w. P w.now e) same p))

@@ -1,8 +1,9 @@
 -- What is known of the items read so far, when one more is read.
-use Rattle.sedck_commands.proofs.Common.{◌≡◌, ℕ, suc, ◌<◌, Bool, List, [], ◌∷◌, ◌++◌, length, Option, Some, None, refl, ap, sym, ◌∙◌, subst, append-nil, length-append, arith, ascii, Address, WrittenVerb, Known, JumpTo, Opening, Takes, Item, Written, Closing, StandsAt, Turn, Opens, Closes, Stays, Jumps, verb_turn, commands_among, HasLabels, label_place, locations_in, written_verb, patterns_of, item_patterns, IsWrittenAt, NotesLabel, Bor, HashMap, All-push, is_braced, DefinesKnown}
+use Rattle.sedck_commands.proofs.Common.{◌≡◌, ℕ, suc, ◌<◌, Bool, List, [], ◌∷◌, ◌++◌, length, drop, map, IfSome, option_or, append_assoc, item_of, Option, Some, None, refl, ap, sym, ◌∙◌, subst, append-nil, length-append, arith, ascii, Address, WrittenVerb, Known, JumpTo, Opening, Takes, Item, Written, Closing, StandsAt, Turn, Opens, Closes, Stays, Jumps, verb_turn, commands_among, HasLabels, label_place, locations_in, written_verb, patterns_of, item_patterns, IsWrittenAt, NotesLabel, Bor, HashMap, All-push, is_braced, DefinesKnown}
 use Rattle.std.specs.Prelude.{All}
 use Rattle.std.proofs.Math.ListN.{get_or-append}
 use Rattle.sedck_commands.specs.ReadAlike.{MayBeBraced}
+use Rattle.sedck_commands.specs.ReadItems.{IsEmptyAt, CommandEmpty, EmptyOf}
 use Rattle.sedck_commands.specs.Private.Progress.{NotesBlock}
 use Rattle.std.proofs.lemmas.List.Concat.{flat_map-append}
 use Rattle.sedck_commands.specs.declared.items.WrittenCommand.{WrittenCommand}
@@ -25,6 +26,23 @@ patterns_push xs x = flat_map-append patterns_of xs (x ∷ []) ∙ ap (λ t. ite
 
 pub patterns_closing : (xs : List Item) → item_patterns (xs ++ Closing ∷ []) ≡ item_patterns xs
 patterns_closing xs = patterns_push xs Closing ∙ append-nil (item_patterns xs)
+
+-- ---- Empty expressions
+
+pub emptied_more : (text : List ℕ) (items added : List WrittenItem) (o : Option ℕ) → EmptyOf text items o → EmptyOf text (items ++ added) o
+emptied_more text items added None h = tt
+emptied_more text items added (Some place) h =
+    (h.0, h.1 ++ added, h.2, ap (λ t. t ++ added) h.3 ∙ append_assoc h.0 (item.Command h.2 ∷ h.1) added, h.4, h.5)
+
+-- the first empty expression after one more command
+pub emptied_push : (text : List ℕ) (items : List WrittenItem) (c : WrittenCommand) (old new : Option ℕ)
+    → IsEmptyAt text (item_patterns (map item_of items)) old → EmptyOf text items old
+    → IfSome new (CommandEmpty (length text) (drop c.location.start text)) → EmptyOf text (items ++ item.Command c ∷ []) (option_or old new)
+emptied_push text items c (Some place) new none h k = emptied_more text items (item.Command c ∷ []) (Some place) h
+emptied_push text items c None None none h k = tt
+emptied_push text items c None (Some place) none h k = (items, [], c, refl, none, k)
+
+-- ---- Locations
 
 pub locations_push : (xs : List WrittenItem) (c : WrittenCommand) → locations_in (xs ++ item.Command c ∷ []) ≡ locations_in xs ++ c.location ∷ []
 locations_push [] c = refl

@@ -1,7 +1,7 @@
 -- The addresses of a command are the only ones.
 use Rattle.sedck_commands.proofs.Common.{◌≡◌, ℕ, true, List, [], ◌∷◌, refl, ap, sym, ◌∙◌, subst, both_ways, not-true, is_blank, Longest, Place, Address, NoAddress, One, Two, PlaceText, AddressText, WrittenVerb, VerbText, is_mark, BeginsNoPlace, IsOnlyAddress, IsBehindComma, longest_one, EndsIn}
 use Rattle.sedck_commands.specs.Parts as p
-use Rattle.sedck_commands.specs.Private.AddressReading.{begins_address, BeginsPlace, IsNoCommand, HasNoComma}
+use Rattle.sedck_commands.specs.Private.AddressReading.{begins_address, BeginsPlace, HasNoComma}
 use Rattle.sedck_commands.proofs.UniqueItems.{place_first, place_other, place_no_mark, no_verb_here, no_place_here, no_comma_here, longest_along, place_one}
 use Rattle.sedck_commands.proofs.OffsetLemmas.{tail_cons, number_tail, expression_tail}
 use Rattle.sedck_commands.proofs.FirstBytes.{heads, tails}
@@ -52,15 +52,6 @@ refused_by : {text s marks begins left : List ℕ} {b : Address} {v : WrittenVer
 refused_by f n p.none m v = no_verb_here f.2 (place_no_mark f.0 f.3) (place_other f.0 f.3) m v
 refused_by f n (p.one x) m v = n _ _ x
 refused_by f n (p.two x c h d y) m v = n _ _ x
-
--- where an address begins that is none
-pub no_first : {text : List ℕ} → BeginsPlace text → ((q : Place) (r : List ℕ) → PlaceText text q r → ⊥) → IsNoCommand text
-no_first f n given negated verb rest c = refused_by f n c.addresses c.run c.verbs
-
--- where after a comma no address is
-pub no_second : {text r second : List ℕ} {q : Place} → PlaceText text q r → IsBehindComma r second
-    → ((u : Place) (t : List ℕ) → PlaceText second u t → ⊥) → IsNoCommand text
-no_second x l n given negated verb rest c = n _ _ (second_at x l c.addresses c.run c.verbs).2
 
 -- ---- Tails
 

@@ -1,5 +1,5 @@
 -- A text has one list of items at most.
-use Rattle.sedck_commands.proofs.Common.{◌≡◌, ◌≢◌, ℕ, Bool, true, false, not, ◌||◌, eqb, cond, List, [], ◌∷◌, refl, ap, sym, ◌∙◌, subst, inl, inr, ◌⊎◌, arith, list_any, list_all, false≢true, or_left, and_parts, and_from, one_of, is_blank, is_digit, Longest, Pattern, Place, Address, One, Verb, Ends, ExpressionText, PlaceText, AddressText, ExpressionTextIn, IsPatternIn, PlaceTextIn, AddressTextIn, WrittenVerb, Simple, VerbText, CommandText, Item, Written, Items, VerbTextIn, CommandTextIn, ItemsIn, is_mark, longest_one, Narrowings}
+use Rattle.sedck_commands.proofs.Common.{◌≡◌, ◌≢◌, ℕ, Bool, true, false, not, ◌||◌, eqb, cond, List, [], ◌∷◌, refl, ap, sym, ◌∙◌, subst, inl, inr, ◌⊎◌, arith, list_any, list_all, false≢true, or_left, and_parts, and_from, one_of, is_blank, is_digit, Longest, Pattern, Place, Address, One, Verb, ExpressionTextIn, IsPatternIn, PlaceTextIn, AddressTextIn, WrittenVerb, Simple, Item, Written, VerbTextIn, CommandTextIn, ItemsIn, is_mark, longest_one, Narrowings}
 use Rattle.sedck_commands.specs.Program.{Line, Context}
 use Rattle.sedck_commands.specs.Parts as p
 use Rattle.sedck_commands.specs.Items as w

@@ -1,13 +1,11 @@
 -- What follows a verb's byte, by its byte.
-use Rattle.sedck_commands.proofs.Common.{◌≡◌, ℕ, Bool, true, false, eqb, inl, inr, List, [], ◌∷◌, Option, Some, None, is_some, refl, ap, sym, ◌∙◌, subst, Bor, HashMap, codes, list_all, false≢true, eqb-true, and_parts, is_in, one_of, is_blank, Longest, Verb, Ends, LabelText, GivenText, Name, WrittenVerb, JumpTo, Simple, VerbText, IsNoBrace, jump_byte, label_place, BranchText, DefinesKnown, longest_one}
+use Rattle.sedck_commands.proofs.Common.{◌≡◌, ℕ, Bool, true, false, eqb, inl, inr, List, [], ◌∷◌, Option, Some, None, refl, ap, sym, ◌∙◌, subst, codes, list_all, false≢true, eqb-true, and_parts, is_in, one_of, is_blank, Longest, Verb, Ends, GivenText, Name, WrittenVerb, JumpTo, Simple, VerbText, jump_byte, BranchText, longest_one}
 use Rattle.std.proofs.lemmas.Bool.{or_cases}
 use Rattle.sedck_commands.specs.Items as w
-use Rattle.sedck_commands.proofs.UniqueParts.{label_one}
 use Rattle.sedck_commands.proofs.UniqueVerbs.{NoVerb, class, class_of, begins, differ, simple_class, jump_class}
-use Rattle.sedck_commands.proofs.FlagLemmas.{some_of}
 
 -- what each byte of a list passes, a byte of it passes
-of_all : (test : ℕ → Bool) (bytes : List ℕ) (b : ℕ) → is_in b bytes ≡ true → list_all test bytes ≡ true → test b ≡ true
+pub of_all : (test : ℕ → Bool) (bytes : List ℕ) (b : ℕ) → is_in b bytes ≡ true → list_all test bytes ≡ true → test b ≡ true
 of_all test [] b h all = absurd (false≢true h)
 of_all test (c ∷ bytes) b h all =
     let both = and_parts (test c) (list_all test bytes) all in
@@ -37,21 +35,6 @@ no_name b h n verb rest x = no_byte_of (codes "rw") b h x refl refl
 pub simple_no_end : {b : ℕ} {text : List ℕ} {simple : Verb} → Simple b simple → ((r : List ℕ) → Ends text r → ⊥) → NoVerb (b ∷ text)
 simple_no_end s n verb rest (w.simple x e) = n rest e
 simple_no_end s n verb rest x = differ 0 (class_of x) refl (sym (simple_class s) ∙ begins x)
-
-pub no_definition_at : {text : List ℕ} → ((name behind rest : List ℕ) → LabelText text name behind → IsNoBrace behind → Ends behind rest → ⊥)
-    → NoVerb (58 ∷ text)
-no_definition_at n verb rest (w.label h l k e) = n _ _ rest l k e
-no_definition_at n verb rest x = differ 58 (class_of x) refl (begins x)
-
-pub no_definition_end : {text name behind : List ℕ} → LabelText text name behind → ((rest : List ℕ) → Ends behind rest → ⊥) → NoVerb (58 ∷ text)
-no_definition_end l n = no_definition_at (λ name behind rest m k e. n rest (subst (λ t. Ends t rest) (label_one m l).1 e))
-
--- a label that is there already
-pub defines_known : {S : Type 0} (labels : HashMap (Bor (List ℕ)) ℕ S) {text name behind : List ℕ} → LabelText text name behind
-    → is_some (label_place labels name) ≡ true → (verb : WrittenVerb) (rest : List ℕ) → VerbText (58 ∷ text) verb rest → DefinesKnown labels verb
-defines_known labels l some verb rest (w.label h m k e) =
-    let at = some_of _ some in (_, at.0, refl, ap (label_place labels) (label_one m l).0 ∙ at.1)
-defines_known labels l some verb rest x = absurd (differ 58 (class_of x) refl (begins x))
 
 pub jump_read : {text rest : List ℕ} {tests braced : Bool} (label : Option (List ℕ)) → BranchText text label braced rest
     → VerbText (jump_byte tests ∷ text) (JumpTo tests label braced) rest

@@ -1,10 +1,10 @@
 -- A script's text as items: commands, with labels where targets will be, and closings of blocks (POSIX.1-2024 XCU sed, "Editing Commands in sed").
 -- "Ours" marks what the standard leaves open or undefined.
-use Rattle.std.specs.Prelude.{◌≡◌, ◌≢◌, ℕ, Bool, false, not, ◌||◌, ◌==◌, if◌then◌else◌, List, [], ◌∷◌, length, Option, Some, None, IsTrue}
+use Rattle.std.specs.Prelude.{◌≡◌, ℕ, Bool, not, ◌||◌, ◌==◌, if◌then◌else◌, List, [], ◌∷◌, length, Some, None, IsTrue}
 use Rattle.std.specs.List.{list_any}
 use Rattle.sedck_text.specs.Text.{begins}
 use Rattle.sedck_text.specs.Bytes.{ascii}
-use Rattle.sedck_commands.specs.Cuts.{is_newline, is_blank, is_separator, is_delimiter, IsEmptyOr, Longest}
+use Rattle.sedck_commands.specs.Cuts.{is_newline, is_blank, is_separator, is_delimiter, Longest}
 use Rattle.sedck_commands.specs.Program.{Pattern, Address, Part, Substitution, Verb, Label, Append, Change, Insert, Read, Write, Substitute, Transliterate, Delete, DeleteFirstLine, Get, GetAppend, Hold, HoldAppend, List', Next, NextAppend, Print, PrintFirstLine, Quit, Exchange, LineNumber}
 pub use Rattle.sedck_commands.specs.Program.{WrittenVerb, Known, JumpTo, Opening}
 use Rattle.sedck_commands.specs.Narrowings.{Listed, Replaced, AfterLabel, AfterJump, Taken, Commented, Narrowings}

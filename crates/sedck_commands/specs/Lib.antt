@@ -24,6 +24,7 @@ pub mod ItemView
 pub mod Labels
 pub mod Blocks
 pub mod ReadItems
+pub mod FirstFaults
 pub mod Laws
 -- What functions inside the crate promise each other.
 pub mod Private

@@ -1,7 +1,7 @@
 -- The parts of a command (POSIX.1-2024 XCU sed, "Addresses in sed", "Regular Expressions in sed" and "Editing Commands in sed"). Each relation takes the
 -- text from where the part begins, what the part means, and the rest of the text; some take first what is asked besides. "Ours" marks what the standard
 -- leaves open or undefined.
-use Rattle.std.specs.Prelude.{◌≡◌, ◌≢◌, ℕ, ◌<◌, ◌≤◌, ◌^◌, ◌-◌, true, false, not, List, [], ◌∷◌, length, Some, None, IsTrue, Contains}
+use Rattle.std.specs.Prelude.{◌≡◌, ◌≢◌, ℕ, ◌<◌, ◌≤◌, ◌^◌, ◌-◌, true, false, not, List, [], ◌∷◌, length, Some, None, IsTrue}
 use Rattle.std.specs.Str.Parse.{digits_value}
 use Rattle.sedck_bre.specs.Shape.{SpellsTree}
 use Rattle.sedck_text.specs.Bytes.{ascii}

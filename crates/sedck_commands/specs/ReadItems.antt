@@ -1,7 +1,10 @@
 -- What is known of the items that were read from a text, as where their labels and empty expressions are.
-use Rattle.std.specs.Prelude.{◌≡◌, ℕ, ◌≤◌, Bool, true, false, List, [], ◌∷◌, ◌++◌, length, map, flat_map, All, Option, Some, None, IfSome, option_copied}
+use Rattle.std.specs.Prelude.{◌≡◌, ℕ, ◌+◌, ◌≤◌, Bool, true, false, List, [], ◌∷◌, ◌++◌, length, drop, map, flat_map, All, Option, Some, None, IfSome, option_copied}
 use Rattle.sedck_text.specs.Text.{one_of}
-use Rattle.sedck_commands.specs.Program.{Pattern, Previous, Expression, Label, address_patterns, verb_patterns}
+use Rattle.sedck_text.specs.Classes.{is_mark}
+use Rattle.sedck_commands.specs.Cuts.{Longest}
+use Rattle.sedck_commands.specs.Parts.{PlaceText}
+use Rattle.sedck_commands.specs.Program.{Pattern, Previous, Expression, Place, Address, Label, place_patterns, address_patterns, verb_patterns}
 use Rattle.sedck_commands.specs.Items.{WrittenVerb, Known, JumpTo, Opening, Item, Written, Closing, Items}
 use Rattle.sedck_commands.specs.View.{verb_of}
 use Rattle.sedck_commands.specs.ItemView.{item_of, locations_in}
@@ -9,10 +12,12 @@ use Rattle.sedck_commands.specs.Locations.{locations_of}
 use Rattle.sedck_commands.specs.Labels.{commands_among, AreLabelsOnce, HasLabels}
 use Rattle.sedck_commands.specs.Blocks.{Nests}
 use Rattle.sedck_commands.specs.Faults.{IsLabelBehind, IsEmptyExpression, IsPlaced}
+use Rattle.sedck_commands.specs.FirstFaults.{LabelBeginsAt, IsAfterComma, AreAddresses, EmptyPlace, EmptyVerb}
 use Rattle.sedck_commands.specs.declared.fault.ScriptFault.TheVariants.{BadLabel}
 use Rattle.sedck_commands.specs.declared.labels.Jump.{Jump}
 use Rattle.sedck_commands.specs.declared.items.Written.{Written as WrittenCode}
 use Rattle.sedck_commands.specs.declared.items.Written.TheVariants as code
+use Rattle.sedck_commands.specs.declared.items.WrittenCommand.{WrittenCommand}
 use Rattle.sedck_commands.specs.declared.items.WrittenItem.{WrittenItem}
 use Rattle.sedck_commands.specs.declared.items.WrittenItem.TheVariants as item
 use Rattle.sedck_commands.specs.declared.items.Progress.{Progress}
@@ -33,9 +38,20 @@ IsWrittenAt text (code.Label name) = Unit {0}
 IsWrittenAt text (code.JumpTo jump) = IsJumpAt text jump
 IsWrittenAt text code.Opening = Unit {0}
 
--- an item's label begins at its place
+-- this text, which ends one of this size, is right after the verb: the label of a branch or a test begins at its offset there, after blanks
+abbrev pub IsJumpIn : ℕ → List ℕ → WrittenCode → Type 0
+IsJumpIn size text (code.JumpTo jump) = IfSome (option_copied jump.label) (λ name. LabelBeginsAt size text name jump.offset)
+IsJumpIn size text (code.Known verb) = Unit {0}
+IsJumpIn size text (code.Label name) = Unit {0}
+IsJumpIn size text code.Opening = Unit {0}
+
+-- where the command's verb is a branch or a test, its label is the one after this very verb
+abbrev pub IsLabelOfCommand : List ℕ → WrittenCommand → Type 0
+IsLabelOfCommand text c = IsJumpIn (length text) (drop (c.location.verb + 1) text) c.verb
+
+-- an item's label begins at its place, and is that of its own verb
 abbrev pub IsItemAt : List ℕ → WrittenItem → Type 0
-IsItemAt text (item.Command c) = IsWrittenAt text c.verb
+IsItemAt text (item.Command c) = IsWrittenAt text c.verb × IsLabelOfCommand text c
 IsItemAt text item.Closing = Unit {0}
 
 -- one of the patterns is empty
@@ -48,6 +64,18 @@ has_previous (Expression tree ∷ patterns) = has_previous patterns
 abbrev pub IsEmptyAt : List ℕ → List Pattern → Option ℕ → Type 0
 IsEmptyAt text patterns None = has_previous patterns ≡ false
 IsEmptyAt text patterns (Some place) = (has_previous patterns ≡ true) × IsEmptyExpression text place
+
+-- at the offset ends the first empty expression of the addresses with which the text begins
+pub data AddressEmpty (size : ℕ) (text : List ℕ) (offset : ℕ) : Type 0 where
+  first : EmptyPlace size text offset → AddressEmpty size text offset
+  second : {place : Place} {behind second : List ℕ} → PlaceText text place behind → has_previous (place_patterns place) ≡ false
+      → IsAfterComma behind second → EmptyPlace size second offset → AddressEmpty size text offset
+
+-- at the offset ends the first empty expression of the command with which the text begins
+pub data CommandEmpty (size : ℕ) (text : List ℕ) (offset : ℕ) : Type 0 where
+  of_address : AddressEmpty size text offset → CommandEmpty size text offset
+  of_verb : {address : Address} {behind marks begins : List ℕ} → AreAddresses text address behind → has_previous (address_patterns address) ≡ false
+      → Longest is_mark behind marks begins → EmptyVerb size begins offset → CommandEmpty size text offset
 
 -- the patterns of a verb
 abbrev pub written_patterns : WrittenVerb → List Pattern
@@ -63,6 +91,12 @@ patterns_of Closing = []
 abbrev pub item_patterns : List Item → List Pattern
 item_patterns items = flat_map patterns_of items
 
+-- Where there is a place, the first empty expression of the items ends there: that of the first item that has one.
+abbrev pub EmptyOf : List ℕ → List WrittenItem → Option ℕ → Type 0
+EmptyOf text items None = Unit {0}
+EmptyOf text items (Some place) = (front more : List WrittenItem) × (c : WrittenCommand) × (items ≡ front ++ item.Command c ∷ more)
+    × (has_previous (item_patterns (map item_of front)) ≡ false) × CommandEmpty (length text) (drop c.location.start text) place
+
 -- These items of the text have been read: its commands, with their places in it, and the closings of its blocks.
 pub record IsRead (text : List ℕ) (progress : Progress) : Type 0 where
   pub spelled : Items text (map item_of progress.items.items)
@@ -73,6 +107,7 @@ pub record IsRead (text : List ℕ) (progress : Progress) : Type 0 where
   pub few : progress.count ≤ 4095
   pub label_places : All (IsItemAt text) progress.items.items
   pub empty : IsEmptyAt text (item_patterns (map item_of progress.items.items)) progress.empty
+  pub emptied : EmptyOf text progress.items.items progress.empty
 
 -- the text has no items that close each block and are within the limits, and whose labels are there once
 abbrev pub HasNoItems : List ℕ → Type 0

@@ -7,12 +7,14 @@ ghost use Rattle.sedck_commands.specs.Parts.{PlaceText, AddressText, Number};
 ghost use Rattle.sedck_commands.specs.Faults.{IsPlaced, IsOfText};
 ghost use Rattle.sedck_text.specs.Cursors.{unread, Follows};
 ghost use Rattle.sedck_commands.specs.Private.PieceReading.{IsPartPlaced};
-ghost use Rattle.sedck_commands.specs.Private.AddressReading.{begins_address, ContextText, CustomText, BeginsPlace, BeginsNoPlace, IsOnlyAddress, IsNoCommand, IsBehindComma, HasNoComma, IsSecond, BeginsNoSecond};
-ghost use Rattle.sedck_commands.specs.ReadItems.{has_previous, IsEmptyAt};
+ghost use Rattle.sedck_commands.specs.Private.AddressReading.{begins_address, ContextText, CustomText, BeginsPlace, BeginsNoPlace, IsOnlyAddress, IsNoCommand, IsBehindComma, HasNoComma, IsSecond, BeginsNoSecond, EmptyOfPlace};
+ghost use Rattle.sedck_commands.specs.ReadItems.{has_previous, IsEmptyAt, AddressEmpty};
 ghost use Rattle.std.specs.List.{list_all};
 ghost use Rattle.std.specs.Str.Parse.{digits_value};
 ghost use Rattle.sedck_commands.specs.Program as clean;
 ghost use Rattle.sedck_commands.specs.View as view;
+ghost use Rattle.sedck_commands.specs.FirstFaults.{BeginsAt, PatternFault, PlaceFault, AddressFault, AreAddresses};
+ghost use Rattle.sedck_text.specs.Bytes.{ascii};
 
 use crate::bytes::{NUMBER_LIMIT, is_delimiter, is_digit};
 use crate::delimited::read_pattern;
@@ -41,6 +43,7 @@ fn read_context<'a>(
     ensures same { IfOk result (λ x. x.1.whole ≡ text.entry.whole) }
     ensures refused { IfErr result (λ fault. IsOfText fault → (p : clean.Place) (rest : List ℕ) → ContextText delimiter (unread text.entry) p rest → ⊥) }
     ensures placed { IfErr result (λ fault. IsPartPlaced opening text.entry.whole.now fault) }
+    ensures first { IfErr result (λ fault. IsOfText fault → PatternFault (length text.entry.whole.now) opening delimiter (unread text.entry) fault) }
 {
     let (pattern, rest) = read_pattern(alloc, opening, delimiter, text)?;
     Ok((Place::Context(pattern), rest))
@@ -56,6 +59,8 @@ fn read_custom_context<'a>(
     ensures same { IfOk result (λ x. x.1.whole ≡ text.entry.whole) }
     ensures refused { IfErr result (λ fault. IsOfText fault → (p : clean.Place) (rest : List ℕ) → CustomText (unread text.entry) p rest → ⊥) }
     ensures placed { IfErr result (λ fault. IsPartPlaced opening text.entry.whole.now fault) }
+    ensures first { IfErr result (λ fault. IsOfText fault → (begins : List ℕ) → begins ≡ ascii "\\" ∷ unread text.entry
+        → BeginsAt (length text.entry.whole.now) begins opening → PlaceFault (length text.entry.whole.now) begins fault) }
 {
     let Some((delimiter, behind)) = text.split_first() else {
         return Err(ScriptFault::Unterminated { place: opening });
@@ -79,8 +84,8 @@ fn read_place<'a>(
     requires begins { IsTrue (begins_address first) }
     ensures read { IfOk result (λ x. PlaceText (unread text.entry) (view.place_of x.0) (unread x.1)) }
     ensures same { IfOk result (λ x. x.1.whole ≡ text.entry.whole) }
-    ensures refused { IfErr result (λ fault. IsOfText fault → (p : clean.Place) (rest : List ℕ) → PlaceText (unread text.entry) p rest → ⊥) }
     ensures placed { IfErr result (λ fault. IsPlaced text.entry.whole.now fault) }
+    ensures first { IfErr result (λ fault. IsOfText fault → PlaceFault (length text.entry.whole.now) (unread text.entry) fault) }
 {
     if first == b'$' {
         return Ok((Place::Last, behind));
@@ -108,8 +113,8 @@ fn split_place<'a>(
     ensures same { IfOk result (λ x. IfSome x (λ y. y.1.whole ≡ text.entry.whole)) }
     ensures none { IfOk result (λ x. IfNone x (BeginsNoPlace (unread text.entry))) }
     ensures begins { IfErr result (λ fault. BeginsPlace (unread text.entry)) }
-    ensures refused { IfErr result (λ fault. IsOfText fault → (p : clean.Place) (rest : List ℕ) → PlaceText (unread text.entry) p rest → ⊥) }
     ensures placed { IfErr result (λ fault. IsPlaced text.entry.whole.now fault) }
+    ensures first { IfErr result (λ fault. IsOfText fault → PlaceFault (length text.entry.whole.now) (unread text.entry) fault) }
 {
     let Some((first, behind)) = text.split_first() else {
         return Ok(None);
@@ -142,8 +147,9 @@ fn split_second<'a>(
     ensures read { IfOk result (λ x. IfSome x (λ y. IsSecond (unread text.entry) (view.place_of y.0) (unread y.1))) }
     ensures same { IfOk result (λ x. IfSome x (λ y. y.1.whole ≡ text.entry.whole)) }
     ensures none { IfOk result (λ x. IfNone x (HasNoComma (unread text.entry))) }
-    ensures refused { IfErr result (λ fault. IsOfText fault → BeginsNoSecond (unread text.entry)) }
     ensures placed { IfErr result (λ fault. IsPlaced text.entry.whole.now fault) }
+    ensures first { IfErr result (λ fault. IsOfText fault → (begins : List ℕ) (place : clean.Place) → PlaceText begins place (unread text.entry)
+        → AddressFault (length text.entry.whole.now) begins fault) }
 {
     let Some(second) = skip_comma(text) else {
         return Ok(None);
@@ -166,8 +172,10 @@ fn is_previous(pattern: &Pattern) -> bool
 /// The offset of the address's expression, where that is empty: its closing delimiter, right before what follows the address.
 fn empty_offset(place: &Place, behind: Cursor<'_>) -> Option<usize>
     requires { 0 < behind.at }
-    ensures { (from : ℕ) → PlaceText (drop from behind.entry.whole.now) (view.place_of place.now) (unread behind.entry)
+    ensures empty { (from : ℕ) → PlaceText (drop from behind.entry.whole.now) (view.place_of place.now) (unread behind.entry)
         → IsEmptyAt behind.entry.whole.now (place_patterns (view.place_of place.now)) result }
+    ensures emptied { (text : List ℕ) → PlaceText text (view.place_of place.now) (unread behind.entry)
+        → EmptyOfPlace (length behind.entry.whole.now) text (view.place_of place.now) result }
 {
     let Place::Context(pattern) = place else {
         return None;
@@ -187,8 +195,10 @@ pub fn split_address<'a>(
     ensures same { IfOk result (λ x. x.2.whole ≡ text.entry.whole) }
     ensures only { IfOk result (λ x. IsOnlyAddress (unread text.entry) (view.address_of x.0) (unread x.2)) }
     ensures empty { IfOk result (λ x. IsEmptyAt text.entry.whole.now (address_patterns (view.address_of x.0)) x.1) }
-    ensures refused { IfErr result (λ fault. IsOfText fault → IsNoCommand (unread text.entry)) }
+    ensures emptied { IfOk result (λ x. IfSome x.1 (AddressEmpty (length text.entry.whole.now) (unread text.entry))) }
     ensures placed { IfErr result (λ fault. IsPlaced text.entry.whole.now fault) }
+    ensures all { IfOk result (λ x. AreAddresses (unread text.entry) (view.address_of x.0) (unread x.2)) }
+    ensures first { IfErr result (λ fault. IsOfText fault → AddressFault (length text.entry.whole.now) (unread text.entry) fault) }
 {
     let Some((from, behind)) = split_place(alloc, text)? else {
         return Ok((Address::None, None, text));

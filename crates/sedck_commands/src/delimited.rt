@@ -1,6 +1,6 @@
 //! Parts between delimiters, and bracket lists in them.
 
-ghost use Rattle.std.specs.Prelude.{◌≡◌, ◌<◌, ◌-◌, ◌∷◌, ℕ, List, IsTrue, IfOk, IfErr, ◌⊎◌, ◌==◌, not, [], IfSome, IfNone};
+ghost use Rattle.std.specs.Prelude.{◌≡◌, ◌<◌, ◌-◌, ◌∷◌, ℕ, List, IsTrue, IfOk, IfErr, ◌⊎◌, ◌==◌, not, [], IfSome, IfNone, length};
 ghost use Rattle.std.specs.Cow.{cow_slice_items};
 ghost use Rattle.sedck_text.specs.Bytes.{ascii};
 ghost use Rattle.sedck_commands.specs.Cuts.{is_delimiter, Longest};
@@ -16,6 +16,7 @@ ghost use Rattle.sedck_commands.specs.declared.delimited.Piece.{Piece};
 ghost use Rattle.sedck_commands.specs.BracketLists.{BracketBegins, BracketList, BracketsClose};
 ghost use Rattle.sedck_bre.specs.Faults as expressions;
 ghost use Rattle.sedck_commands.specs.Program as clean;
+ghost use Rattle.sedck_commands.specs.FirstFaults.{PieceFault, CutFault, ExpressionTextFault, PatternFault, ListFault, FirstListFault};
 
 use crate::bytes::{can_be_escaped, is_digit, is_letter};
 use crate::fault::ScriptFault;
@@ -50,6 +51,7 @@ pub fn read_piece<'a>(
     ensures same { IfOk result (λ x. x.1.whole ≡ text.entry.whole) }
     ensures refused { IfErr result (λ fault. (piece : Piece) (rest : List ℕ) → IsPiece delimiter (unread text.entry) piece rest → ⊥) }
     ensures placed { IfErr result (λ fault. IsPartPlaced opening text.entry.whole.now fault) }
+    ensures first { IfErr result (λ fault. PieceFault (length text.entry.whole.now) opening delimiter (unread text.entry) fault) }
 {
     let unterminated = ScriptFault::Unterminated { place: opening };
     let Some((first, behind)) = text.split_first() else {
@@ -104,6 +106,7 @@ fn read_expression<'a>(
     ensures refused { IfErr result (λ fault. IsOfText fault → (expression : List ℕ) (rest : List ℕ)
         → DelimitedExpression delimiter (unread text.entry) expression rest → ⊥) }
     ensures placed { IfErr result (λ fault. IsPartPlaced opening text.entry.whole.now fault) }
+    ensures first { IfErr result (λ fault. IsOfText fault → CutFault (length text.entry.whole.now) opening delimiter (unread text.entry) fault) }
 {
     let mut rest = text;
     'pieces: loop {
@@ -141,6 +144,7 @@ fn read_replaced<'a>(
     ensures refused { IfErr result (λ fault. IsOfText fault → (expression : List ℕ) (rest : List ℕ)
         → DelimitedExpression delimiter (unread text.entry) expression rest → ⊥) }
     ensures placed { IfErr result (λ fault. IsPartPlaced opening text.entry.whole.now fault) }
+    ensures first { IfErr result (λ fault. IsOfText fault → CutFault (length text.entry.whole.now) opening delimiter (unread text.entry) fault) }
 {
     let written = &text.unread()[..behind_written.offset() - text.offset()];
     let mut bytes = Vec::from_slice(alloc, written)?;
@@ -219,6 +223,7 @@ fn read_expression_text<'a>(
     ensures refused { IfErr result (λ fault. IsOfText fault → (expression : List ℕ) (rest : List ℕ)
         → ExpressionText delimiter (unread text.entry) expression rest → ⊥) }
     ensures placed { IfErr result (λ fault. IsPartPlaced opening text.entry.whole.now fault) }
+    ensures first { IfErr result (λ fault. IsOfText fault → ExpressionTextFault (length text.entry.whole.now) opening delimiter (unread text.entry) fault) }
 {
     let (bytes, escape, rest) = read_expression(alloc, opening, delimiter, text)?;
     if let Some(place) = escape {
@@ -233,6 +238,7 @@ fn read_expression_text<'a>(
 fn expression_fault(place: usize, fault: ReFault) -> ScriptFault
     ensures memory { IsOfText result → expressions.IsOfText fault }
     ensures placed { (text : List ℕ) (opening : ℕ) → (expressions.IsOfText fault → IsRefusedExpression text place fault) → IsPartPlaced opening text result }
+    ensures cause { IsOfText result → result ≡ ScriptFault.BadExpression place fault }
 {
     match fault {
         ReFault::OutOfMemory => ScriptFault::OutOfMemory,
@@ -269,6 +275,7 @@ pub fn read_pattern<'a>(
         → (p ≡ pattern_of x.0) × (rest ≡ (unread x.1))) }
     ensures refused { IfErr result (λ fault. IsOfText fault → (p : clean.Pattern) (rest : List ℕ) → PatternText delimiter (unread text.entry) p rest → ⊥) }
     ensures placed { IfErr result (λ fault. IsPartPlaced opening text.entry.whole.now fault) }
+    ensures first { IfErr result (λ fault. IsOfText fault → PatternFault (length text.entry.whole.now) opening delimiter (unread text.entry) fault) }
 {
     let (bytes, rest) = read_expression_text(alloc, opening, delimiter, text)?;
     let bytes = bytes.as_slice();
@@ -293,6 +300,7 @@ pub fn read_list<'a>(
     ensures same { IfOk result (λ x. x.1.whole ≡ text.entry.whole) }
     ensures refused { IfErr result (λ fault. IsOfText fault → (bytes : List ℕ) (rest : List ℕ) → DelimitedList delimiter (unread text.entry) bytes rest → ⊥) }
     ensures placed { IfErr result (λ fault. IsPartPlaced opening text.entry.whole.now fault) }
+    ensures first { IfErr result (λ fault. IsOfText fault → ListFault (length text.entry.whole.now) opening delimiter (unread text.entry) fault) }
 {
     let mut bytes = Vec::new(alloc);
     let mut rest = text;
@@ -332,6 +340,7 @@ pub fn read_first_list<'a>(
     ensures same { IfOk result (λ x. x.1.whole ≡ text.entry.whole) }
     ensures refused { IfErr result (λ fault. IsOfText fault → (bytes : List ℕ) (rest : List ℕ) → FirstList delimiter (unread text.entry) bytes rest → ⊥) }
     ensures placed { IfErr result (λ fault. IsPartPlaced opening text.entry.whole.now fault) }
+    ensures first { IfErr result (λ fault. IsOfText fault → FirstListFault (length text.entry.whole.now) opening delimiter (unread text.entry) fault) }
 {
     let (bytes, rest) = read_list(alloc, opening, delimiter, text)?;
     let written = &text.unread()[..rest.offset() - text.offset() - 1];

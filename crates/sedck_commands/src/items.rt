@@ -10,6 +10,7 @@ ghost use Rattle.sedck_commands.specs.Private.Progress.{IsProgress, BeginsComman
 ghost use Rattle.sedck_commands.specs.ReadItems.{IsRead, HasNoItems};
 ghost use Rattle.sedck_commands.specs.ItemView.{written_verb};
 ghost use Rattle.sedck_commands.specs.Blocks.{verb_turn};
+ghost use Rattle.sedck_commands.specs.FirstFaults.{ItemsFault};
 
 use crate::commands::read_command;
 use crate::fault::ScriptFault;
@@ -84,8 +85,8 @@ fn close_block<'a>(
     ensures progress { IfOk result (λ rest. IsProgress begins.entry.whole.now (unread rest) progress.new) }
     ensures same { IfOk result (λ rest. rest.whole ≡ begins.entry.whole) }
     ensures shorter { IfOk result (λ rest. length (unread rest) < length (unread begins.entry)) }
-    ensures refused { IfErr result (λ fault. IsOfText fault → HasNoItems begins.entry.whole.now) }
     ensures placed { IfErr result (λ fault. IsPlaced begins.entry.whole.now fault) }
+    ensures first { IfErr result (λ fault. IsOfText fault → ItemsFault (length begins.entry.whole.now) [] [] begins.entry.whole.now fault) }
 {
     let Some(_) = progress.open_blocks.pop() else {
         return Err(ScriptFault::UnopenedBlock {
@@ -171,8 +172,8 @@ fn add_command<'a>(
     ensures progress { IfOk result (λ rest. IsProgress begins.entry.whole.now (unread rest) progress.new) }
     ensures same { IfOk result (λ rest. rest.whole ≡ begins.entry.whole) }
     ensures shorter { IfOk result (λ rest. length (unread rest) < length (unread begins.entry)) }
-    ensures refused { IfErr result (λ fault. IsOfText fault → HasNoItems begins.entry.whole.now) }
     ensures placed { IfErr result (λ fault. IsPlaced begins.entry.whole.now fault) }
+    ensures first { IfErr result (λ fault. IsOfText fault → ItemsFault (length begins.entry.whole.now) [] [] begins.entry.whole.now fault) }
 {
     let reader = Reader {
         cursor: begins,
@@ -201,8 +202,8 @@ fn read_item<'a>(
     ensures progress { IfOk result (λ rest. IsProgress begins.entry.whole.now (unread rest) progress.new) }
     ensures same { IfOk result (λ rest. rest.whole ≡ begins.entry.whole) }
     ensures shorter { IfOk result (λ rest. length (unread rest) < length (unread begins.entry)) }
-    ensures refused { IfErr result (λ fault. IsOfText fault → HasNoItems begins.entry.whole.now) }
     ensures placed { IfErr result (λ fault. IsPlaced begins.entry.whole.now fault) }
+    ensures first { IfErr result (λ fault. IsOfText fault → ItemsFault (length begins.entry.whole.now) [] [] begins.entry.whole.now fault) }
 {
     if first == b'#' {
         return read_comment(behind);
@@ -218,6 +219,7 @@ pub fn read_items<'a>(alloc: Global, text: &'a [u8]) -> Result<Progress<'a>, Scr
     ensures read { IfOk result (λ progress. IsRead text.now progress) }
     ensures refused { IfErr result (λ fault. IsOfText fault → HasNoItems text.now) }
     ensures placed { IfErr result (λ fault. IsPlaced text.now fault) }
+    ensures first { IfErr result (λ fault. IsOfText fault → ItemsFault (length text.now) [] [] text.now fault) }
 {
     let mut progress = Progress {
         items: Vec::new(alloc),

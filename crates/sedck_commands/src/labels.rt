@@ -1,9 +1,9 @@
 //! Labels after `:`, `b` and `t`, and the places of the commands that define them.
 
-ghost use Rattle.std.specs.Prelude.{◌≡◌, ◌<◌, ◌+◌, ℕ, Bool, false, List, Option, length, is_some, option_copied, IfOk, IfErr, IfSome, OnOk, Some, if◌then◌else◌};
+ghost use Rattle.std.specs.Prelude.{◌≡◌, ◌<◌, ◌+◌, ℕ, Bool, false, List, Option, length, is_some, option_copied, IfOk, IfErr, IfSome, OnOk, Some, if◌then◌else◌, ◌∷◌};
 ghost use Rattle.sedck_text.specs.Text.{begins, one_of};
 ghost use Rattle.sedck_text.specs.Cursors.{unread};
-ghost use Rattle.sedck_commands.specs.Cuts.{is_ending, is_label_byte, IsEmptyOr, Longest};
+ghost use Rattle.sedck_commands.specs.Cuts.{is_ending, is_label_byte, IsEmptyOr, Longest, is_separator};
 ghost use Rattle.sedck_commands.specs.Parts.{Ends, LabelText};
 ghost use Rattle.sedck_commands.specs.Items.{IsNoComment, IsNoBrace};
 ghost use Rattle.sedck_commands.specs.Private.Alike.{EndsJump};
@@ -14,6 +14,7 @@ ghost use Rattle.sedck_commands.specs.Labels.{label_place};
 ghost use Rattle.sedck_commands.specs.Private.LabelReading.{BranchText, IsBehindVerb, IsBehindLabel};
 ghost use Rattle.sedck_commands.specs.ReadItems.{IsJumpAt};
 ghost use Rattle.std.specs.Str.{bytes_eq};
+ghost use Rattle.sedck_commands.specs.FirstFaults.{LabelBeginsAt, DefinitionFault, JumpFault, ends_label, MayLackLabel};
 
 use crate::bytes::is_ending;
 use crate::fault::ScriptFault;
@@ -50,8 +51,9 @@ fn split_label<'a>(text: Cursor<'a>) -> (&'a [u8], usize, Cursor<'a>)
 fn check_behind_definition<'a>(behind: Cursor<'a>) -> Result<(), ScriptFault>
     requires { IsBehindLabel behind }
     ensures allowed { OnOk result (IsNoBrace (unread behind.entry)) }
-    ensures refused { IfErr result (λ fault. (rest : List ℕ) → IsNoBrace (unread behind.entry) → Ends (unread behind.entry) rest → ⊥) }
     ensures placed { IfErr result (λ fault. IsPlaced behind.entry.whole.now fault) }
+    ensures free { OnOk result (IsEmptyOr is_separator (unread behind.entry)) }
+    ensures first { IfErr result (λ fault. (b : ℕ) × (more : List ℕ) × (unread behind.entry ≡ b ∷ more) × (is_separator b ≡ false) × (fault ≡ ScriptFault.BadLabel behind.entry.at)) }
 {
     if let Some(next) = behind.first() {
         if !Class::Separator.has(next) {
@@ -69,9 +71,11 @@ pub fn read_definition<'a>(text: Cursor<'a>) -> Result<(&'a [u8], usize, Cursor<
     ensures read { IfOk result (λ x. LabelText (unread text.entry) x.0.now (unread x.2) × IsNoBrace (unread x.2)) }
     ensures same { IfOk result (λ x. x.2.whole ≡ text.entry.whole) }
     ensures label { IfOk result (λ x. IsLabelBehind (one_of ":") text.entry.whole.now x.1 x.0.now) }
-    ensures refused { IfErr result (λ fault. (name : List ℕ) (behind : List ℕ) (rest : List ℕ) → LabelText (unread text.entry) name behind
-        → IsNoBrace behind → Ends behind rest → ⊥) }
     ensures placed { IfErr result (λ fault. IsPlaced text.entry.whole.now fault) }
+    ensures at { IfOk result (λ x. IsLabelAt (unread text.entry) x.0.now (unread x.2)) }
+    ensures offset { IfOk result (λ x. x.1 + length x.0.now ≡ x.2.at) }
+    ensures free { IfOk result (λ x. IsEmptyOr is_separator (unread x.2)) }
+    ensures first { IfErr result (λ fault. DefinitionFault (length text.entry.whole.now) (unread text.entry) fault) }
 {
     let (name, offset, behind) = split_label(text);
     if name.is_empty() {
@@ -85,8 +89,9 @@ pub fn read_definition<'a>(text: Cursor<'a>) -> Result<(&'a [u8], usize, Cursor<
 fn check_behind_label<'a>(behind: Cursor<'a>) -> Result<(), ScriptFault>
     requires { IsBehindLabel behind }
     ensures allowed { OnOk result (IsNoComment (unread behind.entry)) }
-    ensures refused { IfErr result (λ fault. (rest : List ℕ) → IsNoComment (unread behind.entry) → Ends (unread behind.entry) rest → ⊥) }
     ensures placed { IfErr result (λ fault. IsPlaced behind.entry.whole.now fault) }
+    ensures free { OnOk result (IsEmptyOr ends_label (unread behind.entry)) }
+    ensures first { IfErr result (λ fault. (b : ℕ) × (more : List ℕ) × (unread behind.entry ≡ b ∷ more) × (ends_label b ≡ false) × (fault ≡ ScriptFault.BadLabel behind.entry.at)) }
 {
     if let Some(next) = behind.first() {
         if !Class::Separator.has(next) && next != b'}' {
@@ -118,8 +123,9 @@ fn end_of_jump<'a>(behind: Cursor<'a>) -> Result<Cursor<'a>, ScriptFault>
     requires { IsBehindLabel behind }
     ensures read { IfOk result (λ rest. EndsJump (unread behind.entry) (unread rest)) }
     ensures same { IfOk result (λ x. x.whole ≡ behind.entry.whole) }
-    ensures refused { IfErr result (λ fault. (rest : List ℕ) → EndsJump (unread behind.entry) rest → ⊥) }
     ensures placed { IfErr result (λ fault. IsPlaced behind.entry.whole.now fault) }
+    ensures first { IfErr result (λ fault. (text name : List ℕ) → IsLabelAt text name (unread behind.entry) → 0 < length name
+        → IsEmptyOr ends_label (unread behind.entry) → JumpFault (length behind.entry.whole.now) text fault) }
 {
     let rest = end_of_command(behind)?;
     if begins_braced_comment(rest.unread()) {
@@ -136,9 +142,8 @@ fn check_no_label<'a>(begins: Cursor<'a>) -> Result<(), ScriptFault>
     requires behind { IsBehindLabel begins }
     ensures allowed { OnOk result (IsNoComment (unread begins.entry) × IsEmptyOr is_ending (unread begins.entry)
         × (begins_braced_comment (unread begins.entry) ≡ false)) }
-    ensures refused { IfErr result (λ fault. IsNoComment (unread begins.entry) → IsEmptyOr is_ending (unread begins.entry)
-        → begins_braced_comment (unread begins.entry) ≡ false → ⊥) }
     ensures placed { IfErr result (λ fault. IsPlaced begins.entry.whole.now fault) }
+    ensures first { IfErr result (λ fault. (MayLackLabel (unread begins.entry) → ⊥) × (fault ≡ ScriptFault.BadLabel begins.entry.at)) }
 {
     if let Some(next) = begins.first() {
         if !is_ending(next) || next == b'#' || begins_braced_comment(begins.unread()) {
@@ -155,6 +160,7 @@ fn brace_behind<'a>(behind: Cursor<'a>) -> Option<usize>
     requires { IsBehindLabel behind }
     ensures brace { is_some result ≡ begins "}" (unread behind.entry) }
     ensures placed { IfSome result (λ place. IsPlaced behind.entry.whole.now (ScriptFault.BadLabel place)) }
+    ensures at { IfSome result (λ place. place ≡ behind.entry.at) }
 {
     if behind.unread().starts_with(b"}") {
         return Some(behind.offset());
@@ -169,8 +175,11 @@ pub fn read_jump<'a>(tests: bool, text: Cursor<'a>) -> Result<(Jump<'a>, Cursor<
     ensures same { IfOk result (λ x. x.1.whole ≡ text.entry.whole) }
     ensures tests { IfOk result (λ x. x.0.tests ≡ tests) }
     ensures label { IfOk result (λ x. IsJumpAt text.entry.whole.now x.0) }
-    ensures refused { IfErr result (λ fault. (label : Option (List ℕ)) (braced : Bool) (rest : List ℕ) → BranchText (unread text.entry) label braced rest → ⊥) }
     ensures placed { IfErr result (λ fault. IsPlaced text.entry.whole.now fault) }
+    ensures first { IfErr result (λ fault. JumpFault (length text.entry.whole.now) (unread text.entry) fault) }
+    ensures ends { IfOk result (λ x. IfSome x.0.brace (λ place. place ≡ x.1.at)) }
+    ensures jump { IfOk result (λ x. IfSome (option_copied x.0.label)
+        (λ name. LabelBeginsAt (length text.entry.whole.now) (unread text.entry) name x.0.offset)) }
 {
     let (name, offset, behind) = split_label(text);
     let brace = brace_behind(behind);

@@ -1,9 +1,10 @@
 //! Names of files, as commands give them.
 
-ghost use Rattle.std.specs.Prelude.{◌≡◌, ◌⊎◌, ℕ, List, IfSome, IfNone};
+ghost use Rattle.std.specs.Prelude.{◌≡◌, ◌⊎◌, ℕ, List, length, IfOk, IfErr};
 ghost use Rattle.sedck_commands.specs.Cuts.{is_continued};
 ghost use Rattle.sedck_commands.specs.Private.Alike.{Name};
 ghost use Rattle.sedck_commands.specs.Faults.{IsPlaced};
+ghost use Rattle.sedck_commands.specs.FirstFaults.{NameFault};
 ghost use Rattle.sedck_text.specs.Cursors.{unread};
 ghost use Rattle.sedck_commands.specs.Private.NameReading.{is_skipped};
 
@@ -42,43 +43,32 @@ fn is_skipped(byte: u8) -> bool
     matches!(byte, 11..=13)
 }
 
-/// The file name after the blanks at the start, and the text from the end of its line on.
-pub fn read_name<'a>(text: Cursor<'a>) -> Option<(&'a [u8], Cursor<'a>)>
-    ensures read { IfSome result (λ x. Name (unread text.entry) x.0.now (unread x.1)) }
-    ensures same { IfSome result (λ x. x.1.whole ≡ text.entry.whole) }
-    ensures none { IfNone result ((name : List ℕ) (rest : List ℕ) → Name (unread text.entry) name rest → ⊥) }
-{
-    let (name, rest) = text.skip(Class::Blank).split(Class::Except(b'\n'));
-    let [first, ..] = name else {
-        return None;
-    };
-    if is_skipped(*first) {
-        return None;
-    }
-    if !rest.unread().is_empty() && is_continued(name) {
-        return None;
-    }
-    Some((name, rest))
-}
-
-/// Why no name can be read after the verb or the flag at the place: there is none, or it is one that some seds read differently.
-pub fn name_fault<'a>(place: usize, text: Cursor<'a>) -> ScriptFault
-    ensures { (result ≡ ScriptFault.MissingName place) ⊎ IsPlaced text.entry.whole.now result }
+/// The file name after the blanks at the start, and the text from the end of its line on. The opening is that of the verb or the
+/// flag.
+pub fn read_name<'a>(
+    opening: usize,
+    text: Cursor<'a>,
+) -> Result<(&'a [u8], Cursor<'a>), ScriptFault>
+    ensures read { IfOk result (λ x. Name (unread text.entry) x.0.now (unread x.1)) }
+    ensures same { IfOk result (λ x. x.1.whole ≡ text.entry.whole) }
+    ensures refused { IfErr result (λ fault. (name : List ℕ) (rest : List ℕ) → Name (unread text.entry) name rest → ⊥) }
+    ensures placed { IfErr result (λ fault. (fault ≡ ScriptFault.MissingName opening) ⊎ IsPlaced text.entry.whole.now fault) }
+    ensures first { IfErr result (λ fault. NameFault (length text.entry.whole.now) opening (unread text.entry) fault) }
 {
     let begins = text.skip(Class::Blank);
-    let (name, _) = begins.split(Class::Except(b'\n'));
-    if name.is_empty() {
-        return ScriptFault::MissingName { place };
+    let (name, rest) = begins.split(Class::Except(b'\n'));
+    let [first, ..] = name else {
+        return Err(ScriptFault::MissingName { place: opening });
+    };
+    if is_skipped(*first) {
+        return Err(ScriptFault::ExtraText {
+            place: begins.offset(),
+        });
     }
-    let start = begins.offset();
-    let last = name.len() - 1;
-    if is_skipped(name[0]) {
-        return ScriptFault::ExtraText { place: start };
+    if !rest.unread().is_empty() && is_continued(name) {
+        return Err(ScriptFault::ExtraText {
+            place: rest.offset() - 1,
+        });
     }
-    if name[last] == b'\\' {
-        return ScriptFault::ExtraText {
-            place: start + last,
-        };
-    }
-    ScriptFault::MissingName { place }
+    Ok((name, rest))
 }

@@ -12,6 +12,7 @@ ghost use Rattle.sedck_commands.specs.References.{IsOutside};
 ghost use Rattle.sedck_commands.specs.Program.{part_length as length_of_part, literal_length as length_of_parts};
 ghost use Rattle.sedck_commands.specs.Private.Keeping.{may_keep, kept_with, kept_from};
 ghost use Rattle.sedck_commands.specs.Program as clean;
+ghost use Rattle.sedck_commands.specs.FirstFaults.{ReplacementFault};
 
 use crate::bytes::{is_digit, is_letter};
 use crate::delimited::{Piece, read_piece};
@@ -67,6 +68,10 @@ fn read_part<'a>(
     ensures refused { IfErr result (λ fault. (parts : List clean.Part) (rest : List ℕ)
         → Replacement delimiter (unread text.entry) parts rest → HasGroupsUpTo greatest parts → ⊥) }
     ensures placed { IfErr result (λ fault. IsPartPlaced opening text.entry.whole.now fault) }
+    ensures first { IfErr result (λ fault. ReplacementFault (length text.entry.whole.now) opening delimiter greatest (unread text.entry) fault) }
+    ensures next { IfOk result (λ x. IfSome x.0 (λ part. (fault : ScriptFault)
+        → ReplacementFault (length text.entry.whole.now) opening delimiter greatest (unread x.1) fault
+        → ReplacementFault (length text.entry.whole.now) opening delimiter greatest (unread text.entry) fault)) }
 {
     let (piece, behind) = read_piece(opening, delimiter, text)?;
     match piece {
@@ -105,6 +110,8 @@ pub fn read_replacement<'a>(
     ensures refused { IfErr result (λ fault. IsOfText fault → (parts : List clean.Part) (rest : List ℕ)
         → Replacement delimiter (unread text.entry) parts rest → HasGroupsUpTo greatest parts → ⊥) }
     ensures placed { IfErr result (λ fault. IsPartPlaced opening text.entry.whole.now fault) }
+    ensures first { IfErr result (λ fault. IsOfText fault
+        → ReplacementFault (length text.entry.whole.now) opening delimiter greatest (unread text.entry) fault) }
 {
     let mut parts = Vec::new(alloc);
     let mut rest = text;

@@ -8,9 +8,10 @@ ghost use Rattle.sedck_commands.specs.Items.{WrittenVerb, Known, VerbText};
 ghost use Rattle.sedck_commands.specs.Faults.{StandsAt, IsPlaced, IsOfText};
 ghost use Rattle.sedck_commands.specs.Private.PieceReading.{IsPartPlaced};
 ghost use Rattle.sedck_text.specs.Cursors.{unread, IsAhead, Follows};
-ghost use Rattle.sedck_commands.specs.Private.VerbReading.{AreLists};
-ghost use Rattle.sedck_commands.specs.ReadItems.{IsWrittenAt};
+ghost use Rattle.sedck_commands.specs.Private.VerbReading.{AreLists, IsBracedAt};
+ghost use Rattle.sedck_commands.specs.ReadItems.{IsWrittenAt, IsJumpIn};
 ghost use Rattle.sedck_commands.specs.ItemView.{written_verb};
+ghost use Rattle.sedck_commands.specs.FirstFaults.{HasNoDelimiter, SubstitutionFault, TransliterationFault};
 
 use crate::bytes::is_delimiter;
 use crate::delimited::{read_first_list, read_list, read_pattern};
@@ -29,6 +30,7 @@ fn split_delimiter<'a>(opening: usize, text: Cursor<'a>) -> Result<(u8, Cursor<'
     ensures ahead { IfOk result (λ x. IsAhead text.entry 1 x.1 × Follows x.1 x.0) }
     ensures refused { IfErr result (λ fault. (delimiter : ℕ) (rest : List ℕ) → unread text.entry ≡ delimiter ∷ rest → IsTrue (is_delimiter delimiter) → ⊥) }
     ensures placed { IfErr result (λ fault. (whole : List ℕ) → IsPartPlaced opening whole fault) }
+    ensures first { IfErr result (λ fault. HasNoDelimiter (unread text.entry) × (fault ≡ ScriptFault.Unterminated opening)) }
 {
     let unterminated = ScriptFault::Unterminated { place: opening };
     let Some((delimiter, behind)) = text.split_first() else {
@@ -50,8 +52,10 @@ pub fn read_substitution<'a>(
     ensures same { IfOk result (λ x. x.1.whole ≡ text.entry.whole) }
     ensures no_label { IfOk result (λ x. (name : List ℕ) → written_verb x.0 ≢ Known (clean.Label name)) }
     ensures label { IfOk result (λ x. IsWrittenAt text.entry.whole.now x.0) }
-    ensures refused { IfErr result (λ fault. IsOfText fault → (verb : WrittenVerb) (rest : List ℕ) → VerbText (ascii "s" ∷ unread text.entry) verb rest → ⊥) }
     ensures placed { IfErr result (λ fault. IsPlaced text.entry.whole.now fault) }
+    ensures first { IfErr result (λ fault. IsOfText fault → SubstitutionFault (length text.entry.whole.now) (text.entry.at - 1) (unread text.entry) fault) }
+    ensures brace { IfOk result (λ x. IsBracedAt x.1.at x.0) }
+    ensures jump { IfOk result (λ x. IsJumpIn (length text.entry.whole.now) (unread text.entry) x.0) }
 {
     let opening = text.offset() - 1;
     let (delimiter, opened) = split_delimiter(opening, text)?;
@@ -89,6 +93,8 @@ fn read_lists<'a>(
     ensures same { IfOk result (λ x. x.2.whole ≡ text.entry.whole) }
     ensures refused { IfErr result (λ fault. IsOfText fault → (from to rest : List ℕ) → AreLists delimiter (unread text.entry) from to rest → ⊥) }
     ensures placed { IfErr result (λ fault. IsPartPlaced opening text.entry.whole.now fault) }
+    ensures first { IfErr result (λ fault. IsOfText fault → (begins : List ℕ) → begins ≡ delimiter ∷ unread text.entry
+        → TransliterationFault (length text.entry.whole.now) opening begins fault) }
 {
     let (from, behind) = read_first_list(alloc, opening, delimiter, text)?;
     let (to, rest) = read_list(alloc, opening, delimiter, behind)?;
@@ -108,8 +114,10 @@ pub fn read_transliteration<'a>(
     ensures same { IfOk result (λ x. x.1.whole ≡ text.entry.whole) }
     ensures no_label { IfOk result (λ x. (name : List ℕ) → written_verb x.0 ≢ Known (clean.Label name)) }
     ensures label { IfOk result (λ x. IsWrittenAt text.entry.whole.now x.0) }
-    ensures refused { IfErr result (λ fault. IsOfText fault → (verb : WrittenVerb) (rest : List ℕ) → VerbText (ascii "y" ∷ unread text.entry) verb rest → ⊥) }
     ensures placed { IfErr result (λ fault. IsPlaced text.entry.whole.now fault) }
+    ensures first { IfErr result (λ fault. IsOfText fault → TransliterationFault (length text.entry.whole.now) (text.entry.at - 1) (unread text.entry) fault) }
+    ensures brace { IfOk result (λ x. IsBracedAt x.1.at x.0) }
+    ensures jump { IfOk result (λ x. IsJumpIn (length text.entry.whole.now) (unread text.entry) x.0) }
 {
     let opening = text.offset() - 1;
     let (delimiter, opened) = split_delimiter(opening, text)?;

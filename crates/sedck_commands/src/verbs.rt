@@ -1,6 +1,6 @@
 //! Verbs with what they take.
 
-ghost use Rattle.std.specs.Prelude.{◌≡◌, ◌≢◌, ◌-◌, ℕ, List, ◌∷◌, IfOk, IfErr};
+ghost use Rattle.std.specs.Prelude.{◌≡◌, ◌≢◌, ◌-◌, ℕ, List, ◌∷◌, IfOk, IfErr, length};
 ghost use Rattle.sedck_text.specs.Bytes.{ascii};
 ghost use Rattle.sedck_commands.specs.Program as clean;
 ghost use Rattle.sedck_commands.specs.Items.{WrittenVerb, Known, Simple, VerbText};
@@ -8,15 +8,16 @@ ghost use Rattle.sedck_commands.specs.Faults.{IsPlaced, IsOfText};
 ghost use Rattle.sedck_text.specs.Cursors.{unread, Follows};
 ghost use Rattle.sedck_commands.specs.View.{verb_of};
 ghost use Rattle.sedck_commands.specs.ItemView.{written_verb};
-ghost use Rattle.sedck_commands.specs.ReadItems.{IsWrittenAt};
-ghost use Rattle.sedck_commands.specs.Private.VerbReading.{DefinesKnown};
+ghost use Rattle.sedck_commands.specs.ReadItems.{IsWrittenAt, IsJumpIn};
+ghost use Rattle.sedck_commands.specs.Private.VerbReading.{DefinesKnown, HasLabel, IsBracedAt};
 ghost use Rattle.sedck_commands.specs.Private.Forms.{IsForm, text_byte, file_byte, jump_byte};
+ghost use Rattle.sedck_commands.specs.FirstFaults.{EndFault, TextFault, NameFault, LabelFault, JumpFault, VerbFault};
 
 use crate::fault::ScriptFault;
 use crate::forms::{Form, TextVerb};
 use crate::items::Written;
 use crate::labels::{place_of, read_definition, read_jump};
-use crate::names::{Access, name_fault, read_name};
+use crate::names::{Access, read_name};
 use crate::substitutions::{read_substitution, read_transliteration};
 use crate::texts::{end_of_command, read_text};
 use crate::types::Verb;
@@ -34,9 +35,10 @@ fn read_simple_verb<'a>(
     ensures same { IfOk result (λ x. x.1.whole ≡ text.entry.whole) }
     ensures no_label { IfOk result (λ x. (name : List ℕ) → written_verb x.0 ≢ Known (clean.Label name)) }
     ensures label { IfOk result (λ x. IsWrittenAt text.entry.whole.now x.0) }
-    ensures refused { IfErr result (λ fault. (b : ℕ) → Simple b (verb_of verb.entry) → (written : WrittenVerb) (rest : List ℕ)
-        → VerbText (b ∷ unread text.entry) written rest → ⊥) }
     ensures placed { IfErr result (λ fault. IsPlaced text.entry.whole.now fault) }
+    ensures brace { IfOk result (λ x. IsBracedAt x.1.at x.0) }
+    ensures jump { IfOk result (λ x. IsJumpIn (length text.entry.whole.now) (unread text.entry) x.0) }
+    ensures first { IfErr result (λ fault. EndFault (length text.entry.whole.now) (unread text.entry) fault) }
 {
     let rest = end_of_command(text)?;
     Ok((Written::Known(verb), rest))
@@ -52,8 +54,10 @@ fn read_text_verb<'a>(
     ensures same { IfOk result (λ x. x.1.whole ≡ text.entry.whole) }
     ensures no_label { IfOk result (λ x. (name : List ℕ) → written_verb x.0 ≢ Known (clean.Label name)) }
     ensures label { IfOk result (λ x. IsWrittenAt text.entry.whole.now x.0) }
-    ensures refused { IfErr result (λ fault. (written : WrittenVerb) (rest : List ℕ) → VerbText (text_byte verb ∷ unread text.entry) written rest → ⊥) }
     ensures placed { IfErr result (λ fault. IsPlaced text.entry.whole.now fault) }
+    ensures brace { IfOk result (λ x. IsBracedAt x.1.at x.0) }
+    ensures jump { IfOk result (λ x. IsJumpIn (length text.entry.whole.now) (unread text.entry) x.0) }
+    ensures first { IfErr result (λ fault. TextFault (text.entry.at - 1) (unread text.entry) fault) }
 {
     let Some((bytes, rest)) = read_text(text.skip(Class::Blank)) else {
         return Err(ScriptFault::MissingText {
@@ -77,12 +81,12 @@ fn read_file_verb<'a>(
     ensures same { IfOk result (λ x. x.1.whole ≡ text.entry.whole) }
     ensures no_label { IfOk result (λ x. (name : List ℕ) → written_verb x.0 ≢ Known (clean.Label name)) }
     ensures label { IfOk result (λ x. IsWrittenAt text.entry.whole.now x.0) }
-    ensures refused { IfErr result (λ fault. (written : WrittenVerb) (rest : List ℕ) → VerbText (file_byte access ∷ unread text.entry) written rest → ⊥) }
     ensures placed { IfErr result (λ fault. IsPlaced text.entry.whole.now fault) }
+    ensures brace { IfOk result (λ x. IsBracedAt x.1.at x.0) }
+    ensures jump { IfOk result (λ x. IsJumpIn (length text.entry.whole.now) (unread text.entry) x.0) }
+    ensures first { IfErr result (λ fault. NameFault (length text.entry.whole.now) (text.entry.at - 1) (unread text.entry) fault) }
 {
-    let Some((name, rest)) = read_name(text) else {
-        return Err(name_fault(text.offset() - 1, text));
-    };
+    let (name, rest) = read_name(text.offset() - 1, text)?;
     match access {
         Access::Read => Ok((Written::Known(Verb::Read(name)), rest)),
         Access::Write => Ok((Written::Known(Verb::Write(name)), rest)),
@@ -99,9 +103,10 @@ fn read_label<'a>(
     ensures same { IfOk result (λ x. x.1.whole ≡ text.entry.whole) }
     ensures fresh { IfOk result (λ x. DefinesKnown labels.now (written_verb x.0) → ⊥) }
     ensures label { IfOk result (λ x. IsWrittenAt text.entry.whole.now x.0) }
-    ensures refused { IfErr result (λ fault. (verb : WrittenVerb) (rest : List ℕ) → VerbText (ascii ":" ∷ unread text.entry) verb rest
-        → DefinesKnown labels.now verb) }
     ensures placed { IfErr result (λ fault. IsPlaced text.entry.whole.now fault) }
+    ensures brace { IfOk result (λ x. IsBracedAt x.1.at x.0) }
+    ensures jump { IfOk result (λ x. IsJumpIn (length text.entry.whole.now) (unread text.entry) x.0) }
+    ensures first { IfErr result (λ fault. LabelFault (length text.entry.whole.now) (HasLabel labels.now) (unread text.entry) fault) }
 {
     let (name, offset, behind) = read_definition(text)?;
     if place_of(labels, name).is_some() {
@@ -118,8 +123,10 @@ fn read_branch<'a>(tests: bool, text: Cursor<'a>) -> Result<(Written<'a>, Cursor
     ensures same { IfOk result (λ x. x.1.whole ≡ text.entry.whole) }
     ensures no_label { IfOk result (λ x. (name : List ℕ) → written_verb x.0 ≢ Known (clean.Label name)) }
     ensures label { IfOk result (λ x. IsWrittenAt text.entry.whole.now x.0) }
-    ensures refused { IfErr result (λ fault. (written : WrittenVerb) (rest : List ℕ) → VerbText (jump_byte tests ∷ unread text.entry) written rest → ⊥) }
     ensures placed { IfErr result (λ fault. IsPlaced text.entry.whole.now fault) }
+    ensures brace { IfOk result (λ x. IsBracedAt x.1.at x.0) }
+    ensures jump { IfOk result (λ x. IsJumpIn (length text.entry.whole.now) (unread text.entry) x.0) }
+    ensures first { IfErr result (λ fault. JumpFault (length text.entry.whole.now) (unread text.entry) fault) }
 {
     let (jump, rest) = read_jump(tests, text)?;
     Ok((Written::JumpTo(jump), rest))
@@ -140,9 +147,11 @@ pub fn read_verb<'a>(
     ensures same { IfOk result (λ x. x.1.whole ≡ text.entry.whole) }
     ensures fresh { IfOk result (λ x. DefinesKnown labels.now (written_verb x.0) → ⊥) }
     ensures label { IfOk result (λ x. IsWrittenAt text.entry.whole.now x.0) }
-    ensures refused { IfErr result (λ fault. IsOfText fault → (b : ℕ) → IsForm b form.entry → (verb : WrittenVerb) (rest : List ℕ)
-        → VerbText (b ∷ unread text.entry) verb rest → DefinesKnown labels.now verb) }
     ensures placed { IfErr result (λ fault. IsPlaced text.entry.whole.now fault) }
+    ensures brace { IfOk result (λ x. IsBracedAt x.1.at x.0) }
+    ensures jump { IfOk result (λ x. IsJumpIn (length text.entry.whole.now) (unread text.entry) x.0) }
+    ensures first { IfErr result (λ fault. IsOfText fault → (b : ℕ) → IsForm b form.entry
+        → VerbFault (length text.entry.whole.now) (HasLabel labels.now) (b ∷ unread text.entry) fault) }
 {
     match form {
         Form::Nothing(verb) => read_simple_verb(verb, text),

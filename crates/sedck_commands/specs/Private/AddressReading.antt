@@ -1,9 +1,11 @@
 -- What the readers of addresses say of what they read.
-use Rattle.std.specs.Prelude.{◌≡◌, ℕ, Bool, true, not, List, ◌∷◌, IsTrue}
+use Rattle.std.specs.Prelude.{◌≡◌, ℕ, Bool, true, false, not, List, ◌∷◌, IsTrue, Option, Some, None}
 use Rattle.sedck_commands.specs.Cuts.{is_blank, is_delimiter, IsEmptyOr, Longest}
 pub use Rattle.sedck_text.specs.Classes.{is_mark}
 pub use Rattle.sedck_commands.specs.Faults.{begins_address}
-use Rattle.sedck_commands.specs.Program.{Pattern, Place, Context, Address}
+use Rattle.sedck_commands.specs.Program.{Pattern, Place, Context, Address, place_patterns}
+use Rattle.sedck_commands.specs.FirstFaults.{EmptyPlace}
+use Rattle.sedck_commands.specs.ReadItems.{has_previous}
 use Rattle.sedck_commands.specs.Parts.{PlaceText, AddressText}
 use Rattle.sedck_commands.specs.Items.{WrittenVerb, VerbText, CommandText}
 use Rattle.sedck_commands.specs.Private.PieceReading.{PatternText}
@@ -15,6 +17,11 @@ ContextText delimiter text place rest = (pattern : Pattern) × (place ≡ Contex
 -- an address with a delimiter of its own, after its backslash
 abbrev pub CustomText : List ℕ → Place → List ℕ → Type 0
 CustomText text place rest = (delimiter : ℕ) × (behind : List ℕ) × (text ≡ delimiter ∷ behind) × IsTrue (is_delimiter delimiter) × ContextText delimiter behind place rest
+
+-- an empty expression of the address with which the text begins, where it has one
+abbrev pub EmptyOfPlace : ℕ → List ℕ → Place → Option ℕ → Type 0
+EmptyOfPlace size text place None = has_previous (place_patterns place) ≡ false
+EmptyOfPlace size text place (Some offset) = EmptyPlace size text offset
 
 -- the text begins with a byte of an address
 abbrev pub BeginsPlace : List ℕ → Type 0

@@ -7,6 +7,7 @@ use Rattle.sedck_text.specs.declared.cursor.Cursor.{Cursor}
 use Rattle.sedck_commands.specs.Parts.{DelimitedExpression, ExpressionText}
 use Rattle.sedck_commands.specs.Private.Alike.{IsPattern}
 use Rattle.sedck_commands.specs.Faults.{IsPlaced}
+use Rattle.sedck_commands.specs.FirstFaults.{CutFault}
 use Rattle.sedck_commands.specs.declared.fault.ScriptFault.{ScriptFault}
 use Rattle.sedck_commands.specs.declared.fault.ScriptFault.TheVariants as fault
 use Rattle.sedck_commands.specs.declared.delimited.Piece.{Piece}
@@ -28,12 +29,14 @@ pub record IsReadUpTo (Delimited : List ℕ → List ℕ → List ℕ → Type 0
   pub sound : (more after : List ℕ) → Delimited rest more after → Delimited text (bytes ++ more) after
   pub only : (all after : List ℕ) → Delimited text all after → (more : List ℕ) × Delimited rest more after
 
--- The bytes of an expression between the cursors have been read, without an escaped delimiter.
+-- The bytes of an expression between the cursors have been read, without an escaped delimiter. What is wrong from there on is wrong with the expression.
 pub record IsWrittenUpTo (delimiter : ℕ) (text rest : Cursor) : Type 0 where
   pub same : rest.whole ≡ text.whole
   pub written : List ℕ
   pub cut : unread text ≡ written ++ unread rest
   pub passed : IsReadUpTo (DelimitedExpression delimiter) (unread text) written (unread rest)
+  pub onward : (size opening : ℕ) (fault : ScriptFault) → CutFault size opening delimiter (unread rest) fault
+      → CutFault size opening delimiter (unread text) fault
 
 -- These bytes of an expression have been read of the text, and rest is left: its first escaped delimiter is at the place in the
 -- whole, or there is none, and the text has the very bytes.

@@ -1,18 +1,20 @@
 -- How far the items of a script have been read.
-use Rattle.std.specs.Prelude.{◌≡◌, ℕ, ◌<◌, ◌≤◌, Bool, true, false, not, ◌&&◌, ◌==◌, if◌then◌else◌, List, [], ◌∷◌, ◌++◌, length, map, All, ◌⊎◌, Some}
+use Rattle.std.specs.Prelude.{◌≡◌, ℕ, ◌<◌, ◌≤◌, Bool, true, if◌then◌else◌, List, [], ◌++◌, length, map, All, ◌⊎◌, Some}
 use Rattle.std.specs.Str.{bytes_eq}
 use Rattle.std.specs.Borrow.{Bor}
 use Rattle.std.specs.HashMap.{HashMap}
 use Rattle.sedck_text.specs.Bytes.{ascii}
-use Rattle.sedck_text.specs.Text.{one_of}
-use Rattle.sedck_commands.specs.Program.{Address, NoAddress, One, Two}
+use Rattle.sedck_commands.specs.Program.{Address}
 use Rattle.sedck_commands.specs.Items.{WrittenVerb, Opening, VerbText, Takes, Item, Items}
 use Rattle.sedck_commands.specs.Faults.{StandsAt}
 pub use Rattle.sedck_commands.specs.Faults.{BeginsCommand}
+pub use Rattle.sedck_commands.specs.FirstFaults.{is_none, is_two, takes, NotesBlock}
+use Rattle.sedck_commands.specs.FirstFaults.{ItemsFault}
+use Rattle.sedck_commands.specs.declared.fault.ScriptFault.{ScriptFault}
 use Rattle.sedck_commands.specs.Labels.{HasLabels, label_place, commands_among}
-use Rattle.sedck_commands.specs.Blocks.{Turn, Opens, Closes, Stays, Jumps, Nests}
+use Rattle.sedck_commands.specs.Blocks.{Nests}
 use Rattle.sedck_commands.specs.ItemView.{item_of, locations_in}
-use Rattle.sedck_commands.specs.ReadItems.{IsItemAt, IsEmptyAt, item_patterns}
+use Rattle.sedck_commands.specs.ReadItems.{IsItemAt, IsEmptyAt, EmptyOf, item_patterns}
 use Rattle.sedck_commands.specs.Private.Locating.{AreFirstLocations}
 use Rattle.sedck_commands.specs.Private.VerbReading.{is_braced}
 use Rattle.sedck_commands.specs.declared.items.Progress.{Progress}
@@ -20,24 +22,6 @@ use Rattle.sedck_commands.specs.declared.items.Written.{Written as WrittenCode}
 use Rattle.sedck_commands.specs.declared.items.Written.TheVariants as code
 
 -- ---- A command
-
-abbrev pub is_none : Address → Bool
-is_none NoAddress = true
-is_none (One p) = false
-is_none (Two p q) = false
-
-abbrev pub is_two : Address → Bool
-is_two NoAddress = false
-is_two (One p) = false
-is_two (Two p q) = true
-
--- a command that begins with this byte after its addresses takes them
-abbrev pub takes : ℕ → Address → Bool → Bool
-takes b given negated =
-    if one_of "}#" b then false
-    else if b == ascii ":" then is_none given && not negated
-    else if b == 113 then not (is_two given)
-    else true
 
 -- the verb opens a block though 64 are open, or has a `}` right after its label though two are, or there are 4,095 commands
 abbrev pub IsBeyond : ℕ → ℕ → WrittenVerb → Type 0
@@ -66,6 +50,9 @@ pub record IsProgress (text rest : List ℕ) (progress : Progress) : Type 0 wher
   pub label_places : All (IsItemAt text) progress.items.items
   pub opened : All (λ place. StandsAt text place (ascii "{")) progress.open_blocks.items
   pub empty : IsEmptyAt text (item_patterns (map item_of progress.items.items)) progress.empty
+  pub emptied : EmptyOf text progress.items.items progress.empty
+  pub faults : (fault : ScriptFault) → ItemsFault (length text) (map item_of progress.items.items) progress.open_blocks.items rest fault
+      → ItemsFault (length text) [] [] text fault
 
 -- ---- One more command
 
@@ -75,10 +62,3 @@ NotesLabel old new place (code.Label name) = (q : List ℕ) → label_place new 
 NotesLabel old new place (code.Known verb) = (q : List ℕ) → label_place new q ≡ label_place old q
 NotesLabel old new place (code.JumpTo jump) = (q : List ℕ) → label_place new q ≡ label_place old q
 NotesLabel old new place code.Opening = (q : List ℕ) → label_place new q ≡ label_place old q
-
--- the place is added where a block is opened
-abbrev pub NotesBlock : Turn → List ℕ → List ℕ → ℕ → Type 0
-NotesBlock Opens old new place = new ≡ old ++ place ∷ []
-NotesBlock Closes old new place = new ≡ old
-NotesBlock Stays old new place = new ≡ old
-NotesBlock (Jumps braced) old new place = new ≡ old

@@ -1,11 +1,13 @@
 -- What the readers of verbs say of what they read.
-use Rattle.std.specs.Prelude.{◌≡◌, ℕ, Bool, false, List, length, Some}
+use Rattle.std.specs.Prelude.{◌≡◌, ℕ, Bool, false, List, length, Some, IfSome}
 use Rattle.std.specs.Borrow.{Bor}
 use Rattle.std.specs.HashMap.{HashMap}
 use Rattle.sedck_commands.specs.Program.{Label}
 use Rattle.sedck_commands.specs.Parts.{DelimitedList, FirstList}
 use Rattle.sedck_commands.specs.Items.{WrittenVerb, Known, JumpTo, Opening}
 use Rattle.sedck_commands.specs.Labels.{label_place}
+use Rattle.sedck_commands.specs.declared.items.Written.{Written as WrittenCode}
+use Rattle.sedck_commands.specs.declared.items.Written.TheVariants as code
 
 -- a `}` is right after the label of a branch or a test
 abbrev pub is_braced : WrittenVerb → Bool
@@ -23,3 +25,14 @@ pub record AreLists (delimiter : ℕ) (text from to rest : List ℕ) : Type 0 wh
 -- the verb defines a label that the map has
 abbrev pub DefinesKnown : {S : Type 0} → HashMap (Bor (List ℕ)) ℕ S → WrittenVerb → Type 0
 DefinesKnown labels verb = (name : List ℕ) × (at : ℕ) × (verb ≡ Known (Label name)) × (label_place labels name ≡ Some at)
+
+-- the map has the label
+abbrev pub HasLabel : {S : Type 0} → HashMap (Bor (List ℕ)) ℕ S → List ℕ → Type 0
+HasLabel labels name = (at : ℕ) × (label_place labels name ≡ Some at)
+
+-- a `}` right after the label is at this offset
+abbrev pub IsBracedAt : ℕ → WrittenCode → Type 0
+IsBracedAt offset (code.JumpTo jump) = IfSome jump.brace (λ place. place ≡ offset)
+IsBracedAt offset (code.Known verb) = Unit {0}
+IsBracedAt offset (code.Label name) = Unit {0}
+IsBracedAt offset code.Opening = Unit {0}

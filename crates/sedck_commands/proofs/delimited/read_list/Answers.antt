@@ -1,8 +1,11 @@
-use Rattle.sedck_commands.proofs.Common.{◌≡◌, ◌∙◌, None, inl, refl, ap, sym, IsPartPlaced, list_escape}
+use Rattle.sedck_commands.proofs.Common.{◌≡◌, ◌∙◌, ◌∷◌, ◌+◌, None, inl, refl, ap, sym, length, unread, unread_length, IsPartPlaced, list_escape}
+use Rattle.sedck_commands.specs.Faults.{IsOfText}
+use Rattle.sedck_commands.specs.FirstFaults.{ListFault}
 use Rattle.sedck_commands.proofs.CursorPlaces.{stands_here}
-use Rattle.sedck_commands.proofs.ResultLemmas.{if_err_each, if_err_same}
+use Rattle.sedck_commands.proofs.ResultLemmas.{if_err_each, if_err_same, if_err_from}
 use Rattle.sedck_commands.proofs.UniqueVerbs.{no_backslash}
 use Rattle.sedck_commands.proofs.PieceLemmas.{piece_more, list_byte, list_escaped, list_pair, list_end, list_stuck, list_broken}
+use Rattle.sedck_commands.proofs.FaultLemmas1.{piece_in_same, list_meant, list_meaningless}
 use Rattle.sedck_commands.proofs.delimited.read_list.Goals as goal
 
 pub returns-in_err-piece-clause-refused : goal.returns-in_err-piece-clause-refused
@@ -30,6 +33,9 @@ loop-bytes-preserved-in_ok-push-in-Byte c = (
   c.in_ok-piece.ensures.same ∙ c.loop-bytes.invariant.0,
   piece_more _ c.in_ok-push-in-Byte.ensures.items c.loop-bytes.invariant.1
       (list_byte (no_backslash c.requires.delimiter) (rw c.in-Byte.is at c.in_ok-piece.ensures.read)),
+  λ fault wrong.
+      let piece = rw c.in-Byte.is at c.in_ok-piece.ensures.read in
+      c.loop-bytes.invariant.2 fault (ListFault.byte piece.0 piece.1 piece.2 piece.3 wrong),
 )
 
 pub loop-bytes-preserved-in_ok-push-in-Escaped : goal.loop-bytes-preserved-in_ok-push-in-Escaped
@@ -37,6 +43,9 @@ loop-bytes-preserved-in_ok-push-in-Escaped c = (
   c.in_ok-piece.ensures.same ∙ c.loop-bytes.invariant.0,
   piece_more _ c.in_ok-push-in-Escaped.ensures.items c.loop-bytes.invariant.1
       (list_escaped (no_backslash c.requires.delimiter) (rw c.in-Escaped.is at c.in_ok-piece.ensures.read)),
+  λ fault wrong.
+      let piece = rw c.in-Escaped.is at c.in_ok-piece.ensures.read in
+      c.loop-bytes.invariant.2 fault (ListFault.escaped piece.0 piece.1 wrong),
 )
 
 pub loop-bytes-preserved : goal.loop-bytes-preserved
@@ -44,7 +53,29 @@ loop-bytes-preserved c = (
   c.in_ok-piece.ensures.same ∙ c.loop-bytes.invariant.0,
   piece_more _ c.in_ok-push-in-Pair.ensures.items c.loop-bytes.invariant.1
       (list_pair (no_backslash c.requires.delimiter) (sym c.in-Some.ensures) (rw c.in-Pair.is at c.in_ok-piece.ensures.read)),
+  λ fault wrong.
+      let piece = rw c.in-Pair.is at c.in_ok-piece.ensures.read in
+      c.loop-bytes.invariant.2 fault (ListFault.meant piece.0 piece.1 (list_meant c.in-Pair.b _ (sym c.in-Some.ensures)) wrong),
 )
+
+pub returns-in_err-piece-clause-first : goal.returns-in_err-piece-clause-first
+returns-in_err-piece-clause-first c =
+    if_err_from (λ fault. IsOfText fault → ListFault (length c.args.text.whole.now) c.args.opening c.args.delimiter (unread c.args.text) fault)
+    c.from_residual.result _ c.from_residual.ensures.1
+    (λ memory. c.loop-bytes.invariant.2 _ (ListFault.piece (piece_in_same c.loop-bytes.invariant.0 c.in_err-piece.ensures.first)))
+
+pub returns-then-b-eq10-clause-first : goal.returns-then-b-eq10-clause-first
+returns-then-b-eq10-clause-first c = λ memory.
+    let piece = rw c.in-Pair.is at c.in_ok-piece.ensures.read in
+    c.loop-bytes.invariant.2 _ (ListFault.line (piece.0 ∙ ap (λ b. 92 ∷ b ∷ unread c.in_ok-piece.behind) c.if-b-eq10.true))
+
+pub returns-in_default-clause-first : goal.returns-in_default-clause-first
+returns-in_default-clause-first c = λ memory.
+    let piece = rw c.in-Pair.is at c.in_ok-piece.ensures.read in
+    let none = list_meaningless c.in-Pair.b (cc (c.list_escape.ensures, c.in_default.is)) in
+    let place : c.offset.result + length (unread c.loop-bytes.rest) ≡ length c.args.text.whole.now =
+    rw c.offset.ensures (unread_length c.loop-bytes.rest ∙ ap (λ w. length w.now) c.loop-bytes.invariant.0) in
+    c.loop-bytes.invariant.2 _ (ListFault.meaningless piece.0 piece.1 c.if-b-eq10.false none.0 none.1 place)
 
 pub returns-in_default-clause-placed : goal.returns-in_default-clause-placed
 returns-in_default-clause-placed c =

@@ -1,5 +1,7 @@
-use Rattle.sedck_commands.proofs.Common.{◌≡◌, ◌<◌, ◌⊎◌, ℕ, false, List, length, sym, subst, arith, ◌==◌, nat_tests, cow_slice_items, IsExpression, unread}
-use Rattle.sedck_commands.specs.Faults.{IsNoExpression, IsMisjudged}
+use Rattle.sedck_commands.proofs.Common.{◌≡◌, ◌<◌, ◌⊎◌, ℕ, false, List, length, sym, subst, arith, ◌==◌, nat_tests, cow_slice_items, IsExpression, unread, unread_length}
+use Rattle.sedck_commands.specs.Faults.{IsNoExpression, IsMisjudged, IsOfText}
+use Rattle.sedck_commands.specs.FirstFaults.{PatternFault}
+use Rattle.sedck_commands.proofs.ResultLemmas.{if_err_from}
 use Rattle.sedck_commands.proofs.UniqueVerbs.{no_backslash}
 use Rattle.sedck_commands.proofs.PieceLemmas.{pattern_none, pattern_some, pattern_none_only, pattern_some_only, no_pattern}
 use Rattle.sedck_commands.proofs.delimited.read_pattern.Goals as goal
@@ -44,3 +46,15 @@ returns-clause-placed c = c.expression_fault.ensures.placed c.args.text.whole.no
   written = c.in_ok-bytes.ensures.read;
   refused = subst (λ t. IsNoExpression t c.in-Err.fault ⊎ IsMisjudged t c.in-Err.fault) c.as_slice-bytes.ensures.value (c.in-Err.ensures.refused of_text);
 }))
+
+pub returns-in_err-bytes-clause-first : goal.returns-in_err-bytes-clause-first
+returns-in_err-bytes-clause-first c =
+    if_err_from (λ fault. IsOfText fault → PatternFault (length c.args.text.whole.now) c.args.opening c.args.delimiter (unread c.args.text) fault)
+    c.from_residual.result _ c.from_residual.ensures.1 (λ memory. PatternFault.unread (c.in_err-bytes.ensures.first memory))
+
+pub returns-clause-first : goal.returns-clause-first
+returns-clause-first c = λ memory.
+    let refused = c.in-Err.ensures.refused (c.expression_fault.ensures.memory memory) in
+    rw (c.expression_fault.ensures.cause memory, c.offset.ensures)
+    (PatternFault.refused c.in_ok-bytes.ensures.read (has_byte _ _ c.if-is_empty.ensures c.as_slice-bytes.ensures.value)
+    (subst (λ t. IsNoExpression t c.in-Err.fault ⊎ IsMisjudged t c.in-Err.fault) c.as_slice-bytes.ensures.value refused) (unread_length c.args.text))

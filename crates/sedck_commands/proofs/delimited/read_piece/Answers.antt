@@ -1,4 +1,5 @@
-use Rattle.sedck_commands.proofs.Common.{inl, sym, ◌∙◌, unread}
+use Rattle.sedck_commands.proofs.Common.{inl, sym, ◌∙◌, unread, unread_length}
+use Rattle.sedck_commands.specs.FirstFaults.{PieceFault}
 use Rattle.sedck_commands.proofs.EscapeLemmas.{forbidden_place}
 use Rattle.sedck_commands.proofs.delimited.read_piece.Goals as goal
 
@@ -7,3 +8,18 @@ returns-then-not-can_be_escaped-clause-placed c = inl (rw c.offset.ensures
     (forbidden_place c.args.text c.args.delimiter (unread c.in-Some-split_first.after)
     (cc (c.in-Some.ensures.cut, c.in-Some-split_first.ensures.cut, c.if-first-ne92.false, c.if-next-delimiter.false)) c.requires.delimiter
     (sym c.can_be_escaped.ensures ∙ c.if-not-can_be_escaped.true)))
+
+pub returns-in_default-clause-first : goal.returns-in_default-clause-first
+returns-in_default-clause-first c = PieceFault.over c.in_default.ensures.cut
+
+pub returns-then-first-eq10-clause-first : goal.returns-then-first-eq10-clause-first
+returns-then-first-eq10-clause-first c = PieceFault.line {behind = unread c.in-Some.behind} (cc (c.in-Some.ensures.cut, c.if-first-eq10.true))
+
+pub returns-in_default-split_first-clause-first : goal.returns-in_default-split_first-clause-first
+returns-in_default-split_first-clause-first c =
+    PieceFault.last (cc (c.in-Some.ensures.cut, c.in_default-split_first.ensures.cut, c.if-first-ne92.false))
+
+pub returns-then-not-can_be_escaped-clause-first : goal.returns-then-not-can_be_escaped-clause-first
+returns-then-not-can_be_escaped-clause-first c = PieceFault.forbidden {behind = unread c.in-Some-split_first.after}
+    (cc (c.in-Some.ensures.cut, c.in-Some-split_first.ensures.cut, c.if-first-ne92.false, c.if-next-delimiter.false))
+    (sym c.can_be_escaped.ensures ∙ c.if-not-can_be_escaped.true) (rw c.offset.ensures (unread_length c.args.text))

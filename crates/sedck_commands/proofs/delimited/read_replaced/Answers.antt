@@ -1,8 +1,11 @@
-use Rattle.sedck_commands.proofs.Common.{◌≡◌, [], ◌∷◌, ◌++◌, ◌∙◌, ap, sym, subst, Some, append_assoc, option_or, unread, DelimitedExpression, IsReadUpTo, IsPartPlaced, as_written}
-use Rattle.sedck_commands.proofs.ResultLemmas.{if_err_each, if_err_same}
+use Rattle.sedck_commands.proofs.Common.{◌≡◌, [], ◌∷◌, ◌++◌, ◌∙◌, ap, sym, subst, Some, append_assoc, option_or, length, unread, DelimitedExpression, IsReadUpTo, IsPartPlaced, as_written}
+use Rattle.sedck_commands.specs.Faults.{IsOfText}
+use Rattle.sedck_commands.specs.FirstFaults.{CutFault}
+use Rattle.sedck_commands.proofs.ResultLemmas.{if_err_each, if_err_same, if_err_from}
 use Rattle.sedck_commands.proofs.UniqueVerbs.{no_backslash}
 use Rattle.sedck_commands.proofs.PieceLemmas.{piece_more, expression_byte, expression_escaped, expression_pair, expression_end, expression_stuck, expression_broken, written_between}
 use Rattle.sedck_commands.proofs.EscapeLemmas.{escape_more, escape_noted}
+use Rattle.sedck_commands.proofs.FaultLemmas1.{piece_in_same}
 use Rattle.sedck_commands.proofs.delimited.read_replaced.Goals as goal
 
 pub returns-in_err-piece-clause-refused : goal.returns-in_err-piece-clause-refused
@@ -20,12 +23,24 @@ pub returns-then-b-eq10-clause-refused : goal.returns-then-b-eq10-clause-refused
 returns-then-b-eq10-clause-refused c = λ memory. expression_broken (no_backslash c.requires.delimiter) c.loop-bytes.invariant.1
     (rw c.in-Pair.is at c.in_ok-piece.ensures.read) c.if-b-eq10.true
 
+pub returns-in_err-piece-clause-first : goal.returns-in_err-piece-clause-first
+returns-in_err-piece-clause-first c =
+    if_err_from (λ fault. IsOfText fault → CutFault (length c.args.text.whole.now) c.args.opening c.args.delimiter (unread c.args.text) fault)
+    c.from_residual-in_err-piece.result _ c.from_residual-in_err-piece.ensures.1
+    (λ memory. c.loop-bytes.invariant.3 _ (CutFault.piece (piece_in_same c.loop-bytes.invariant.0 c.in_err-piece.ensures.first)))
+
+pub returns-then-b-eq10-clause-first : goal.returns-then-b-eq10-clause-first
+returns-then-b-eq10-clause-first c = λ memory.
+    let piece = rw c.in-Pair.is at c.in_ok-piece.ensures.read in
+    c.loop-bytes.invariant.3 _ (CutFault.line (piece.0 ∙ ap (λ b. 92 ∷ b ∷ unread c.in_ok-piece.behind) c.if-b-eq10.true))
+
 pub loop-bytes-preserved-in_ok-push-in-Byte : goal.loop-bytes-preserved-in_ok-push-in-Byte
 loop-bytes-preserved-in_ok-push-in-Byte c =
     let piece = rw c.in-Byte.is at c.in_ok-piece.ensures.read in (
       c.in_ok-piece.ensures.same ∙ c.loop-bytes.invariant.0,
       piece_more _ c.in_ok-push-in-Byte.ensures.items c.loop-bytes.invariant.1 (expression_byte (no_backslash c.requires.delimiter) piece),
       escape_more (c.in-Byte.b ∷ []) _ c.in_ok-push-in-Byte.ensures.items piece.0 c.loop-bytes.invariant.2,
+      λ fault wrong. c.loop-bytes.invariant.3 fault (CutFault.byte piece.0 piece.1 piece.2 piece.3 wrong),
     )
 
 pub loop-bytes-preserved-in_ok-push-in-Escaped : goal.loop-bytes-preserved-in_ok-push-in-Escaped
@@ -36,6 +51,7 @@ loop-bytes-preserved-in_ok-push-in-Escaped c =
           (expression_escaped (no_backslash c.requires.delimiter) piece),
       escape_noted c.loop-bytes.rest _ c.in_ok-push-in-Escaped.ensures.items piece.0
           (c.or-escape.ensures ∙ ap (λ n. option_or c.loop-bytes.escape (Some n)) c.offset-in-Escaped.ensures) c.loop-bytes.invariant.0 c.loop-bytes.invariant.2,
+      λ fault wrong. c.loop-bytes.invariant.3 fault (CutFault.escaped piece.0 piece.1 wrong),
     )
 
 pub loop-bytes-preserved : goal.loop-bytes-preserved
@@ -47,6 +63,7 @@ loop-bytes-preserved c =
       piece_more _ items c.loop-bytes.invariant.1
           (expression_pair (no_backslash c.requires.delimiter) c.if-b-eq10.false piece),
       escape_more (92 ∷ c.in-Pair.b ∷ []) _ items piece.0 c.loop-bytes.invariant.2,
+      λ fault wrong. c.loop-bytes.invariant.3 fault (CutFault.pair piece.0 piece.1 c.if-b-eq10.false wrong),
     )
 
 pub loop-bytes-init : goal.loop-bytes-init
@@ -58,4 +75,5 @@ loop-bytes-init c =
       c.requires.written.same,
       subst (λ t. IsReadUpTo (DelimitedExpression c.args.delimiter) text t rest) (sym items) between.2.3,
       as_written (between.2.1 ∙ ap (λ t. t ++ rest) (sym items)),
+      c.requires.written.onward (length c.args.text.whole.now) c.args.opening,
     )

@@ -1,37 +1,31 @@
-use Rattle.sedck_commands.proofs.Common.{refl, ◌∙◌, sym}
-use Rattle.sedck_commands.proofs.ResultLemmas.{if_err_always}
+use Rattle.sedck_commands.proofs.Common.{◌≡◌, ◌||◌, true, ◌∷◌, length, refl, ap, ◌∙◌, sym, is_blank, is_ending, or_left, unread, IsPlaced}
+use Rattle.std.proofs.lemmas.Bool.{or_right}
+use Rattle.sedck_commands.proofs.ResultLemmas.{if_err_from, if_err_same}
 use Rattle.sedck_commands.proofs.CursorPlaces.{stands_here}
 use Rattle.sedck_commands.proofs.PlaceLemmas.{extra_digit, unread_verb}
 use Rattle.sedck_commands.proofs.VerbCases.{no_name}
 use Rattle.sedck_commands.proofs.LineBytes.{name_placed}
-use Rattle.sedck_commands.proofs.FlagLemmas.{no_flag, no_file, no_number, no_flags_end}
+use Rattle.sedck_commands.proofs.FaultLemmas2.{begins_here, no_flag_byte}
+use Rattle.sedck_commands.specs.FirstFaults as fault
+use Rattle.sedck_commands.specs.FirstFaults.{FlagsFault}
 use Rattle.sedck_commands.proofs.flags.read_flag.Goals as goal
+use Rattle.sedck_commands.proofs.flags.read_flag.Goals.{else-not-has-via-then-not-has+else-not-is_ending, else-not-has-via-else-not-has}
 
-pub returns-in_default-read_name-clause-refused : goal.returns-in_default-read_name-clause-refused
-returns-in_default-read_name-clause-refused c = λ q ps s r x. no_file c.in-Some.ensures.cut c.if-first-eq119.true c.in_default-read_name.ensures.none x
-
-pub returns-in_default-read_name-clause-placed : goal.returns-in_default-read_name-clause-placed
-returns-in_default-read_name-clause-placed c =
-    let placed = rw c.in-Some.ensures.ahead.0.whole at c.name_fault.ensures in
-    name_placed c.args.text.whole.now c.offset-place.result placed (rw c.offset-place.ensures (
+pub returns-in_err-name-clause-placed : goal.returns-in_err-name-clause-placed
+returns-in_err-name-clause-placed c =
+    let placed = rw c.in-Some.ensures.ahead.0.whole at c.in_err-name.ensures.placed in
+    if_err_from (IsPlaced c.args.text.whole.now) c.from_residual.result _ c.from_residual.ensures.1
+    (name_placed c.args.text.whole.now c.offset-place.result placed (rw c.offset-place.ensures (
       (c.in-Some.first, stands_here c.args.text c.in-Some.ensures.cut, rw c.if-first-eq119.true refl),
       unread_verb c.args.text.whole.now c.args.text.at c.in-Some.ensures.cut (rw c.if-first-eq119.true refl)
-          (no_name c.in-Some.first (rw c.if-first-eq119.true refl) c.in_default-read_name.ensures.none),
-    ))
+          (no_name c.in-Some.first (rw c.if-first-eq119.true refl) c.in_err-name.ensures.refused),
+    )))
 
-pub returns-in_default-read_number-clause-refused : goal.returns-in_default-read_number-clause-refused
-returns-in_default-read_number-clause-refused c = λ q ps s r x. no_number c.in-Some.ensures.cut
-    (sym c.is_digit.ensures ∙ c.if-is_digit.true) c.in_default-read_number.ensures.none x
-
-pub returns-then-not-is_ending-clause-refused : goal.returns-then-not-is_ending-clause-refused
-returns-then-not-is_ending-clause-refused c = λ q ps s r x.
-    no_flag c.in-Some.ensures.cut c.if-first-eq103.false c.if-first-eq112.false c.if-first-eq119.false
-    (sym c.is_digit.ensures ∙ c.if-is_digit.false) (sym c.has.ensures ∙ c.if-not-has.true) (sym c.is_ending.ensures ∙ c.if-not-is_ending.true) x
-
-pub returns-in_err-rest-clause-refused : goal.returns-in_err-rest-clause-refused
-returns-in_err-rest-clause-refused c = if_err_always c.from_residual.result (λ q ps s r x.
-    no_flags_end c.in-Some.ensures.cut c.if-first-eq103.false c.if-first-eq112.false c.if-first-eq119.false
-    (sym c.is_digit.ensures ∙ c.if-is_digit.false) c.in_err-rest.ensures.refused x)
+pub returns-in_err-name-clause-first : goal.returns-in_err-name-clause-first
+returns-in_err-name-clause-first c = if_err_same (λ whole f. (g p n : _) → FlagsFault (length whole) g p n (unread c.args.text) f)
+    c.from_residual.result _ c.from_residual.ensures.1 c.in-Some.ensures.ahead.0.whole (λ g p n.
+    fault.FlagsFault.file (c.in-Some.ensures.cut ∙ ap (λ b. b ∷ unread c.in-Some.behind) c.if-first-eq119.true)
+    (begins_here c.args.text (sym c.in-Some.ensures.ahead.0.whole) refl c.offset-place.ensures) c.in_err-name.ensures.first)
 
 pub returns-in_default-read_number-clause-placed : goal.returns-in_default-read_number-clause-placed
 returns-in_default-read_number-clause-placed c = rw c.offset-place.ensures (
@@ -46,3 +40,22 @@ returns-then-not-is_ending-clause-placed c = rw c.offset-place.ensures (
   stands_here c.args.text c.in-Some.ensures.cut,
   rw (sym c.has.ensures ∙ c.if-not-has.true, sym c.is_ending.ensures ∙ c.if-not-is_ending.true) refl,
 )
+
+pub returns-in_default-read_number-clause-first : goal.returns-in_default-read_number-clause-first
+returns-in_default-read_number-clause-first c = λ g p n. fault.FlagsFault.no_number c.in-Some.ensures.cut (sym c.is_digit.ensures ∙ c.if-is_digit.true)
+    c.in_default-read_number.ensures.none (begins_here c.args.text refl refl c.offset-place.ensures)
+
+pub returns-then-not-is_ending-clause-first : goal.returns-then-not-is_ending-clause-first
+returns-then-not-is_ending-clause-first c = λ g p n. fault.FlagsFault.unknown c.in-Some.ensures.cut
+    (no_flag_byte c.in-Some.first c.if-first-eq103.false c.if-first-eq112.false c.if-first-eq119.false (sym c.is_digit.ensures ∙ c.if-is_digit.false)
+    (sym c.has.ensures ∙ c.if-not-has.true) (sym c.is_ending.ensures ∙ c.if-not-is_ending.true))
+    (begins_here c.args.text refl refl c.offset-place.ensures)
+
+pub returns-in_err-rest-clause-first : goal.returns-in_err-rest-clause-first
+returns-in_err-rest-clause-first c =
+    let ends : (is_blank c.in-Some.first || is_ending c.in-Some.first) ≡ true = elim c.else-not-has.branch [
+      | else-not-has-via-then-not-has+else-not-is_ending w ↦ or_right _ _ (sym w.is_ending.ensures ∙ w.if-not-is_ending.false)
+      | else-not-has-via-else-not-has w ↦ or_left _ _ (sym c.has.ensures ∙ w.if-not-has.false)
+    ] in
+    if_err_from _ c.from_residual-in_err-rest.result _ c.from_residual-in_err-rest.ensures.1
+    (λ g p n. fault.FlagsFault.ends c.in-Some.ensures.cut ends c.in_err-rest.ensures.first)

@@ -1,17 +1,12 @@
-use Rattle.sedck_commands.proofs.Common.{◌⊎◌, ◌<◌, ◌≤◌, ◌∷◌, [], map, ap, ◌∙◌, subst, length-append, arith, map_push, All-push, Written, address_of, written_verb, item_of, DefinesKnown, commands_among, IsItemAt, patterns_of, item_patterns, IsBeyond, NotesLabel}
+use Rattle.sedck_commands.proofs.Common.{◌-◌, ◌<◌, ◌≤◌, ◌∷◌, [], map, ap, ◌∙◌, subst, length-append, arith, map_push, All-push, Written, address_of, written_verb, item_of, commands_among, IsItemAt, patterns_of, item_patterns, NotesLabel, is_braced, unread_length, length}
 use Rattle.sedck_commands.proofs.ResultLemmas.{if_err_from}
-use Rattle.sedck_commands.proofs.ProgressLemmas.{front_refused, front_command, command_shorter, behind_begins, brace_stands}
-use Rattle.sedck_commands.proofs.StateLemmas.{among_append, patterns_push, locations_push, labels_noted, blocks_noted}
+use Rattle.sedck_commands.proofs.ProgressLemmas.{front_command, command_shorter, behind_begins, brace_stands}
+use Rattle.sedck_commands.proofs.StateLemmas.{among_append, patterns_push, locations_push, labels_noted, blocks_noted, emptied_push}
 use Rattle.sedck_commands.proofs.CommandLemmas.{empty_append}
 use Rattle.sedck_commands.proofs.LocationLemmas.{located_command}
+use Rattle.sedck_commands.specs.FirstFaults as first
+use Rattle.sedck_commands.proofs.ItemFaults.{begun_at, command_same}
 use Rattle.sedck_commands.proofs.items.add_command.Goals as goal
-
-pub returns-in_err-command-clause-refused : goal.returns-in_err-command-clause-refused
-returns-in_err-command-clause-refused c =
-    if_err_from _ c.from_residual.result _ c.from_residual.ensures.1
-    (λ memory. front_refused c.args.progress.now.labels c.requires.progress.front c.requires.begins c.requires.progress.labels c.requires.progress.count
-    (λ a n v rest x. subst (λ d. DefinesKnown c.args.progress.now.labels v ⊎ IsBeyond d c.args.progress.now.count v) (omega (arith, c.len.ensures))
-    (c.in_err-command.ensures.refused memory a n v rest x)))
 
 pub overflow_sub-last : goal.overflow_sub-last
 overflow_sub-last c = omega (arith, behind_begins c.args.begins c.in_ok-command.rest c.in_ok-command.ensures.same c.in_ok-command.ensures.read)
@@ -41,10 +36,36 @@ returns-clause-progress c =
           (located_command _ c.requires.progress.located c.requires.begins c.in_ok-command.ensures.read c.in_ok-command.ensures.located);
       few = omega (arith, c.in_ok-command.ensures.few, c.in_ok-note_command.ensures.count);
       label_places = rw c.in_ok-note_command.ensures.items
-          (All-push (IsItemAt c.args.begins.whole.now) _ _ c.requires.progress.label_places c.in_ok-command.ensures.label);
+          (All-push (IsItemAt c.args.begins.whole.now) _ _ c.requires.progress.label_places
+          (c.in_ok-command.ensures.label, c.in_ok-command.ensures.jump));
       opened = noted.1;
       empty = rw (items, patterns_push, c.in_ok-note_command.ensures.empty)
           (empty_append c.args.begins.whole.now (item_patterns (map item_of old.items.items))
           (patterns_of (Written (address_of command.address) command.negated (written_verb command.verb))) old.empty c.in_ok-command.empty
           c.requires.progress.empty c.in_ok-command.ensures.empty);
+      emptied = rw (c.in_ok-note_command.ensures.items, c.in_ok-note_command.ensures.empty)
+          (emptied_push c.args.begins.whole.now old.items.items command old.empty c.in_ok-command.empty
+          c.requires.progress.empty c.requires.progress.emptied c.in_ok-command.ensures.emptied);
+      faults = λ fault x. c.requires.progress.faults fault (first.command (c.offset-last.result - 1) (begun_at c.requires.begins) c.requires.begins
+          c.in_ok-command.ensures.read (record {
+            fresh = λ name e d. c.in_ok-command.ensures.fresh (name, d.0, e, c.requires.progress.labels.found name d.0 d.1);
+            shallow = λ e. subst (λ d. d < 64) (omega (arith, c.len.ensures)) (c.in_ok-command.ensures.shallow e);
+            braced = λ tests label e. subst (λ d. d ≤ 1) (omega (arith, c.len.ensures)) (c.in_ok-command.ensures.braced (ap is_braced e));
+            few = omega (arith, c.in_ok-command.ensures.few, c.requires.progress.count);
+          }) c.in_ok-note_command.ensures.opened
+          (omega (
+            arith,
+            c.offset-last.ensures,
+            unread_length c.in_ok-command.rest,
+            ap (λ w. length w.now) c.in_ok-command.ensures.same,
+            behind_begins c.args.begins c.in_ok-command.rest c.in_ok-command.ensures.same c.in_ok-command.ensures.read,
+          )) (rw items at x));
     }
+
+pub returns-in_err-command-clause-first : goal.returns-in_err-command-clause-first
+returns-in_err-command-clause-first c =
+    let labels = c.requires.progress.labels in
+    if_err_from _ c.from_residual.result _ c.from_residual.ensures.1
+    (λ memory. c.requires.progress.faults _ (first.bad_command (begun_at c.requires.begins) c.requires.begins
+    (command_same {B = first.Defines (map item_of c.args.progress.now.items.items)} (omega (arith, c.len.ensures)) c.requires.progress.count
+    (λ name x. (x.0, labels.at name x.0 x.1)) (λ name x. (x.0, labels.found name x.0 x.1)) (c.in_err-command.ensures.first memory))))

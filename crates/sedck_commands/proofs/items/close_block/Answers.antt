@@ -1,21 +1,16 @@
-use Rattle.sedck_commands.proofs.Common.{◌≡◌, ℕ, suc, length, map, refl, ap, ◌∙◌, subst, length-append, arith, map_push, All-push, ascii, StandsAt, item_of, IsItemAt}
+use Rattle.sedck_commands.proofs.Common.{◌≡◌, ℕ, suc, length, map, refl, ap, ◌∙◌, subst, length-append, arith, map_push, All-push, ascii, StandsAt, item_of, IsItemAt, unread_length, unread}
 use Rattle.std.specs.Prelude.{All}
-use Rattle.sedck_commands.proofs.ResultLemmas.{if_err_from}
+use Rattle.sedck_commands.proofs.ResultLemmas.{if_err_along}
 use Rattle.sedck_commands.proofs.CursorPlaces.{stands_here}
-use Rattle.sedck_commands.proofs.ProgressLemmas.{front_unopened, front_unended, front_closing}
-use Rattle.sedck_commands.proofs.StateLemmas.{among_closing, patterns_closing, locations_closing, opened_front}
+use Rattle.sedck_commands.proofs.ProgressLemmas.{front_closing, at_front}
+use Rattle.sedck_commands.proofs.StateLemmas.{among_closing, patterns_closing, locations_closing, opened_front, emptied_more}
 use Rattle.sedck_commands.proofs.LocationLemmas.{located_closing}
+use Rattle.sedck_commands.specs.FirstFaults as first
+use Rattle.sedck_commands.specs.FirstFaults.{EndFault}
 use Rattle.sedck_commands.proofs.items.close_block.Goals as goal
-
-pub returns-in_default-clause-refused : goal.returns-in_default-clause-refused
-returns-in_default-clause-refused c = λ memory. front_unopened c.requires.progress.front c.requires.begins refl (omega (arith, c.in_default.ensures.cases.0))
 
 pub returns-in_default-clause-placed : goal.returns-in_default-clause-placed
 returns-in_default-clause-placed c = rw c.offset.ensures (stands_here c.args.begins c.requires.begins)
-
-pub returns-in_err-rest-clause-refused : goal.returns-in_err-rest-clause-refused
-returns-in_err-rest-clause-refused c = if_err_from _ c.from_residual.result _ c.from_residual.ensures.1
-    (λ memory. front_unended c.requires.progress.front c.requires.begins refl c.in_err-rest.ensures.refused)
 
 pub returns-clause-progress : goal.returns-clause-progress
 returns-clause-progress c =
@@ -33,4 +28,17 @@ returns-clause-progress c =
       opened = opened_front c.args.begins.whole.now _ _ (subst
           (λ xs. All (λ place. StandsAt c.args.begins.whole.now place (ascii "{")) xs) c.in-Some.ensures.items c.requires.progress.opened);
       empty = rw (items, patterns_closing) c.requires.progress.empty;
+      emptied = rw c.in_ok-push.ensures.items (emptied_more c.args.begins.whole.now _ _ _ c.requires.progress.emptied);
+      faults = λ fault x. c.requires.progress.faults fault
+          (first.closing c.in-Some.field-0 (at_front c.requires.begins refl) c.in-Some.ensures.items c.in_ok-rest.ensures.read (rw items at x));
     }
+
+pub returns-in_default-clause-first : goal.returns-in_default-clause-first
+returns-in_default-clause-first c = λ memory. c.requires.progress.faults _
+    (first.unopened (at_front c.requires.begins refl) (omega (arith, c.in_default.ensures.cases.0))
+    (rw c.offset.ensures (rw c.requires.begins at (unread_length c.args.begins))))
+
+pub returns-in_err-rest-clause-first : goal.returns-in_err-rest-clause-first
+returns-in_err-rest-clause-first c = if_err_along (λ w fault. EndFault (length w) (unread c.args.behind) fault) _
+    c.from_residual.result _ c.from_residual.ensures.1 c.requires.behind (λ h memory. c.requires.progress.faults _
+    (first.bad_end (at_front c.requires.begins refl) (omega (arith, ap length c.in-Some.ensures.items, length-append {A = ℕ})) h)) c.in_err-rest.ensures.first

@@ -1,7 +1,11 @@
 use Rattle.sedck_commands.proofs.Common.{◌≡◌, length, ap, refl, subst, sym, ◌∙◌, arith, unread, IsProgress}
 use Rattle.std.proofs.Common.{rules}
-use Rattle.sedck_commands.proofs.ProgressLemmas.{progress_at, front_none, front_skip, front_done, front_unclosed, front_closed}
+use Rattle.sedck_commands.proofs.ProgressLemmas.{progress_at, front_none, front_skip, front_done, front_closed}
 use Rattle.sedck_commands.proofs.LocationLemmas.{located_skip, located_done}
+use Rattle.sedck_commands.proofs.ItemFaults.{faults_back, last_of}
+use Rattle.sedck_commands.proofs.FaultRefuses.{fault_refuses}
+use Rattle.sedck_commands.proofs.ResultLemmas.{if_err_more}
+use Rattle.sedck_commands.specs.FirstFaults as first
 use Rattle.sedck_commands.proofs.items.read_items.Goals as goal
 
 pub read_item-requires-clause-progress : goal.read_item-requires-clause-progress
@@ -9,7 +13,7 @@ read_item-requires-clause-progress c =
     let old = c.loop-first.invariant.progress in
     let run = c.skip-begins.ensures.1 in
     subst (λ t. IsProgress t (unread c.skip-begins.result) c.loop-first.progress) (sym (ap (λ w. w.now) c.skip-begins.ensures.2.whole ∙ c.loop-first.invariant.same))
-    (progress_at old (front_skip old.front run) (located_skip _ old.located run))
+    (progress_at old (front_skip old.front run) (located_skip _ old.located run) (λ fault x. faults_back run x))
 
 pub loop-first-preserved : goal.loop-first-preserved
 loop-first-preserved c =
@@ -18,10 +22,6 @@ loop-first-preserved c =
       progress = subst (λ t. IsProgress t (unread c.in_ok-rest.rest) c.read_item.new.progress) same c.in_ok-rest.ensures.progress;
       same = ap (λ w. w.now) c.in_ok-rest.ensures.same ∙ same;
     }
-
-pub returns-in-Some-last-clause-refused : goal.returns-in-Some-last-clause-refused
-returns-in-Some-last-clause-refused c = λ memory. front_unclosed c.loop-first.invariant.progress.front c.skip-begins.ensures.1
-    (ap length c.in_default.ensures.cut) (omega (arith, c.in-Some-last.ensures.item.3.0, ap length c.deref.ensures.value))
 
 pub returns-clause-read : goal.returns-clause-read
 returns-clause-read c =
@@ -37,6 +37,7 @@ returns-clause-read c =
       few = done.few;
       label_places = done.label_places;
       empty = done.empty;
+      emptied = done.emptied;
     }
 
 pub loop-first-init : goal.loop-first-init
@@ -53,6 +54,24 @@ loop-first-init c =
         label_places = search rules;
         opened = search rules;
         empty = search rules;
+        emptied = tt;
+        faults = rw (c.new.ensures.items, c.new-3.ensures.items) (λ fault x. x);
       });
       same = ap (λ w. w.now) c.new-rest.ensures.whole;
     }
+
+pub returns-in-Some-last-clause-first : goal.returns-in-Some-last-clause-first
+returns-in-Some-last-clause-first c = λ memory.
+    let done = c.loop-first.invariant.progress in
+    let item = c.in-Some-last.ensures.item in
+    done.faults _ (first.unclosed _ (rw c.in_default.ensures.cut at c.skip-begins.ensures.1)
+    (sym c.deref.ensures.value ∙ last_of c.deref.result.now c.in-Some-last.place.now item.3.0 (item.3.1 0)))
+
+pub returns-in-Some-last-clause-refused : goal.returns-in-Some-last-clause-refused
+returns-in-Some-last-clause-refused c = λ memory. fault_refuses (returns-in-Some-last-clause-first c memory)
+
+pub returns-in_err-rest-clause-first : goal.returns-in_err-rest-clause-first
+returns-in_err-rest-clause-first c = search rules
+
+pub returns-in_err-rest-clause-refused : goal.returns-in_err-rest-clause-refused
+returns-in_err-rest-clause-refused c = if_err_more c.from_residual.result (λ fault x memory. fault_refuses (x memory)) (returns-in_err-rest-clause-first c)

@@ -1,16 +1,15 @@
-use Rattle.sedck_commands.proofs.Common.{◌<◌, ◌≤◌, ◌^◌, [], map, refl, ◌∙◌, sym, subst, arith, literal_length, unread, unread_length, IsPlaced, pattern_of, part_of, IsPart}
+use Rattle.sedck_commands.proofs.Common.{◌<◌, ◌≤◌, ◌^◌, ◌-◌, [], length, map, refl, ◌∙◌, sym, subst, arith, literal_length, unread, unread_length, IsPlaced, pattern_of, part_of, IsPart}
 use Rattle.std.proofs.lemmas.List.Elements.{All-from_recursion}
 use Rattle.sedck_commands.proofs.OffsetLemmas.{tail_length, tail_behind, expression_tail}
-use Rattle.sedck_commands.proofs.ResultLemmas.{if_err_each, if_err_from, if_err_same}
+use Rattle.sedck_commands.proofs.ResultLemmas.{if_err_from, if_err_same}
 use Rattle.sedck_commands.proofs.PlaceLemmas.{part_placed, part_placed_same, unread_before}
-use Rattle.sedck_commands.proofs.UniqueVerbs.{no_backslash}
-use Rattle.sedck_commands.proofs.VerbLemmas.{substitute_read, substitute_no_delimiter, substitute_no_pattern, substitute_no_parts, substitute_no_flags}
+use Rattle.sedck_commands.proofs.VerbLemmas.{substitute_read, substitute_no_delimiter, substitute_no_pattern, substitute_no_parts}
 use Rattle.sedck_commands.proofs.ReplacementParts.{replacement_parts, replacement_size}
+use Rattle.sedck_commands.proofs.FaultLemmas2.{substitution_undelimited}
+use Rattle.sedck_commands.specs.Faults.{IsOfText}
+use Rattle.sedck_commands.specs.FirstFaults as fault
+use Rattle.sedck_commands.specs.FirstFaults.{SubstitutionFault}
 use Rattle.sedck_commands.proofs.substitutions.read_substitution.Goals as goal
-
-pub returns-in_err-delimiter-clause-refused : goal.returns-in_err-delimiter-clause-refused
-returns-in_err-delimiter-clause-refused c =
-    if_err_each _ c.from_residual.result (λ fault memory. substitute_no_delimiter c.in_err-delimiter.ensures.refused)
 
 pub returns-in_err-delimiter-clause-placed : goal.returns-in_err-delimiter-clause-placed
 returns-in_err-delimiter-clause-placed c =
@@ -19,18 +18,6 @@ returns-in_err-delimiter-clause-placed c =
     (λ is. unread_before c.args.text c.offset-opening.result c.offset-opening.ensures c.requires refl refl
     (substitute_no_delimiter c.in_err-delimiter.ensures.refused)))
 
-pub returns-in_err-pattern-clause-refused : goal.returns-in_err-pattern-clause-refused
-returns-in_err-pattern-clause-refused c =
-    if_err_from _ c.from_residual-in_err-pattern.result _ c.from_residual-in_err-pattern.ensures.1
-    (λ memory. substitute_no_pattern c.in_ok-delimiter.ensures.read.0 (c.in_err-pattern.ensures.refused memory))
-
-pub returns-in_err-parts-clause-refused : goal.returns-in_err-parts-clause-refused
-returns-in_err-parts-clause-refused c =
-    if_err_from _ c.from_residual-in_err-parts.result _ c.from_residual-in_err-parts.ensures.1
-    (λ memory. substitute_no_parts _
-    (pattern_of c.in_ok-pattern.pattern) c.in_ok-delimiter.ensures.read.0 c.in_ok-pattern.ensures.only c.greatest_group-greatest.ensures
-    (c.in_err-parts.ensures.refused memory))
-
 pub outside_of-outside-requires : goal.outside_of-outside-requires
 outside_of-outside-requires c =
     rw (← c.deref.ensures.value) at (All-from_recursion IsPart (map part_of c.in_ok-parts.parts.items) (replacement_parts c.in_ok-parts.ensures.read))
@@ -38,12 +25,6 @@ outside_of-outside-requires c =
 pub returns-in_err-seen-clause-placed : goal.returns-in_err-seen-clause-placed
 returns-in_err-seen-clause-placed c = if_err_same IsPlaced c.from_residual-in_err-seen.result _ c.from_residual-in_err-seen.ensures.1
     (c.in_ok-parts.ensures.same ∙ c.in_ok-pattern.ensures.same ∙ c.in_ok-delimiter.ensures.ahead.0.whole) c.in_err-seen.ensures.placed
-
-pub returns-in_err-seen-clause-refused : goal.returns-in_err-seen-clause-refused
-returns-in_err-seen-clause-refused c = if_err_each _ c.from_residual-in_err-seen.result (λ fault memory.
-    substitute_no_flags (pattern_of c.in_ok-pattern.pattern)
-    (no_backslash c.in_ok-delimiter.ensures.read.1) c.in_ok-delimiter.ensures.read.0 c.in_ok-pattern.ensures.only c.in_ok-parts.ensures.read
-    c.in_err-seen.ensures.refused)
 
 pub returns-clause-read : goal.returns-clause-read
 returns-clause-read c =
@@ -72,3 +53,31 @@ literal_length-literal-requires c =
     let behind = tail_length (expression_tail c.in_ok-pattern.ensures.read.1.cut) in
     let small = replacement_size c.in_ok-parts.ensures.read in
     subst (λ parts. literal_length (map part_of parts) < 2 ^ 64) (sym c.deref-2.ensures.value) (omega (arith, opened, behind, small, unread_length c.args.text, c.ranges.text.0))
+
+pub returns-in_err-delimiter-clause-first : goal.returns-in_err-delimiter-clause-first
+returns-in_err-delimiter-clause-first c = if_err_from _ c.from_residual.result _ c.from_residual.ensures.1
+    (λ memory. substitution_undelimited c.offset-opening.ensures c.in_err-delimiter.ensures.first)
+
+pub returns-in_err-pattern-clause-first : goal.returns-in_err-pattern-clause-first
+returns-in_err-pattern-clause-first c =
+    if_err_same (λ whole f. IsOfText f → SubstitutionFault (length whole) (c.args.text.at - 1) (unread c.args.text) f)
+    c.from_residual-in_err-pattern.result _ c.from_residual-in_err-pattern.ensures.1 c.in_ok-delimiter.ensures.ahead.0.whole
+    (λ memory. fault.SubstitutionFault.pattern c.in_ok-delimiter.ensures.read.0 c.in_ok-delimiter.ensures.read.1
+    (rw c.offset-opening.ensures at (c.in_err-pattern.ensures.first memory)))
+
+pub returns-in_err-parts-clause-first : goal.returns-in_err-parts-clause-first
+returns-in_err-parts-clause-first c =
+    if_err_same (λ whole f. IsOfText f → SubstitutionFault (length whole) (c.args.text.at - 1) (unread c.args.text) f)
+    c.from_residual-in_err-parts.result _ c.from_residual-in_err-parts.ensures.1 (c.in_ok-pattern.ensures.same ∙ c.in_ok-delimiter.ensures.ahead.0.whole)
+    (λ memory. fault.SubstitutionFault.replacement c.in_ok-delimiter.ensures.read.0 c.in_ok-delimiter.ensures.read.1
+    c.in_ok-pattern.ensures.read.1 c.in_ok-pattern.ensures.read.2
+    (rw (c.offset-opening.ensures, c.greatest_group-greatest.ensures) at (c.in_err-parts.ensures.first memory)))
+
+pub returns-in_err-seen-clause-first : goal.returns-in_err-seen-clause-first
+returns-in_err-seen-clause-first c =
+    if_err_same (λ whole f. IsOfText f → SubstitutionFault (length whole) (c.args.text.at - 1) (unread c.args.text) f)
+    c.from_residual-in_err-seen.result _ c.from_residual-in_err-seen.ensures.1
+    (c.in_ok-parts.ensures.same ∙ c.in_ok-pattern.ensures.same ∙ c.in_ok-delimiter.ensures.ahead.0.whole)
+    (λ memory. fault.SubstitutionFault.flags c.in_ok-delimiter.ensures.read.0 c.in_ok-delimiter.ensures.read.1
+    c.in_ok-pattern.ensures.read.1 c.in_ok-pattern.ensures.read.2 c.in_ok-parts.ensures.read
+    (λ k i. subst (λ m. k ≤ m) c.greatest_group-greatest.ensures (c.in_ok-parts.ensures.groups k i)) c.in_err-seen.ensures.first)

@@ -1,12 +1,8 @@
-use Rattle.sedck_commands.proofs.Common.{◌≡◌, subst, arith, HasNoInnerReturn, longest_one}
-use Rattle.sedck_commands.proofs.CommentLemmas.{no_inner_return, inner_return, return_stands}
+use Rattle.sedck_commands.proofs.Common.{◌≡◌, arith}
+use Rattle.sedck_commands.proofs.CommentLemmas.{no_inner_return, return_stands}
+use Rattle.sedck_commands.proofs.FaultLemmas2.{return_fault}
 use Rattle.sedck_commands.proofs.texts.read_comment.Goals as goal
 use Rattle.sedck_commands.proofs.texts.read_comment.Goals.{in-Some+else-at-line, in_default}
-
-pub returns-then-at-line-clause-refused : goal.returns-then-at-line-clause-refused
-returns-then-at-line-clause-refused c = λ line rest x.
-    inner_return c.split.result.0.now c.in-Some.at c.in-Some.ensures.1 (omega (arith, c.if-at-line.true))
-    (subst HasNoInnerReturn (longest_one x.0 c.split.ensures.run).0 x.1)
 
 pub returns-then-at-line-clause-placed : goal.returns-then-at-line-clause-placed
 returns-then-at-line-clause-placed c =
@@ -24,3 +20,7 @@ returns-clause-read c = (
     ]),
   ),
 )
+
+pub returns-then-at-line-clause-first : goal.returns-then-at-line-clause-first
+returns-then-at-line-clause-first c =
+    return_fault c.args.text c.split.result.0.now _ c.in-Some.at c.split.ensures.run c.in-Some.ensures (omega (arith, c.if-at-line.true)) c.offset.ensures

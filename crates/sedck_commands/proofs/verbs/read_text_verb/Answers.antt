@@ -3,10 +3,8 @@ use Rattle.sedck_commands.specs.Items.{append, change, insert}
 use Rattle.sedck_commands.proofs.FormLemmas.{text_known}
 use Rattle.sedck_commands.proofs.PlaceLemmas.{unread_before}
 use Rattle.sedck_commands.proofs.VerbCases.{no_text}
+use Rattle.sedck_commands.specs.FirstFaults as fault
 use Rattle.sedck_commands.proofs.verbs.read_text_verb.Goals as goal
-
-pub returns-in_default-clause-refused : goal.returns-in_default-clause-refused
-returns-in_default-clause-refused c = no_text (text_byte c.args.verb) (text_known c.args.verb).listed c.skip.ensures.1 c.in_default.ensures.none
 
 pub returns-in_default-clause-placed : goal.returns-in_default-clause-placed
 returns-in_default-clause-placed c =
@@ -22,3 +20,6 @@ returns-in-Change-clause-read c = change (ap text_byte c.in-Change.is) c.skip.en
 
 pub returns-in-Insert-clause-read : goal.returns-in-Insert-clause-read
 returns-in-Insert-clause-read c = insert (ap text_byte c.in-Insert.is) c.skip.ensures.1 c.in-Some.ensures.read
+
+pub returns-in_default-clause-first : goal.returns-in_default-clause-first
+returns-in_default-clause-first c = rw c.offset.ensures (fault.missing c.skip.ensures.1 c.in_default.ensures.none)

@@ -1,0 +1,115 @@
+-- Where a text begins of which it is said what is wrong with it.
+use Rattle.sedck_commands.proofs.Common.{◌≡◌, ◌≢◌, ◌∙◌, ℕ, suc, ◌+◌, ◌-◌, ◌<◌, ◌≤◌, Bool, true, false, not, List, [], ◌∷◌, ◌++◌, Some, length, get_or, take, drop, refl, ap, sym, subst, arith, length-append, length-drop, eq-eqb, nil_from_length, not_from_false, is_blank, is_digit, is_ending, is_continued, is_newline, is_skipped, IsEmptyOr, Longest, Number, unread, unread_length, IsAhead, Bor, Cursor, ScriptFault}
+use Rattle.std.proofs.lemmas.List.{get_or-take, length-take-le}
+use Rattle.std.proofs.lemmas.Grind.{get_or_default_zero}
+use Rattle.memchr.specs.Find.{IsFirstByte, is_byte}
+use Rattle.sedck_commands.proofs.LineBytes.{continued_last}
+use Rattle.sedck_commands.proofs.CommentLemmas.{return_cut}
+use Rattle.sedck_commands.specs.FirstFaults.{BeginsAt, CommentFault, NameFault, FlagsFault, begins_flag, HasNoDelimiter, SubstitutionFault, TransliterationFault}
+use Rattle.sedck_commands.specs.FirstFaults as fault
+use Rattle.sedck_commands.specs.declared.fault.ScriptFault.TheVariants.{ExtraText, BadFlag, Unterminated}
+
+-- what hasn't been read begins at the cursor's offset
+pub begins_here : (cursor : Cursor) {whole : Bor (List ℕ)} {cut : List ℕ} {offset : ℕ} → cursor.whole ≡ whole → unread cursor ≡ cut → offset ≡ cursor.at
+    → BeginsAt (length whole.now) cut offset
+begins_here cursor same cut at = omega (arith, unread_length cursor, ap (λ w. length w.now) same, ap length cut, at)
+
+-- what follows a line that is continued begins behind its last byte
+pub begins_behind : (text behind : Cursor) (line : List ℕ) {whole : Bor (List ℕ)} {offset : ℕ} → text.whole ≡ whole → IsAhead text (length line) behind
+    → is_continued line ≡ true → offset ≡ behind.at → BeginsAt (length whole.now) (unread behind) (offset - 1 + 1)
+begins_behind text behind line same ahead over at =
+    omega (arith, unread_length behind, ap (λ w. length w.now) (ahead.whole ∙ same), ahead.at, (continued_last line over).0, at)
+
+-- the first carriage return of a comment, where it is before another byte
+pub return_fault : (text : Cursor) (line rest : List ℕ) (at : ℕ) {offset : ℕ} → Longest (λ b. not (is_newline b)) (unread text) line rest
+    → IsFirstByte (is_byte 13) line (Some at) → suc at < length line → offset ≡ text.at
+    → CommentFault (length text.whole.now) (unread text) (ExtraText (offset + at))
+return_fault text line rest at run first within here =
+    let front = take at line in
+    let more = drop (suc at) line in
+    let cut : line ≡ front ++ 13 ∷ more = return_cut line at first.1 (omega (arith, within)) in
+    let long : length front ≡ at = length-take-le at line (omega (arith, within)) in
+    fault.CommentFault.inner_return front more run cut
+    (λ k. first.0.before k.0 (omega arith) (omega (arith, k.1, long))
+    (eq-eqb _ 13 (sym (get_or_default_zero line k.0 13 (omega (arith, k.1, long, within)))
+    ∙ sym (get_or-take at line k.0 13 (omega (arith, k.1, long))) ∙ k.2)))
+    (omega (arith, within, length-drop (suc at) line))
+    (omega (
+      arith,
+      unread_length text,
+      here,
+      long,
+      ap length run.cut,
+      length-append line rest,
+      ap length cut,
+      length-append front (13 ∷ more),
+      length-append (13 ∷ more) rest,
+    ))
+
+not_not : (b : Bool) → not (not b) ≡ true → b ≡ true
+not_not true h = refl
+not_not false h = h
+
+-- a text whose line is empty
+pub no_line : {begins line rest : List ℕ} → Longest (λ b. not (is_newline b)) begins line rest → length line < 1 → IsEmptyOr is_newline begins
+no_line {begins} {line} {rest} run none = go begins (rw (sym (run.cut ∙ ap (λ t. t ++ rest) (nil_from_length line (omega (arith, none))))) at run.stops)
+  where
+    go : (text : List ℕ) → IsEmptyOr (λ b. not (not (is_newline b))) text → IsEmptyOr is_newline text
+    go [] h = tt
+    go (b ∷ text) h = not_not (is_newline b) h
+
+-- a name whose first byte some seds skip
+pub skipped_fault : (begins : Cursor) {whole : Bor (List ℕ)} {text blanks : List ℕ} (name rest : List ℕ) {opening offset : ℕ} → begins.whole ≡ whole
+    → Longest is_blank text blanks (unread begins) → unread begins ≡ name ++ rest → 1 ≤ length name → is_skipped (get_or name 0 0) ≡ true
+    → offset ≡ begins.at → NameFault (length whole.now) opening text (ExtraText offset)
+skipped_fault begins [] rest same l cut some h at = absurd (omega (arith, some))
+skipped_fault begins (b ∷ name) rest same l cut some h at = fault.NameFault.skipped (rw cut at l) h (begins_here begins same cut at)
+
+pub first_plain : (test : ℕ → Bool) (name : List ℕ) → test (get_or name 0 0) ≡ false → IsEmptyOr (λ b. not (test b)) name
+first_plain test [] h = tt
+first_plain test (b ∷ name) h = not_from_false (test b) h
+
+-- a byte that begins no flag, and no end of the flags
+pub no_flag_byte : (b : ℕ) → b ≢ 103 → b ≢ 112 → b ≢ 119 → is_digit b ≡ false → is_blank b ≡ false → is_ending b ≡ false → begins_flag b ≡ false
+no_flag_byte b f g h i j k = grind (arith, f, g, h, i, j, k)
+
+-- what is said of a text of the same size
+pub resized : (F : ℕ → Type 0) {whole other : Bor (List ℕ)} → other ≡ whole → F (length other.now) → F (length whole.now)
+resized F same x = subst (λ w. F (length w.now)) same x
+
+-- ---- Flags that have been read, or are there again
+
+module _ {size : ℕ} {text behind : List ℕ} {global print numbered : Bool} where
+  pub global_passed : {f : ScriptFault} → global ≡ false → text ≡ 103 ∷ behind → FlagsFault size true print numbered behind f
+      → FlagsFault size global print numbered text f
+  global_passed {f} g e x = subst (λ b. FlagsFault size b print numbered text f) (sym g) (fault.FlagsFault.global e x)
+
+  pub print_passed : {f : ScriptFault} → print ≡ false → text ≡ 112 ∷ behind → FlagsFault size global true numbered behind f
+      → FlagsFault size global print numbered text f
+  print_passed {f} g e x = subst (λ b. FlagsFault size global b numbered text f) (sym g) (fault.FlagsFault.print e x)
+
+  pub number_passed : {f : ScriptFault} {nth : ℕ} → numbered ≡ false → Number text nth behind → FlagsFault size global print true behind f
+      → FlagsFault size global print numbered text f
+  number_passed {f} g a x = subst (λ b. FlagsFault size global print b text f) (sym g) (fault.FlagsFault.number a x)
+
+  pub global_again : {offset : ℕ} → global ≡ true → text ≡ 103 ∷ behind → BeginsAt size text offset
+      → FlagsFault size global print numbered text (BadFlag offset)
+  global_again {offset} g e at = subst (λ b. FlagsFault size b print numbered text (BadFlag offset)) (sym g) (fault.FlagsFault.global_again e at)
+
+  pub print_again : {offset : ℕ} → print ≡ true → text ≡ 112 ∷ behind → BeginsAt size text offset
+      → FlagsFault size global print numbered text (BadFlag offset)
+  print_again {offset} g e at = subst (λ b. FlagsFault size global b numbered text (BadFlag offset)) (sym g) (fault.FlagsFault.print_again e at)
+
+  pub number_again : {offset nth : ℕ} → numbered ≡ true → Number text nth behind → BeginsAt size text offset
+      → FlagsFault size global print numbered text (BadFlag offset)
+  number_again {offset} g a at = subst (λ b. FlagsFault size global print b text (BadFlag offset)) (sym g) (fault.FlagsFault.number_again a at)
+
+-- ---- A verb without a delimiter
+
+pub substitution_undelimited : {size n at : ℕ} {text : List ℕ} {f : ScriptFault} → n ≡ at → HasNoDelimiter text × (f ≡ Unterminated (n - 1))
+    → SubstitutionFault size (at - 1) text f
+substitution_undelimited here h = rw (sym here, h.1) (fault.SubstitutionFault.undelimited h.0)
+
+pub transliteration_undelimited : {size n at : ℕ} {text : List ℕ} {f : ScriptFault} → n ≡ at → HasNoDelimiter text × (f ≡ Unterminated (n - 1))
+    → TransliterationFault size (at - 1) text f
+transliteration_undelimited here h = rw (sym here, h.1) (fault.TransliterationFault.undelimited h.0)
