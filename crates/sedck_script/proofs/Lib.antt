@@ -13,3 +13,6 @@ pub mod SpelledIsScript
 pub mod ShortestLemmas
 pub mod UniqueScripts
 pub mod SpelledIsRead
+pub mod EmptyExpressions
+pub mod OneLocation
+pub mod FirstFaultIsOne

@@ -1,5 +1,5 @@
 -- A text spells one program at most.
-use Rattle.sedck_script.proofs.Common.{◌≡◌, Bool, true, false, ℕ, List, refl, sym, Program, Spells, SpellsIn, items_one, Narrowings}
+use Rattle.sedck_script.proofs.Common.{◌≡◌, Bool, true, false, ℕ, List, refl, sym, Program, SpellsIn, items_one, Narrowings}
 use Rattle.sedck_script.proofs.UniqueCommands.{commands_one}
 
 same_tests : (a b : Bool) → (a ≡ true → b ≡ true) → (b ≡ true → a ≡ true) → a ≡ b

@@ -16,6 +16,7 @@ pub use Rattle.sedck_commands.specs.Cuts
 pub use Rattle.sedck_commands.specs.References
 pub use Rattle.sedck_commands.specs.Faults
 pub use Rattle.sedck_commands.specs.FaultWords
+pub use Rattle.sedck_commands.specs.FirstFaults
 -- What the public contracts cite, in reading order.
 pub mod View
 pub mod Names
@@ -25,6 +26,7 @@ pub mod Resolution
 pub mod Shortest
 pub mod Invariant
 pub mod First
+pub mod FirstFault
 pub mod Laws
 pub mod Examples
 -- What functions inside the crate promise each other.

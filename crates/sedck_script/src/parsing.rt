@@ -10,6 +10,7 @@ ghost use Rattle.sedck_commands.specs.ItemView.{item_of};
 ghost use Rattle.sedck_commands.specs.ReadItems.{IsRead};
 ghost use Rattle.sedck_script.specs.View.{command_of};
 ghost use Rattle.sedck_commands.specs.Faults.{IsPlaced, IsFirstZero, IsOfText};
+ghost use Rattle.sedck_script.specs.FirstFault.{LinksFault, IsFirstFault};
 
 use crate::expressions::{has_expression, is_quiet};
 use crate::names::sorted_names;
@@ -26,6 +27,7 @@ fn check_text(text: &[u8]) -> Result<(), ScriptFault>
     ensures placed { IfErr result (λ fault. IsPlaced text.now fault) }
     ensures too_long { TEXT_LIMIT < length text.now → result ≡ Err (ScriptFault.TooLong TEXT_LIMIT) }
     ensures zero { (place : ℕ) → length text.now ≤ TEXT_LIMIT → IsFirstZero text.now place → result ≡ Err (ScriptFault.NulByte place) }
+    ensures first { IfErr result (λ fault. IsFirstFault text.now fault) }
 {
     if text.len() > TEXT_LIMIT {
         return Err(ScriptFault::TooLong { place: TEXT_LIMIT });
@@ -44,6 +46,7 @@ fn checked_items<'a>(alloc: Global, text: &'a [u8]) -> Result<Progress<'a>, Scri
     ensures placed { IfErr result (λ fault. IsPlaced text.now fault) }
     ensures too_long { TEXT_LIMIT < length text.now → result ≡ Err (ScriptFault.TooLong TEXT_LIMIT) }
     ensures zero { (place : ℕ) → length text.now ≤ TEXT_LIMIT → IsFirstZero text.now place → result ≡ Err (ScriptFault.NulByte place) }
+    ensures first { IfErr result (λ fault. IsOfText fault → IsFirstFault text.now fault) }
 {
     check_text(text)?;
     read_items(alloc, text)
@@ -74,6 +77,8 @@ fn commands<'a>(
     ensures read { IfOk result (λ commands. AreCommands (map item_of progress.entry.items.items) (map command_of commands.items)) }
     ensures refused { IfErr result (λ fault. IsOfText fault → (other : Program) → Spells text.now other → ⊥) }
     ensures placed { IfErr result (λ fault. IsPlaced text.now fault) }
+    ensures first { IfErr result (λ fault. IsOfText fault → (spelled : Items text.now (map item_of progress.entry.items.items))
+        → LinksFault text.now (map item_of progress.entry.items.items) spelled fault) }
 {
     let Progress {
         items,
@@ -99,6 +104,7 @@ fn script<'a>(
     ensures only { IfOk result (λ script. (other : Program) → Spells text.now other → other ≡ script) }
     ensures refused { IfErr result (λ fault. IsOfText fault → (other : Program) → Spells text.now other → ⊥) }
     ensures placed { IfErr result (λ fault. IsPlaced text.now fault) }
+    ensures first { IfErr result (λ fault. IsOfText fault → IsFirstFault text.now fault) }
 {
     let commands = commands(alloc, text, progress)?;
     let reads = sorted_names(alloc, &commands, Access::Read)?;
@@ -117,6 +123,7 @@ pub fn parse<'a>(alloc: Global, text: &'a [u8]) -> Result<Script<'a>, ScriptFaul
     ensures placed { IfErr result (λ fault. IsPlaced text.now fault) }
     ensures too_long { TEXT_LIMIT < length text.now → result ≡ Err (ScriptFault.TooLong TEXT_LIMIT) }
     ensures zero { (place : ℕ) → length text.now ≤ TEXT_LIMIT → IsFirstZero text.now place → result ≡ Err (ScriptFault.NulByte place) }
+    ensures first { IfErr result (λ fault. IsOfText fault → IsFirstFault text.now fault) }
 {
     let progress = checked_items(alloc, text)?;
     script(alloc, text, progress)
@@ -144,6 +151,7 @@ pub fn locate<'a>(alloc: Global, text: &'a [u8]) -> Result<Located<'a>, ScriptFa
     ensures placed { IfErr result (λ fault. IsPlaced text.now fault) }
     ensures too_long { TEXT_LIMIT < length text.now → result ≡ Err (ScriptFault.TooLong TEXT_LIMIT) }
     ensures zero { (place : ℕ) → length text.now ≤ TEXT_LIMIT → IsFirstZero text.now place → result ≡ Err (ScriptFault.NulByte place) }
+    ensures first { IfErr result (λ fault. IsOfText fault → IsFirstFault text.now fault) }
 {
     let progress = checked_items(alloc, text)?;
     let locations = locations(alloc, &progress.items)?;

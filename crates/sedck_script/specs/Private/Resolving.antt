@@ -1,5 +1,5 @@
 -- What the resolver of labels says of items.
-use Rattle.std.specs.Prelude.{◌≡◌, ℕ, if◌then◌else◌, List, [], ◌∷◌, ◌++◌, Option, Some, None, unwrap_or}
+use Rattle.std.specs.Prelude.{◌≡◌, ℕ, ◌+◌, ◌<◌, length, drop, get_or, slice_get, All, if◌then◌else◌, List, [], ◌∷◌, ◌++◌, Option, Some, None, unwrap_or}
 use Rattle.std.specs.Borrow.{Bor}
 use Rattle.std.specs.HashMap.{HashMap}
 use Rattle.sedck_text.specs.Text.{one_of}
@@ -8,11 +8,15 @@ use Rattle.sedck_commands.specs.Items.{WrittenVerb, Known, JumpTo, Opening, Item
 use Rattle.sedck_commands.specs.View.{address_of}
 use Rattle.sedck_commands.specs.Faults.{IsLabelBehind}
 use Rattle.sedck_commands.specs.Labels.{label_place}
+use Rattle.sedck_commands.specs.FirstFaults.{LabelBeginsAt}
 use Rattle.sedck_commands.specs.Blocks.{Turn, Opens, Closes, Stays, Jumps}
-use Rattle.sedck_commands.specs.ItemView.{written_verb}
+use Rattle.sedck_commands.specs.ItemView.{written_verb, item_of}
+use Rattle.sedck_commands.specs.ReadItems.{IsItemAt}
 use Rattle.sedck_commands.specs.declared.fault.ScriptFault.{ScriptFault}
 use Rattle.sedck_commands.specs.declared.fault.ScriptFault.TheVariants.{UnknownLabel}
 use Rattle.sedck_commands.specs.declared.items.WrittenCommand.{WrittenCommand}
+use Rattle.sedck_commands.specs.declared.items.WrittenItem.{WrittenItem}
+use Rattle.sedck_commands.specs.declared.items.WrittenItem.TheVariants as item
 
 -- a label is one that the map has, or there is none
 abbrev pub IsKnownLabel : {S : Type 0} → HashMap (Bor (List ℕ)) ℕ S → Option (List ℕ) → Type 0
@@ -60,3 +64,15 @@ TakesTarget (Jumps braced) old new target = new ≡ old
 abbrev pub IsUnknownLabel : {S : Type 0} → HashMap (Bor (List ℕ)) ℕ S → List ℕ → ScriptFault → Type 0
 IsUnknownLabel labels text fault =
     (place : ℕ) × (name : List ℕ) × (fault ≡ UnknownLabel place) × IsLabelBehind (one_of "bt") text place name × (label_place labels name ≡ None)
+
+-- the first of the items whose label the map lacks is this command at this place, and the fault at its label
+pub record IsFirstLost {S : Type 0} (labels : HashMap (Bor (List ℕ)) ℕ S) (items : List WrittenItem) (fault : ScriptFault) : Type 0 where
+  pub place : ℕ
+  pub command : WrittenCommand
+  pub here : slice_get items place ≡ Some (item.Command command)
+  pub before : (k : ℕ) (d : WrittenItem) → k < place → IsKnownLabel labels (item_label (item_of (get_or items k d)))
+  pub name : List ℕ
+  pub label : item_label (item_of (item.Command command)) ≡ Some name
+  pub lost : label_place labels name ≡ None
+  pub at : (text : List ℕ) → All (IsItemAt text) items
+      → (offset : ℕ) × (fault ≡ UnknownLabel offset) × LabelBeginsAt (length text) (drop (command.location.verb + 1) text) name offset

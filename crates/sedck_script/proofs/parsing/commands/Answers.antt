@@ -1,8 +1,9 @@
 use Rattle.sedck_script.proofs.Common.{refl, inl, inr, ◌≡◌, ◌∙◌, ℕ, List, Option, Some, None, true, map, sym, subst, ap, arith, item_of, if_err_from, Pattern, expressions, command_of, has_previous, item_patterns, has_some}
 use Rattle.std.proofs.lemmas.Bool.{both_ways}
 use Rattle.sedck_commands.specs.Faults.{IsPlaced}
-use Rattle.sedck_script.proofs.ProgramLemmas.{undefined_label, no_target, no_expression, are_commands}
-use Rattle.sedck_commands.specs.ReadItems.{IsEmptyAt}
+use Rattle.sedck_script.proofs.ProgramLemmas.{undefined_label, no_target, no_expression, are_commands, first_lost, first_empty, all_known, no_patterns}
+use Rattle.sedck_commands.specs.ReadItems.{IsEmptyAt, EmptyOf}
+use Rattle.sedck_script.specs.FirstFault.{LinksFault}
 use Rattle.sedck_script.proofs.parsing.commands.Goals as goal
 
 pub returns-in_err-commands-clause-refused : goal.returns-in_err-commands-clause-refused
@@ -50,3 +51,19 @@ returns-clause-read c = are_commands c.args.progress.labels c.requires.labels c.
     none_previous c.args.text.now
     (item_patterns (map item_of c.args.progress.items.items)) c.args.progress.empty c.requires.empty h in
     ap (λ v. has_some (expressions (map command_of v))) (sym c.deref.ensures.value) ∙ c.in_ok-check_previous.ensures.found some.0 some.1)
+
+pub returns-in_err-commands-clause-first : goal.returns-in_err-commands-clause-first
+returns-in_err-commands-clause-first c = if_err_from _ c.from_residual.result _ c.from_residual.ensures.1
+    (λ memory spelled. first_lost c.args.progress.labels c.args.progress.items.items c.requires.labels (c.in_err-commands.ensures.first memory)
+    c.requires.label_places spelled (c.requires.located _ spelled))
+
+pub returns-in_err-check_previous-clause-first : goal.returns-in_err-check_previous-clause-first
+returns-in_err-check_previous-clause-first c =
+    let fault = c.in_err-check_previous.ensures.fault in
+    let items = c.args.progress.items.items in
+    if_err_from _ c.from_residual-in_err-check_previous.result _ c.from_residual-in_err-check_previous.ensures.1
+    (λ memory spelled. subst (LinksFault c.args.text.now (map item_of items) spelled) (sym fault.2)
+    (first_empty items (subst (EmptyOf c.args.text.now items) fault.1 c.requires.emptied) spelled (c.requires.located _ spelled)
+    (all_known c.args.progress.labels items c.requires.labels items c.in_ok-commands.ensures.known)
+    (no_patterns c.in_ok-commands.ensures.resolved
+    (ap (λ v. has_some (expressions (map command_of v))) (sym c.deref.ensures.value) ∙ c.in_err-check_previous.ensures.none))))

@@ -1,9 +1,11 @@
-use Rattle.sedck_script.proofs.Common.{◌∙◌, ◌↔◌, ℕ, List, map, sym, subst, ap, IsTrue, Program, Item, Items, sorted_names, all_accessed, command_of, IsQuiet, AreCommands, Spells}
+use Rattle.sedck_script.proofs.Common.{◌∙◌, ◌↔◌, ℕ, List, map, sym, subst, ap, IsTrue, Program, Item, Items, sorted_names, all_accessed, command_of, IsQuiet, AreCommands, Spells, arith, if_err_from}
 use Rattle.sedck_script.specs.Private.Fields.{program_from}
 use Rattle.sedck_script.specs.Spelling.{IsScriptText}
 use Rattle.sedck_commands.specs.declared.names.Access.TheVariants.{Read, Write}
 use Rattle.sedck_script.proofs.UniqueScripts.{whole_one}
 use Rattle.sedck_script.proofs.SpelledIsScript.{spelled_script}
+use Rattle.sedck_script.specs.FirstFault.{HasItems, IsFirstFault}
+use Rattle.sedck_script.proofs.ProgramLemmas.{once_among}
 use Rattle.sedck_script.proofs.parsing.script.Goals as goal
 
 spelled : {text : List ℕ} {items : List Item} {program : Program} → IsScriptText text → Items text items → AreCommands items program.commands
@@ -29,3 +31,12 @@ pub returns-clause-only : goal.returns-clause-only
 returns-clause-only c = λ other s. whole_one s
     (subst (λ p. Spells c.args.text.now p) (sym c.new.ensures)
     (spelled c.requires.allowed c.requires.read.spelled c.in_ok-commands.ensures.read c.is_quiet.ensures))
+
+pub returns-in_err-commands-clause-first : goal.returns-in_err-commands-clause-first
+returns-in_err-commands-clause-first c = if_err_from _ c.from_residual.result _ c.from_residual.ensures.1
+    (λ memory. IsFirstFault.links c.requires.allowed (record {
+      spelled = c.requires.read.spelled;
+      nests = c.requires.read.nests;
+      once = once_among c.args.progress.labels c.requires.read.labels;
+      few = omega (arith, c.requires.read.few, c.requires.read.count);
+    }) (c.in_err-commands.ensures.first memory c.requires.read.spelled))
