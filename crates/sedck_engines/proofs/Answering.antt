@@ -12,6 +12,7 @@ use Rattle.sedck_commands.specs.declared.fault.ScriptFault.TheVariants as script
 use Rattle.sedck_cert.specs.Certificate.{Certificate}
 use Rattle.sedck_cert.specs.Text.{line, files_text, certificate_text}
 use Rattle.sedck_cert.specs.Versions.{SpellsCertificate, IsFaultIn}
+use Rattle.sedck_script.specs.FirstFault.{IsFirstFault}
 use Rattle.sedck_cert.specs.Headline.{Only, IsAnswered, IsOutOfMemory, IsScriptFaultOf, ReportsFault, IsLimit, IsJudged}
 use Rattle.sedck_cert.specs.declared.checking.Verdict.TheVariants.{Accepted}
 use Rattle.sedck_cert.specs.declared.limits.Bound.{Bound}
@@ -72,6 +73,7 @@ refused_whole whole text why is refused (inl long) =
       is_of_text = refused.is_of_text;
       none = λ p spelled. absurd (omega (arith, longer, spelled.allowed.fits));
       is_fault = record {
+        first = λ _. subst (IsFirstFault whole) (sym too_long) (IsFirstFault.too_long longer);
         placed = subst (IsPlaced whole) (sym too_long) (refl, longer);
         too_long = λ _. too_long;
         zero = λ place fits first. absurd (omega (arith, longer, fits));

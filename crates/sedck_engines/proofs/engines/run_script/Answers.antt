@@ -10,7 +10,7 @@ returns-in_err-script g c =
     let text = sliced 1048577 _ c.deref.result.now _ c.deref.ensures.value c.in_ok-text.ensures.read in
     let script = c.in_err-script.ensures in
     rw is (parse_refused _ _ _ _ _ c.deref.result.now _ text script.refused
-    (script_reported c.deref.result.now _ script.placed script.too_long script.zero))
+    (script_reported c.deref.result.now _ script.first script.placed script.too_long script.zero))
 
 pub returns : goal.returns
 returns g c =

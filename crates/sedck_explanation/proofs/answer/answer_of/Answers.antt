@@ -7,7 +7,12 @@ pub returns-in-Err-clause-answer : goal.returns-in-Err-clause-answer
 returns-in-Err-clause-answer c =
     let located = c.in-Err.ensures in
     locate_refused _ _ _ _ c.in_ok-refused_script-in-Err.ensures located.refused
-    (record { placed = located.placed; too_long = λ long. err_is_err (located.too_long long); zero = λ place fits first. err_is_err (located.zero place fits first) })
+    (record {
+      first = located.first;
+      placed = located.placed;
+      too_long = λ long. err_is_err (located.too_long long);
+      zero = λ place fits first. err_is_err (located.zero place fits first);
+    })
 
 pub returns-clause-answer : goal.returns-clause-answer
 returns-clause-answer c =
