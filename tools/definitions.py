@@ -378,7 +378,7 @@ text.Cursors model.Spots model.States endless.Endless
 search.Found search.Obstacle search.Rows search.NodeSet flow.VersionOne flow.LiteralKinds search.VersionOne
 commands.Locations plain.WrittenLists plain.Plain locales.Written locales.Locales locales.Laws
 commands.ReadItems commands.Labels commands.Blocks
-commands.Faults expressions.Faults expressions.FirstFault expressions.Reading expressions.BracketReading expressions.IntervalReading cert.Faults
+script.FirstFault commands.FirstFaults commands.Faults expressions.Faults expressions.FirstFault expressions.Reading expressions.BracketReading expressions.IntervalReading cert.Faults
 commands.FaultWords expressions.FaultWords cert.FaultText cli.Lines
 flow.Words engines.Reports engines.Engines cli.Statuses cli.Causes c.Answers engines.Faults cert.Streams engines.Inputs engines.Opened
 explanation.Answers answer.Status answer.Answers errors.Denials explanation.Denial explanation.Explanations explanation.Errors errors.Errors formats.Plain calls_in_files.Delivered explain_cli.Mended explain_cli.Spelled explain_cli.Explained explain_cli.Statuses calls_in_files.Lines explain_cli.CallStatus explain_cli.Readings explain_cli.Requests explain_cli.Answers report.Positions report.Shown report.Codes report.Levels report.Files report.Reported advice.Slow advice.References advice.Locale advice.Ignored advice.Added report.Html report.Ascii
