@@ -35,7 +35,7 @@ begins_negated e f is = rw (e, f) (b.negated is)
 
 -- ---- The bracket lists of a text
 
-closed_tail : {text rest : List ℕ} → BracketsClose text rest → EndsIn text rest
+pub closed_tail : {text rest : List ℕ} → BracketsClose text rest → EndsIn text rest
 closed_tail b.here = ([], refl)
 closed_tail (b.byte {b = c} n m x) = tail_cons c (closed_tail x)
 closed_tail (b.pair {a = a} {b = c} h x) = tail_cons a (tail_cons c (closed_tail x))

@@ -42,7 +42,7 @@ jump_label_byte {size} {at} {text = text} {name = name} label some begins cut ot
     (fault.byte (subst (IsLabelAt text name) cut label) some other (subst (λ t. BeginsAt size t at) cut begins))
 
 -- where a `}` is right after the label of a branch, its command ends right there
-brace_first : (text : List ℕ) {rest : List ℕ} → begins "}" text ≡ true → Ends text rest → length rest ≡ length text
+pub brace_first : (text : List ℕ) {rest : List ℕ} → begins "}" text ≡ true → Ends text rest → length rest ≡ length text
 brace_first [] h e = absurd (false≢true h)
 brace_first (b ∷ text) h e = ap length (longest_one e.run none).1
   where

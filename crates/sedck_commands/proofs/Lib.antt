@@ -7,6 +7,7 @@ pub mod NumberLemmas
 pub mod CommandEnds
 pub mod CommentLemmas
 pub mod OffsetLemmas
+pub mod TextEnds
 pub mod PartLemmas
 pub mod LabelLemmas
 pub mod LabelPlaces
@@ -48,3 +49,9 @@ pub mod OneFaultVerbs
 pub mod OneFaultItems
 pub mod OneFaultCauses
 pub mod FaultRefuses
+pub mod PlacedEnds
+pub mod PlacedParts
+pub mod PlacedAddresses
+pub mod PlacedFlags
+pub mod PlacedLabels
+pub mod PlacedItems
