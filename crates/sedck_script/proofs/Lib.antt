@@ -16,3 +16,4 @@ pub mod SpelledIsRead
 pub mod EmptyExpressions
 pub mod OneLocation
 pub mod FirstFaultIsOne
+pub mod FirstFaultPlaced

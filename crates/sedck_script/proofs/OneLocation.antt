@@ -1,5 +1,5 @@
 -- The commands of a text have one list of locations, and each command is at its own.
-use Rattle.sedck_script.proofs.Common.{◌≡◌, ℕ, Bool, List, ◌∷◌, length, Some, refl, ap, ap₂, sym, subst, ◌∙◌, inl, inr, arith, length-append, Address, zero, suc, Item, Written, WrittenVerb, Items, EndsIn, tail_cut, tail_tail, tail_behind, ends_tail, verb_text_tail, commands_among}
+use Rattle.sedck_script.proofs.Common.{◌≡◌, ℕ, Bool, List, ◌∷◌, length, Some, refl, ap, ap₂, sym, subst, ◌∙◌, inl, inr, arith, length-append, Address, zero, suc, Item, Written, WrittenVerb, VerbText, Items, EndsIn, tail_cut, tail_tail, tail_behind, ends_tail, verb_text_tail, commands_among}
 use Rattle.std.proofs.Common.{drop}
 use Rattle.std.specs.Prelude.{◌-◌, slice_get}
 use Rattle.std.proofs.Math.Seq.{drop-append_seam}
@@ -55,18 +55,20 @@ end_at {whole} {text} h =
     let size : length whole - length text ≡ length h.0 = omega (arith, ap length h.1, length-append h.0 text) in
     ap (λ n. drop n whole) size ∙ ap (drop (length h.0)) h.1 ∙ drop-append_seam h.0 text
 
--- the command at this place among the items is at its location
+-- the command at this place among the items is at its location, and its verb too
 pub command_at : (whole : List ℕ) {text : List ℕ} {items : List Item} (x : Items text items) (k : ℕ) {location : Location} → EndsIn whole text
     → slice_get (locations_of (length whole) x) k ≡ Some location
     → (a : Address) × (n : Bool) × (v : WrittenVerb) × (rest : List ℕ) × (slice_get (commands_among items) k ≡ Some (Written a n v))
-    × CommandText (drop location.start whole) a n v rest
+    × CommandText (drop location.start whole) a n v rest × VerbText (drop location.verb whole) v rest
 command_at whole (w.nothing l) k h s = absurd (cc s)
 command_at whole (w.comment l g r o x) k h s = command_at whole x k (tail_tail (tail_behind (tail_tail h (tail_cut l)) refl) (tail_cut r)) s
 command_at whole (w.closing l g r x) k h s = command_at whole x k (tail_tail (tail_behind (tail_tail h (tail_cut l)) refl) (ends_tail r)) s
 command_at whole (w.command {rest = rest} {address = a} {negated = n} {verb = v} l c x) zero {location = location} h s =
     let here : location_of (length whole) c ≡ location = cc s in
-    let start = sym (end_at (tail_tail h (tail_cut l))) ∙ ap (λ t. drop t.start whole) here in
-    (a, n, v, rest, refl, subst (λ t. CommandText t a n v rest) start c)
+    let begins = tail_tail h (tail_cut l) in
+    let start = sym (end_at begins) ∙ ap (λ t. drop t.start whole) here in
+    let verb = sym (end_at (tail_tail begins (tail_tail (address_tail c.addresses) (tail_cut c.run)))) ∙ ap (λ t. drop t.verb whole) here in
+    (a, n, v, rest, refl, subst (λ t. CommandText t a n v rest) start c, subst (λ t. VerbText t v rest) verb c.verbs)
 command_at whole (w.command l c x) (suc k) h s =
     command_at whole x k
     (tail_tail h (tail_tail (tail_cut l) (tail_tail (address_tail c.addresses) (tail_tail (tail_cut c.run) (verb_text_tail c.verbs))))) s

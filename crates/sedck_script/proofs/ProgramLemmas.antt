@@ -34,7 +34,7 @@ no_program none other s =
 
 -- ---- Labels
 
-among_has : (items : List Item) (name : List ℕ) → Contains items (Written NoAddress false (Known (Label name)))
+pub among_has : (items : List Item) (name : List ℕ) → Contains items (Written NoAddress false (Known (Label name)))
     → (i : ℕ) × (slice_get (commands_among items) i ≡ Some (Written NoAddress false (Known (Label name))))
 among_has [] name h = absurd (omega (arith, h.1))
 among_has (Written a n v ∷ items) name h = elim (Contains-cons_cases (Written a n v) items _ h) [
