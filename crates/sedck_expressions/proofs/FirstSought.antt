@@ -1,5 +1,6 @@
 -- There is one first part of a tree that is sought, at one place: the text of an item ends at one place, however the item stands in its list.
-use Rattle.sedck_expressions.proofs.Common.{◌≡◌, ℕ, ◌+◌, Bool, true, false, List, ◌∷◌, ◌++◌, length, drop, Option, inl, inr, refl, sym, ap, subst, ◌∙◌, arith, append_assoc, codes, ◌||◌, cond, false≢true, nat_tests, begins, Tree, Trees, Byte, Any, Set, Start, End, Maybe, Group, Ref, Seq, Repeat, Nil, Then, Level, Position, SpellsByte, SpellsCount, SpellsItems, SpellsList}
+use Rattle.sedck_expressions.proofs.Common.{◌≡◌, ℕ, ◌+◌, Bool, true, false, List, ◌∷◌, ◌++◌, length, drop, Option, inl, inr, refl, sym, ap, subst, ◌∙◌, arith, append_assoc, codes, cond, false≢true, nat_tests, begins, Tree, Trees, Byte, Any, Set, Start, End, Maybe, Group, Ref, Seq, Repeat, Nil, Then, Level, Position, SpellsByte, SpellsCount, SpellsItems, SpellsList}
+use Rattle.std.proofs.lemmas.Bool.{or_parts}
 use Rattle.std.proofs.lemmas.List.{append_cancel_right}
 use Rattle.sedck_expressions.specs.BracketReading.{bracket_at}
 use Rattle.sedck_expressions.specs.IntervalReading.{interval_at}
@@ -66,9 +67,6 @@ one_cut t text u v x y h k is are =
 one_inside : (text a b : List ℕ) → text ≡ codes "\\(" ++ a ++ codes "\\)" → text ≡ codes "\\(" ++ b ++ codes "\\)" → a ≡ b
 one_inside text a b is are = append_cancel_right a b (codes "\\)") (ap (drop 2) (sym is ∙ are))
 
-neither : (a b : Bool) → (a || b) ≡ false → (a ≡ false) × (b ≡ false)
-neither a b h = grind arith
-
 module _ (references : Bool) where
   none_inside : {anchors : Bool} (k : ℕ) (body : Tree) → HasNoneSought references anchors (Group k body) → HasNoneSought references anchors body
   none_inside k body none = record { no_reference = none.no_reference; no_anchor = none.no_anchor; no_repeated = none.no_repeated }
@@ -76,20 +74,20 @@ module _ (references : Bool) where
   none_repeated : {anchors : Bool} (body : Tree) (least : ℕ) (most : Option ℕ) → HasNoneSought references anchors (Repeat body least most)
       → HasNoneSought references true body
   none_repeated body least most none =
-      let no = neither _ _ none.no_repeated in record { no_reference = none.no_reference; no_anchor = λ _. no.0; no_repeated = no.1 }
+      let no = or_parts _ _ none.no_repeated in record { no_reference = none.no_reference; no_anchor = λ _. no.0; no_repeated = no.1 }
 
   none_first : {anchors : Bool} (t : Tree) (ts : Trees) → HasNoneSought references anchors (Seq (Then t ts))
       → HasNoneSought references anchors t × HasNoneSought references anchors (Seq ts)
   none_first t ts none = (
     record {
-      no_reference = λ s. (neither _ _ (none.no_reference s)).0;
-      no_anchor = λ s. (neither _ _ (none.no_anchor s)).0;
-      no_repeated = (neither _ _ none.no_repeated).0;
+      no_reference = λ s. (or_parts _ _ (none.no_reference s)).0;
+      no_anchor = λ s. (or_parts _ _ (none.no_anchor s)).0;
+      no_repeated = (or_parts _ _ none.no_repeated).0;
     },
     record {
-      no_reference = λ s. (neither _ _ (none.no_reference s)).1;
-      no_anchor = λ s. (neither _ _ (none.no_anchor s)).1;
-      no_repeated = (neither _ _ none.no_repeated).1;
+      no_reference = λ s. (or_parts _ _ (none.no_reference s)).1;
+      no_anchor = λ s. (or_parts _ _ (none.no_anchor s)).1;
+      no_repeated = (or_parts _ _ none.no_repeated).1;
     },
   )
 
