@@ -2,7 +2,7 @@
 use Rattle.sedck_flow.proofs.Common.{◌≡◌, ◌≢◌, inl, inr, ℕ, zero, suc, ◌==◌, Bool, true, false, List, [], ◌∷◌, ◌++◌, length, refl, ap, sym, ◌∙◌, subst, arith, ◌||◌, MatchBool, if◌then◌else◌, false≢true, nat_tests, Tree, Byte, Any, Seq, Nil, Then, Groups, Times, WideMatch, is_high, splits_character, CharacterMatch}
 use Rattle.std.proofs.Common.{◌-◌, append_assoc, nat_lt}
 use Rattle.std.specs.Prelude.{◌&&◌}
-use Rattle.std.proofs.lemmas.Bool.{and_from}
+use Rattle.std.proofs.lemmas.Bool.{or_parts, and_from}
 use Rattle.sedck_expressions.specs.Tree.{Trees, Set, Group, Repeat}
 use Rattle.sedck_bre.specs.WideMatch.{WideMatchAll}
 use Rattle.sedck_script.specs.ByteSafe.{goes_on, bytes_due, one_splits}
@@ -17,10 +17,6 @@ first_case false A B is m = absurd (false≢true is)
 second_case : (b : Bool) (A B : Type 0) → b ≡ false → MatchBool b A B → B
 second_case true A B is m = absurd (false≢true (sym is))
 second_case false A B is m = m
-
-pub neither : (a b : Bool) → (a || b) ≡ false → (a ≡ false) × (b ≡ false)
-neither true b is = absurd (false≢true (sym is))
-neither false b is = (refl, is)
 
 -- ---- Characters
 
@@ -149,10 +145,10 @@ byte_at : (b : ℕ) (ts : Trees) → AllWide ts → (g : Bool) → goes_on b ≡
     → ((if g then due == 0 else nat_lt 0 due) || one_splits ts (if g then due - 1 else bytes_due b)) ≡ false
     → (e : Groups) (w : List ℕ) (f : Groups) → CharacterMatchAll begun (Then (Byte b) ts) e w f → Rest begun (Then (Byte b) ts) e w f
 byte_at b ts wide true g due begun lacks h e w f m =
-    let (some, safe) = neither (due == 0) (one_splits ts (due - 1)) h in
+    let (some, safe) = or_parts (due == 0) (one_splits ts (due - 1)) h in
     onward b ts begun e w f (goes b ts wide due begun lacks g some safe e w f m)
 byte_at b ts wide false g due begun lacks h e w f m =
-    let (none, safe) = neither (nat_lt 0 due) (one_splits ts (bytes_due b)) h in
+    let (none, safe) = or_parts (nat_lt 0 due) (one_splits ts (bytes_due b)) h in
     let empty = none_due due begun lacks none in
     onward b ts begun e w f (subst (λ c. Rest (c ++ b ∷ []) ts e w f) (sym empty)
     (begins b ts wide (bytes_due b) (starts b g) safe e w f (subst (λ c. CharacterMatchAll c (Then (Byte b) ts) e w f) empty m)))
@@ -172,8 +168,8 @@ item_wide t ts wide more safe begun empty e w f (u, v, d, cut, first, others) =
 
 repeat_wide : (b : ℕ) (least : ℕ) (most : _) (ts : Trees) → AllWide ts → AllWide (Then (Repeat (Byte b) least most) ts)
 repeat_wide b least most ts more due begun lacks h e w f (u, v, d, cut, (n, within, times), others) =
-    let (apart, safe) = neither (nat_lt 0 due || is_high b) (one_splits ts 0) h in
-    let (none, low) = neither (nat_lt 0 due) (is_high b) apart in
+    let (apart, safe) = or_parts (nat_lt 0 due || is_high b) (one_splits ts 0) h in
+    let (none, low) = or_parts (nat_lt 0 due) (is_high b) apart in
     let empty = none_due due begun lacks none in
     let (rest, same, found) = more 0 [] refl safe d v f others in
     let repeated = times_widen (MatchesCharacter (b ∷ [])) (WideMatch (Byte b)) (low_widens b low) n e u d
@@ -198,24 +194,24 @@ mutual
   all_widen (Then (Byte b) ts) due begun lacks h e w f m = byte_wide b ts (all_widen ts) due begun lacks h e w f m
   all_widen (Then (Repeat (Byte b) least most) ts) due begun lacks h e w f m = repeat_wide b least most ts (all_widen ts) due begun lacks h e w f m
   all_widen (Then (Group k body) ts) due begun lacks h e w f m =
-      let (apart, safe) = neither (nat_lt 0 due || splits_character body) (one_splits ts 0) h in
-      let (none, inside) = neither (nat_lt 0 due) (splits_character body) apart in
+      let (apart, safe) = or_parts (nat_lt 0 due || splits_character body) (one_splits ts 0) h in
+      let (none, inside) = or_parts (nat_lt 0 due) (splits_character body) apart in
       let empty = none_due due begun lacks none in
       item_wide (Group k body) ts (widens (Group k body) inside) (all_widen ts) safe begun empty e w f
       (subst (λ c. CharacterMatchAll c (Then (Group k body) ts) e w f) empty m)
   all_widen (Then (Seq us) ts) due begun lacks h e w f m =
-      let (apart, safe) = neither (nat_lt 0 due || one_splits us 0) (one_splits ts 0) h in
-      let (none, inside) = neither (nat_lt 0 due) (one_splits us 0) apart in
+      let (apart, safe) = or_parts (nat_lt 0 due || one_splits us 0) (one_splits ts 0) h in
+      let (none, inside) = or_parts (nat_lt 0 due) (one_splits us 0) apart in
       let empty = none_due due begun lacks none in
       item_wide (Seq us) ts (widens (Seq us) inside) (all_widen ts) safe begun empty e w f
       (subst (λ c. CharacterMatchAll c (Then (Seq us) ts) e w f) empty m)
   all_widen (Then (Repeat body least most) ts) due begun lacks h e w f m =
-      let (apart, safe) = neither (nat_lt 0 due || splits_character body) (one_splits ts 0) h in
-      let (none, inside) = neither (nat_lt 0 due) (splits_character body) apart in
+      let (apart, safe) = or_parts (nat_lt 0 due || splits_character body) (one_splits ts 0) h in
+      let (none, inside) = or_parts (nat_lt 0 due) (splits_character body) apart in
       let empty = none_due due begun lacks none in
       item_wide (Repeat body least most) ts (widens (Repeat body least most) inside) (all_widen ts) safe begun empty e w f
       (subst (λ c. CharacterMatchAll c (Then (Repeat body least most) ts) e w f) empty m)
   all_widen (Then t ts) due begun lacks h e w f m =
-      let (none, safe) = neither (nat_lt 0 due) (one_splits ts 0) h in
+      let (none, safe) = or_parts (nat_lt 0 due) (one_splits ts 0) h in
       let empty = none_due due begun lacks none in
       item_wide t ts (widens t refl) (all_widen ts) safe begun empty e w f (subst (λ c. CharacterMatchAll c (Then t ts) e w f) empty m)

@@ -1,5 +1,6 @@
 -- Where no command depends on characters, each run by characters is a wide run.
 use Rattle.sedck_flow.proofs.Common.{◌≡◌, ◌⊎◌, inl, inr, ℕ, Bool, false, List, [], ◌∷◌, ◌++◌, map, refl, ap, sym, ◌∙◌, subst, arith, ◌||◌, flat_map, option_map, slice_get, if◌then◌else◌, list_any, none-some, slice_get-map, slice_get_within, get_or_from_slice_get, Tree, no_groups, Pattern, Previous, Expression, Verb, Substitute, Transliterate, Command, Program, pattern_expressions, address_patterns, verb_patterns, patterns, expressions, Contains-cons_cases, is_high, splits_character, StandsFor, Files, State, Start, Event, any_locale, WideTransliterates}
+use Rattle.std.proofs.lemmas.Bool.{or_parts}
 use Rattle.std.proofs.Common.{Option, Some, None}
 use Rattle.std.specs.Prelude.{Contains, All}
 use Rattle.std.proofs.lemmas.List.Concat.{flat_map-append}
@@ -10,7 +11,7 @@ use Rattle.sedck_script.specs.ByteSafe.{replaces_byte, command_expressions, depe
 use Rattle.sedck_flow.specs.WideRun.{WideRun}
 use Rattle.sedck_flow.specs.CharacterRun.{characters_from, ArePartners, BecomesCharacter, CharacterTransliterates, utf_8, CharacterRun}
 use Rattle.sedck_flow.proofs.ExpressionPatterns.{expressions_are_patterns}
-use Rattle.sedck_flow.proofs.CharacterMatches.{neither, low_byte, widens}
+use Rattle.sedck_flow.proofs.CharacterMatches.{low_byte, widens}
 use Rattle.sedck_flow.proofs.Widening.{VerbWidens, Widens, steps_widen}
 
 -- ---- The expressions of a script
@@ -22,7 +23,7 @@ one_of_two test y x Later first (inr later) more = more later
 none_has : {X : Type 0} (test : X → Bool) (xs : List X) (x : X) → list_any test xs ≡ false → Contains xs x → test x ≡ false
 none_has test [] x none (k, within, is) = absurd (omega (arith, within))
 none_has test (y ∷ xs) x none has =
-    let (first, others) = neither (test y) (list_any test xs) none in
+    let (first, others) = or_parts (test y) (list_any test xs) none in
     one_of_two test y x (Contains xs x) first (Contains-cons_cases y xs x has) (none_has test xs x others)
 
 -- none of a command's patterns has an expression that splits a character
@@ -30,7 +31,7 @@ abbrev AreWhole : List Pattern → Type 0
 AreWhole found = list_any splits_character (flat_map pattern_expressions found) ≡ false
 
 whole_parts : (one other : List Pattern) → AreWhole (one ++ other) → AreWhole one × AreWhole other
-whole_parts one other none = neither (list_any splits_character (flat_map pattern_expressions one)) (list_any splits_character (flat_map pattern_expressions other))
+whole_parts one other none = or_parts (list_any splits_character (flat_map pattern_expressions one)) (list_any splits_character (flat_map pattern_expressions other))
     (sym (list_any-append splits_character (flat_map pattern_expressions one) (flat_map pattern_expressions other))
     ∙ ap (list_any splits_character) (sym (flat_map-append pattern_expressions one other)) ∙ none)
 
@@ -42,15 +43,15 @@ whole_join one other none also = ap (list_any splits_character) (flat_map-append
 all_whole : (commands : List Command) → list_any depends_on_characters commands ≡ false → AreWhole (patterns commands)
 all_whole [] none = refl
 all_whole (c ∷ commands) none =
-    let (first, others) = neither (depends_on_characters c) (list_any depends_on_characters commands) none in
-    let (split, replaced) = neither (list_any splits_character (command_expressions c)) (replaces_byte c.verb) first in
+    let (first, others) = or_parts (depends_on_characters c) (list_any depends_on_characters commands) none in
+    let (split, replaced) = or_parts (list_any splits_character (command_expressions c)) (replaces_byte c.verb) first in
     whole_join (address_patterns c.address ++ verb_patterns c.verb) (patterns commands) split (all_whole commands others)
 
 -- the expression that a pattern stands for
 stands_whole : (p : Program) → IsByteSafe p → (pattern : Pattern) (tree : Tree) → AreWhole (pattern ∷ []) → StandsFor p pattern tree
     → splits_character tree ≡ false
 stands_whole p safe (Expression own) tree none is =
-    subst (λ t. splits_character t ≡ false) (sym is) (neither (splits_character own) false none).0
+    subst (λ t. splits_character t ≡ false) (sym is) (or_parts (splits_character own) false none).0
 stands_whole p safe Previous tree none has =
     none_has splits_character (expressions p.commands) tree (all_whole p.commands safe) ((expressions_are_patterns p.commands tree).1 has)
 
@@ -63,7 +64,7 @@ one_byte b = b ∷ []
 low_characters : (text : List ℕ) → list_any is_high text ≡ false → characters_from [] text ≡ map (λ b. b ∷ []) text
 low_characters [] low = refl
 low_characters (b ∷ text) low =
-    let (first, others) = neither (is_high b) (list_any is_high text) low in
+    let (first, others) = or_parts (is_high b) (list_any is_high text) low in
     ap (λ t. if t then (b ∷ []) ∷ characters_from [] text else characters_from (b ∷ []) text) (low_byte b first)
     ∙ ap (λ cs. (b ∷ []) ∷ cs) (low_characters text others)
 
@@ -114,14 +115,14 @@ transliterates_wide from to low also old new (pairs, all, is_old, is_new) =
 verb_widens : (p : Program) → IsByteSafe p → (v : Verb) → AreWhole (verb_patterns v) → replaces_byte v ≡ false → VerbWidens p utf_8 any_locale v
 verb_widens p safe (Substitute s) none low = λ tree stands w e h. widens tree (stands_whole p safe s.pattern tree none stands) no_groups w e h
 verb_widens p safe (Transliterate from to) none low =
-    let both = neither (list_any is_high from) (list_any is_high to) low in
+    let both = or_parts (list_any is_high from) (list_any is_high to) low in
     λ old new h. transliterates_wide from to both.0 both.1 old new h
 verb_widens p safe _ none low = tt
 
 command_at : (p : Program) → IsByteSafe p → (at : ℕ) (c : Command) → slice_get p.commands at ≡ Some c → AreWhole (verb_patterns c.verb) × (replaces_byte c.verb ≡ false)
 command_at p safe at c is =
     let has : Contains p.commands c = (at, slice_get_within p.commands at c is, get_or_from_slice_get p.commands at c c is) in
-    let (split, low) = neither (list_any splits_character (command_expressions c)) (replaces_byte c.verb)
+    let (split, low) = or_parts (list_any splits_character (command_expressions c)) (replaces_byte c.verb)
     (none_has depends_on_characters p.commands c safe has) in
     ((whole_parts (address_patterns c.address) (verb_patterns c.verb) split).1, low)
 
