@@ -1,9 +1,8 @@
 -- How far the bracket lists of a text are closed.
-use Rattle.sedck_commands.proofs.Common.{◌≡◌, ◌≢◌, ℕ, ◌+◌, ◌<◌, ◌≤◌, ◌-◌, List, [], ◌∷◌, ◌++◌, length, take, drop, refl, ap, sym, ◌∙◌, subst, append_assoc, length-append, arith, nil_from_length, Longest, DelimitedList, FirstList, StandsAt, EndsIn, longest_one, unread, Follows, Cursor, read_unread, unread_length}
+use Rattle.sedck_commands.proofs.Common.{◌≡◌, ◌≢◌, ℕ, ◌<◌, ◌-◌, List, [], ◌∷◌, ◌++◌, length, take, refl, ap, sym, ◌∙◌, subst, length-append, arith, nil_from_length, Longest, DelimitedList, FirstList, EndsIn, longest_one, unread, Cursor, unread_length}
 use Rattle.std.proofs.lemmas.List.{append_cancel_right}
 use Rattle.sedck_commands.specs.BracketLists.{BracketBegins, BracketList, BracketsClose}
 use Rattle.sedck_commands.specs.BracketLists as b
-use Rattle.sedck_commands.specs.Faults.{IsOpenBracket}
 use Rattle.sedck_commands.proofs.FirstBytes.{tails}
 use Rattle.sedck_commands.proofs.OffsetLemmas.{tail_cut, tail_tail, tail_behind, tail_cons, list_cut, take_front}
 use Rattle.sedck_commands.proofs.UniqueParts.{list_one}
@@ -109,24 +108,9 @@ written_cut text rest {d} {from} {to} x same e f g =
     omega (arith, e, f, ap length cut.1, size, unread_length text, unread_length rest, ap (λ w. length w.now) same) in
     cut.1 ∙ ap (λ t. t ++ d ∷ unread rest) (sym (ap (take (to - from - 1)) (g ∙ cut.1) ∙ (take_front cut.0 (d ∷ unread rest) _ at).0))
 
--- where an open bracket list begins
-pub open_at : (text rest : Cursor) (d : ℕ) {written more : List ℕ} → unread text ≡ written ++ d ∷ unread rest → BracketsClose written (91 ∷ more)
-    → rest.whole ≡ text.whole
-    → (length more + 2 ≤ rest.at) × (drop (rest.at - length more - 2) text.whole.now ≡ 91 ∷ (more ++ d ∷ unread rest))
-open_at text rest d {written} {more} cut closed same =
-    let front = closed_tail closed in
-    let begins = 91 ∷ (more ++ d ∷ unread rest) in
-    let before = take text.at text.whole.now ++ front.0 in
-    let whole : text.whole.now ≡ before ++ begins =
-    sym (read_unread text)
-    ∙ ap (λ t. take text.at text.whole.now ++ t)
-    (cut ∙ ap (λ t. t ++ d ∷ unread rest) front.1 ∙ append_assoc front.0 (91 ∷ more) (d ∷ unread rest))
-    ∙ sym (append_assoc (take text.at text.whole.now) front.0 begins) in
-    let size = length-append before begins in
-    let long : length before + (length more + (length (unread rest) + 2)) ≡ rest.at + length (unread rest) =
-    omega (arith, unread_length rest, ap (λ w. length w.now) same, ap length whole, size, length-append more (d ∷ unread rest)) in
-    let at : rest.at - length more - 2 ≡ length before = omega (arith, long) in
-    (omega (arith, long), ap (drop (rest.at - length more - 2)) whole ∙ (take_front before begins _ at).1)
+-- an open bracket list is in the text, after its `[`
+pub open_shorter : {text more : List ℕ} → BracketsClose text (91 ∷ more) → length more < length text
+open_shorter {more = more} closed = let tail = closed_tail closed in omega (arith, ap length tail.1, length-append tail.0 (91 ∷ more))
 
 -- a list in which a bracket list is open is no first one
 pub no_first_list : {d : ℕ} {text bytes rest written more other end : List ℕ} → d ≢ 92 → DelimitedList d text bytes rest → text ≡ written ++ d ∷ rest
@@ -136,23 +120,3 @@ no_first_list {d} {rest = rest} {written = written} k x cut closed none l =
     let front : l.alike.written ≡ written =
     append_cancel_right l.alike.written written (d ∷ rest) (ap (λ t. l.alike.written ++ d ∷ t) (sym same) ∙ sym l.alike.cut ∙ cut) in
     closed_or_open (subst (λ t. BracketsClose t []) front l.alike.closed) closed none
-
-pub open_place : (text rest : Cursor) {d : ℕ} {bytes written more : List ℕ} → Follows text d → (1 < text.at) × StandsAt text.whole.now (text.at - 2) 121
-    → DelimitedList d (unread text) bytes (unread rest) → unread text ≡ written ++ d ∷ unread rest → BracketsClose written (91 ∷ more)
-    → ((behind : List ℕ) → BracketList more behind → ⊥) → rest.whole ≡ text.whole → IsOpenBracket text.whole.now (rest.at - length more - 2)
-open_place text rest {d} {bytes} {written} {more} f verb x cut closed none same = record {
-  start = text.at;
-  delimiter = d;
-  behind = verb.0;
-  verb = verb.1;
-  opened = f.1;
-  bytes = bytes;
-  rest = unread rest;
-  list = x;
-  written = written;
-  cut = cut;
-  more = more;
-  closed = closed;
-  unclosed = none;
-  here = (open_at text rest d cut closed same).1;
-}

@@ -1,8 +1,7 @@
 -- Where carriage returns are in a comment.
-use Rattle.sedck_commands.proofs.Common.{◌≡◌, ℕ, suc, ◌+◌, ◌<◌, ◌≤◌, true, inl, inr, Option, Some, None, List, [], ◌∷◌, ◌++◌, length, take, drop, get_or, refl, ap, ◌∙◌, length-append, arith, split_at, get_or-append_seam, nil_from_length, length-drop, eqb-true, eq-eqb, HasNoInnerReturn, StandsWhere, is_extra, unread, Cursor}
+use Rattle.sedck_commands.proofs.Common.{◌≡◌, ℕ, suc, ◌+◌, ◌<◌, ◌≤◌, true, inl, inr, Option, Some, None, List, [], ◌∷◌, ◌++◌, length, take, drop, get_or, refl, ap, ◌∙◌, length-append, arith, split_at, get_or-append_seam, nil_from_length, eqb-true, eq-eqb, HasNoInnerReturn}
 use Rattle.std.proofs.lemmas.Bool.{cases_order}
 use Rattle.memchr.specs.Find.{IsFirstByte, is_byte}
-use Rattle.sedck_commands.proofs.CursorPlaces.{line_byte}
 
 -- where the first one, if there is one, is the last byte
 pub no_inner_return : (line : List ℕ) (first : Option ℕ) → IsFirstByte (is_byte 13) line first → ((at : ℕ) → first ≡ Some at → length line ≤ suc at)
@@ -27,13 +26,3 @@ no_inner_return line first is last front behind e = by first is last
 
 pub return_cut : (line : List ℕ) (at : ℕ) → is_byte 13 (get_or line at 0) ≡ true → at < length line → line ≡ take at line ++ 13 ∷ drop (suc at) line
 return_cut line at is within = split_at line at 0 within ∙ ap (λ b. take at line ++ b ∷ drop (suc at) line) (eqb-true _ 13 is)
-
--- where one is before another byte
-pub inner_return : (line : List ℕ) (at : ℕ) → is_byte 13 (get_or line at 0) ≡ true → suc at < length line → HasNoInnerReturn line → ⊥
-inner_return line at is more none =
-    omega (arith, more, ap length (none _ _ (return_cut line at is (omega (arith, more)))), length-drop (suc at) line)
-
--- a carriage return of the line is there in the whole
-pub return_stands : (text : Cursor) (line rest : List ℕ) (at : ℕ) → unread text ≡ line ++ rest → is_byte 13 (get_or line at 0) ≡ true → at < length line
-    → StandsWhere is_extra text.whole.now (text.at + at)
-return_stands text line rest at cut is within = (13, line_byte text 13 line rest at cut (eqb-true _ 13 is) within, refl)

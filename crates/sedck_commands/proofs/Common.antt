@@ -16,28 +16,26 @@ pub use Rattle.std.specs.Prelude.{IsTrue, slice_get, codes, ◌==◌, IfSome}
 pub use Rattle.std.specs.Str.Parse.{digits_value}
 pub use Rattle.sedck_commands.specs.Blocks.{Turn, Opens, Closes, Stays, Jumps, verb_turn}
 pub use Rattle.sedck_commands.specs.Cuts.{is_delimiter, Longest, is_blank, is_ending, IsEmptyOr, is_digit, is_separator, is_label_byte, is_continued, is_newline}
-pub use Rattle.sedck_commands.specs.Faults.{StandsAt, StandsWhere, is_extra, EndsOrFails, begins_address, verb_bytes, IsPlaced}
+pub use Rattle.sedck_commands.specs.Faults.{StandsAt, StandsWhere, is_extra, EndsOrFails, begins_address, verb_bytes, IsPlaced, BeginsCommand}
 pub use Rattle.sedck_commands.specs.ItemView.{item_of, locations_in, written_verb}
 pub use Rattle.sedck_commands.specs.Items.{WrittenVerb, VerbText, Takes, CommandText, IsNoBrace, Known, Item, Written, Items, VerbTextIn, CommandTextIn, ItemsIn, Simple, JumpTo, Opening, Closing}
 pub use Rattle.sedck_commands.specs.Labels.{HasLabels, label_place, commands_among}
 pub use Rattle.sedck_commands.specs.Locations.{location_of, locations_of}
 pub use Rattle.sedck_commands.specs.Narrowings.{Narrowings}
 pub use Rattle.sedck_commands.specs.Parts.{Number, PlaceText, DelimitedList, FirstList, Ends, AddressText, DelimitedExpression, ExpressionText, LabelText, ExpressionTextIn, IsPatternIn, NameIn, FlagsIn, PlaceTextIn, AddressTextIn, Lines, GivenText, Replacement, previous, expression, IsPart, EscapedPart, is_plain, line}
-pub use Rattle.sedck_commands.specs.Private.AddressReading.{is_mark, IsOnlyAddress, IsBehindComma, BeginsNoPlace}
 pub use Rattle.sedck_commands.specs.Private.Alike.{Name, Flags, IsExpression, IsPattern}
 pub use Rattle.sedck_commands.specs.Private.Forms.{text_byte, file_byte, jump_byte, IsForm}
 pub use Rattle.sedck_commands.specs.Private.Keeping.{kept_from}
 pub use Rattle.sedck_commands.specs.Private.LabelReading.{BranchText}
-pub use Rattle.sedck_commands.specs.Private.Locating.{IsOnlyLocation, AreFirstLocations}
 pub use Rattle.sedck_commands.specs.Private.NameReading.{is_skipped}
-pub use Rattle.sedck_commands.specs.Private.PieceReading.{IsFirstEscape, as_written, IsPiece, IsReadUpTo, IsWrittenUpTo, list_escape, PatternText, IsPartPlaced}
-pub use Rattle.sedck_commands.specs.Private.Progress.{BeginsCommand, IsProgress, IsBeyond, NotesLabel}
+pub use Rattle.sedck_commands.specs.Private.PieceReading.{IsFirstEscape, as_written, IsPiece, IsReadUpTo, IsWrittenUpTo, list_escape, PatternText}
+pub use Rattle.sedck_commands.specs.Private.Progress.{IsProgress, NotesLabel}
 pub use Rattle.sedck_commands.specs.Private.Reading.{EndsIn}
 pub use Rattle.sedck_commands.specs.Private.ReplacementReading.{HasGroupsUpTo}
-pub use Rattle.sedck_commands.specs.Private.VerbReading.{is_braced, DefinesKnown}
+pub use Rattle.sedck_commands.specs.Private.VerbReading.{is_braced}
 pub use Rattle.sedck_commands.specs.Program.{Place, Pattern, Previous, Expression, Address, Part, Substitution, NoAddress, Label, part_length, literal_length, Verb, place_patterns, Whole, Group, Text, One, Two, Substitute, Transliterate}
 pub use Rattle.sedck_commands.specs.ReadAlike.{HasNoInnerReturn, is_misread, begins_braced_comment}
-pub use Rattle.sedck_commands.specs.ReadItems.{has_previous, written_patterns, patterns_of, item_patterns, IsWrittenAt, IsItemAt}
+pub use Rattle.sedck_commands.specs.ReadItems.{has_previous, written_patterns, patterns_of, item_patterns, IsItemAt}
 pub use Rattle.sedck_commands.specs.References.{named_groups, KeepsGroups}
 pub use Rattle.sedck_commands.specs.View.{part_of, address_of, pattern_of}
 pub use Rattle.sedck_commands.specs.declared.delimited.Piece.{Piece}
@@ -47,6 +45,7 @@ pub use Rattle.sedck_expressions.specs.Tree.{Tree}
 pub use Rattle.sedck_text.proofs.Cursors.{read_unread, unread_length, first_there}
 pub use Rattle.sedck_text.proofs.Runs.{longest_one}
 pub use Rattle.sedck_text.specs.Bytes.{ascii}
+pub use Rattle.sedck_text.specs.Classes.{is_mark}
 pub use Rattle.sedck_text.specs.Cursors.{unread, Follows, IsAhead}
 pub use Rattle.sedck_text.specs.Text.{is_in, one_of, begins}
 pub use Rattle.sedck_text.specs.declared.cursor.Cursor.{Cursor}

@@ -1,13 +1,12 @@
 -- What is wrong with a part between delimiters, as its readers meet it.
-use Rattle.sedck_commands.proofs.Common.{◌≡◌, ◌≢◌, ℕ, ◌⊎◌, Option, Some, None, ◌-◌, List, ◌∷◌, ◌++◌, length, length-append, subst, ap, ◌∙◌, arith, nat_tests, length-drop, IsTrue, Bor, ScriptFault, DelimitedExpression, DelimitedList, is_misread, unread, unread_length, Cursor, IsFirstEscape, as_written, list_escape, IsPiece, Longest, is_plain, Part, Group}
+use Rattle.sedck_commands.proofs.Common.{◌≡◌, ◌≢◌, ℕ, ◌⊎◌, Option, Some, None, ◌-◌, List, ◌∷◌, ◌++◌, length, length-append, subst, ap, ◌∙◌, arith, nat_tests, length-drop, IsTrue, Bor, ScriptFault, DelimitedExpression, DelimitedList, is_misread, unread, unread_length, Cursor, IsFirstEscape, as_written, list_escape, IsPiece, Longest, is_plain}
 use Rattle.sedck_commands.specs.BracketLists.{BracketList, BracketsClose}
-use Rattle.sedck_commands.specs.FirstFaults.{PieceFault, ExpressionTextFault, FirstListFault, ReplacementFault, IsPartWithin}
+use Rattle.sedck_commands.specs.FirstFaults.{PieceFault, ExpressionTextFault, FirstListFault, ReplacementFault}
 use Rattle.sedck_commands.specs.Private.PieceReading.{escaped}
-use Rattle.sedck_commands.specs.Private.ReplacementReading.{IsGroupWithin}
 use Rattle.sedck_commands.specs.declared.delimited.Piece.TheVariants as piece
 use Rattle.sedck_commands.specs.declared.fault.ScriptFault.TheVariants.{EscapedDelimiter, BadTransliteration}
-use Rattle.sedck_commands.proofs.BracketLemmas.{open_at}
-use Rattle.sedck_commands.proofs.ReplacementLemmas.{plain_from, run_of}
+use Rattle.sedck_commands.proofs.BracketLemmas.{open_shorter}
+use Rattle.sedck_commands.proofs.ReplacementLemmas.{run_of}
 
 -- what is wrong in the text of a callee, which is the caller's
 pub piece_in_same : {opening d : ℕ} {text : List ℕ} {fault : ScriptFault} {whole other : Bor (List ℕ)} → other ≡ whole
@@ -38,10 +37,17 @@ list_meaningless b h = (grind (arith, nat_tests, h), grind (arith, nat_tests, h)
 pub bracket_fault : (opening : ℕ) (text rest : Cursor) {d : ℕ} {bytes written more : List ℕ} → DelimitedList d (unread text) bytes (unread rest)
     → unread text ≡ written ++ d ∷ unread rest → BracketsClose written (91 ∷ more) → ((behind : List ℕ) → BracketList more behind → ⊥)
     → rest.whole ≡ text.whole → FirstListFault (length text.whole.now) opening d (unread text) (BadTransliteration (rest.at - length more - 2))
-bracket_fault opening text rest {d} {more = more} x cut closed none same =
-    let within = (open_at text rest d cut closed same).0 in
-    FirstListFault.bracket x cut closed none
-    (omega (arith, within, unread_length rest, ap (λ w. length w.now) same, length-append more (d ∷ unread rest)))
+bracket_fault opening text rest {d} {written = written} {more = more} x cut closed none same = FirstListFault.bracket x cut closed none
+    (omega (
+      arith,
+      open_shorter closed,
+      ap length cut,
+      length-append written (d ∷ unread rest),
+      unread_length text,
+      unread_length rest,
+      ap (λ w. length w.now) same,
+      length-append more (d ∷ unread rest),
+    ))
 
 -- what is wrong behind a byte of a replacement is wrong from it on
 pub behind_whole : {size opening d g b : ℕ} {text behind : List ℕ} {fault : ScriptFault} → IsPiece d text (piece.Byte b) behind → b ≡ 38
@@ -50,15 +56,5 @@ behind_whole {behind = behind} h e wrong = ReplacementFault.whole (h.0 ∙ ap (�
 
 pub behind_run : {size opening d g b : ℕ} {text behind run after : List ℕ} {fault : ScriptFault} → IsPiece d text (piece.Byte b) behind → b ≢ 38
     → Longest (is_plain d) text run after → ReplacementFault size opening d g after fault → ReplacementFault size opening d g text fault
-behind_run {d = d} {b = b} {text} {behind} {run} {after} h e l wrong =
-    let bytes = run_of d b text behind run after h.0 (plain_from d b h.1 h.2 h.3 e) l in
-    ReplacementFault.run (subst (λ t. Longest (is_plain d) text t after) bytes.1 l) wrong
-
--- the same is asked of a part's group
-pub group_within : (g : ℕ) (part : Part) → IsPartWithin g part → IsGroupWithin g part
-group_within g (Group k) h = h
-group_within g _ h = tt
-
-pub part_within : (g : ℕ) (part : Part) → IsGroupWithin g part → IsPartWithin g part
-part_within g (Group k) h = h
-part_within g _ h = tt
+behind_run {d = d} {text = text} {run = run} {after = after} h e l wrong =
+    let some = run_of run h e l in ReplacementFault.run (subst (λ t. Longest (is_plain d) text t after) some.1 l) wrong

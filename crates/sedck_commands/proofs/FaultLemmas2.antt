@@ -1,13 +1,13 @@
 -- Where a text begins of which it is said what is wrong with it.
-use Rattle.sedck_commands.proofs.Common.{◌≡◌, ◌≢◌, ◌∙◌, ℕ, suc, ◌+◌, ◌-◌, ◌<◌, ◌≤◌, Bool, true, false, not, List, [], ◌∷◌, ◌++◌, Some, length, get_or, take, drop, refl, ap, sym, subst, arith, length-append, length-drop, eq-eqb, nil_from_length, not_from_false, is_blank, is_digit, is_ending, is_continued, is_newline, is_skipped, IsEmptyOr, Longest, Number, unread, unread_length, IsAhead, Bor, Cursor, ScriptFault}
+use Rattle.sedck_commands.proofs.Common.{◌≡◌, ◌≢◌, ◌∙◌, ℕ, suc, ◌+◌, ◌-◌, ◌<◌, ◌≤◌, Bool, true, false, not, List, [], ◌∷◌, ◌++◌, Some, length, get_or, take, drop, refl, ap, sym, arith, length-append, length-drop, eq-eqb, nil_from_length, not_from_false, is_blank, is_digit, is_ending, is_continued, is_newline, is_skipped, IsEmptyOr, Longest, unread, unread_length, IsAhead, Bor, Cursor}
 use Rattle.std.proofs.lemmas.List.{get_or-take, length-take-le}
 use Rattle.std.proofs.lemmas.Grind.{get_or_default_zero}
 use Rattle.memchr.specs.Find.{IsFirstByte, is_byte}
 use Rattle.sedck_commands.proofs.LineBytes.{continued_last}
 use Rattle.sedck_commands.proofs.CommentLemmas.{return_cut}
-use Rattle.sedck_commands.specs.FirstFaults.{BeginsAt, CommentFault, NameFault, FlagsFault, begins_flag, HasNoDelimiter, SubstitutionFault, TransliterationFault}
+use Rattle.sedck_commands.specs.FirstFaults.{BeginsAt, CommentFault, NameFault, begins_flag}
 use Rattle.sedck_commands.specs.FirstFaults as fault
-use Rattle.sedck_commands.specs.declared.fault.ScriptFault.TheVariants.{ExtraText, BadFlag, Unterminated}
+use Rattle.sedck_commands.specs.declared.fault.ScriptFault.TheVariants.{ExtraText}
 
 -- what hasn't been read begins at the cursor's offset
 pub begins_here : (cursor : Cursor) {whole : Bor (List ℕ)} {cut : List ℕ} {offset : ℕ} → cursor.whole ≡ whole → unread cursor ≡ cut → offset ≡ cursor.at
@@ -72,44 +72,3 @@ first_plain test (b ∷ name) h = not_from_false (test b) h
 -- a byte that begins no flag, and no end of the flags
 pub no_flag_byte : (b : ℕ) → b ≢ 103 → b ≢ 112 → b ≢ 119 → is_digit b ≡ false → is_blank b ≡ false → is_ending b ≡ false → begins_flag b ≡ false
 no_flag_byte b f g h i j k = grind (arith, f, g, h, i, j, k)
-
--- what is said of a text of the same size
-pub resized : (F : ℕ → Type 0) {whole other : Bor (List ℕ)} → other ≡ whole → F (length other.now) → F (length whole.now)
-resized F same x = subst (λ w. F (length w.now)) same x
-
--- ---- Flags that have been read, or are there again
-
-module _ {size : ℕ} {text behind : List ℕ} {global print numbered : Bool} where
-  pub global_passed : {f : ScriptFault} → global ≡ false → text ≡ 103 ∷ behind → FlagsFault size true print numbered behind f
-      → FlagsFault size global print numbered text f
-  global_passed {f} g e x = subst (λ b. FlagsFault size b print numbered text f) (sym g) (fault.FlagsFault.global e x)
-
-  pub print_passed : {f : ScriptFault} → print ≡ false → text ≡ 112 ∷ behind → FlagsFault size global true numbered behind f
-      → FlagsFault size global print numbered text f
-  print_passed {f} g e x = subst (λ b. FlagsFault size global b numbered text f) (sym g) (fault.FlagsFault.print e x)
-
-  pub number_passed : {f : ScriptFault} {nth : ℕ} → numbered ≡ false → Number text nth behind → FlagsFault size global print true behind f
-      → FlagsFault size global print numbered text f
-  number_passed {f} g a x = subst (λ b. FlagsFault size global print b text f) (sym g) (fault.FlagsFault.number a x)
-
-  pub global_again : {offset : ℕ} → global ≡ true → text ≡ 103 ∷ behind → BeginsAt size text offset
-      → FlagsFault size global print numbered text (BadFlag offset)
-  global_again {offset} g e at = subst (λ b. FlagsFault size b print numbered text (BadFlag offset)) (sym g) (fault.FlagsFault.global_again e at)
-
-  pub print_again : {offset : ℕ} → print ≡ true → text ≡ 112 ∷ behind → BeginsAt size text offset
-      → FlagsFault size global print numbered text (BadFlag offset)
-  print_again {offset} g e at = subst (λ b. FlagsFault size global b numbered text (BadFlag offset)) (sym g) (fault.FlagsFault.print_again e at)
-
-  pub number_again : {offset nth : ℕ} → numbered ≡ true → Number text nth behind → BeginsAt size text offset
-      → FlagsFault size global print numbered text (BadFlag offset)
-  number_again {offset} g a at = subst (λ b. FlagsFault size global print b text (BadFlag offset)) (sym g) (fault.FlagsFault.number_again a at)
-
--- ---- A verb without a delimiter
-
-pub substitution_undelimited : {size n at : ℕ} {text : List ℕ} {f : ScriptFault} → n ≡ at → HasNoDelimiter text × (f ≡ Unterminated (n - 1))
-    → SubstitutionFault size (at - 1) text f
-substitution_undelimited here h = rw (sym here, h.1) (fault.SubstitutionFault.undelimited h.0)
-
-pub transliteration_undelimited : {size n at : ℕ} {text : List ℕ} {f : ScriptFault} → n ≡ at → HasNoDelimiter text × (f ≡ Unterminated (n - 1))
-    → TransliterationFault size (at - 1) text f
-transliteration_undelimited here h = rw (sym here, h.1) (fault.TransliterationFault.undelimited h.0)

@@ -1,15 +1,15 @@
 -- What is wrong with labels, verbs and commands.
-use Rattle.sedck_commands.proofs.Common.{◌≡◌, ℕ, ◌+◌, ◌-◌, ◌<◌, Bool, List, [], ◌∷◌, ◌++◌, length, drop, drop-drop, length-append, Option, Some, None, is_some, IfSome, true, false, refl, subst, sym, ap, ◌∙◌, arith, nil_from_length, unread, unread_length, Cursor, is_blank, is_separator, Longest, longest_one, Ends, not, false≢true, one_of, begins, jump_byte, is_in, verb_bytes, IsEmptyOr, false_from_ne_true, both_ways, codes, Address, ScriptFault}
+use Rattle.sedck_commands.proofs.Common.{◌≡◌, ℕ, ◌+◌, ◌-◌, ◌<◌, Bool, List, [], ◌∷◌, ◌++◌, length, drop, drop-drop, length-append, Option, Some, None, is_some, IfSome, true, false, refl, subst, sym, ap, ◌∙◌, arith, nil_from_length, unread, unread_length, Cursor, is_blank, Longest, longest_one, Ends, not, false≢true, one_of, begins, jump_byte, is_in, verb_bytes, IsEmptyOr, false_from_ne_true, both_ways, codes, Address, ScriptFault}
 use Rattle.std.specs.Prelude.{if◌then◌else◌}
 use Rattle.std.proofs.lemmas.Bool.{cond_both}
 use Rattle.sedck_commands.proofs.VerbBytes.{misplaced}
 use Rattle.sedck_commands.proofs.VerbCases.{of_all}
 use Rattle.sedck_commands.specs.Private.Reading.{IsLabelAt}
-use Rattle.sedck_commands.specs.FirstFaults.{BeginsAt, DefinitionFault, JumpFault, VerbFault, CheckFault, ends_label}
+use Rattle.sedck_commands.specs.FirstFaults.{BeginsAt, VerbFault, CheckFault}
 use Rattle.sedck_commands.specs.FirstFaults as fault
 use Rattle.sedck_commands.specs.ReadItems.{IsJumpIn}
 use Rattle.sedck_commands.specs.declared.items.Written.{Written as WrittenCode}
-use Rattle.sedck_commands.specs.declared.fault.ScriptFault.TheVariants.{BadLabel, TooManyAddresses, UnknownCommand}
+use Rattle.sedck_commands.specs.declared.fault.ScriptFault.TheVariants.{TooManyAddresses, UnknownCommand}
 
 -- what a cursor further on hasn't read begins at its offset in the whole of the one before it
 pub begins_there : (text behind : Cursor) → behind.whole ≡ text.whole → BeginsAt (length text.whole.now) (unread behind) behind.at
@@ -29,17 +29,6 @@ missing_begins name behind offset ends none begins = omega (arith, ends, none, b
 pub label_begins_there : (text behind : Cursor) (name : List ℕ) (offset : ℕ) → behind.whole ≡ text.whole → offset + length name ≡ behind.at
     → BeginsAt (length text.whole.now) (name ++ unread behind) offset
 label_begins_there text behind name offset same at = omega (arith, at, begins_there text behind same, length-append name (unread behind))
-
--- a byte that may not be right after a label
-pub definition_byte : {size at b : ℕ} {text name behind more : List ℕ} {f : ScriptFault} → IsLabelAt text name behind → 0 < length name
-    → BeginsAt size behind at → behind ≡ b ∷ more → is_separator b ≡ false → f ≡ BadLabel at → DefinitionFault size text f
-definition_byte {size} {at} {text = text} {name = name} label some begins cut other is = subst (DefinitionFault size text) (sym is)
-    (fault.byte (subst (IsLabelAt text name) cut label) some other (subst (λ t. BeginsAt size t at) cut begins))
-
-pub jump_label_byte : {size at b : ℕ} {text name behind more : List ℕ} {f : ScriptFault} → IsLabelAt text name behind → 0 < length name
-    → BeginsAt size behind at → behind ≡ b ∷ more → ends_label b ≡ false → f ≡ BadLabel at → JumpFault size text f
-jump_label_byte {size} {at} {text = text} {name = name} label some begins cut other is = subst (JumpFault size text) (sym is)
-    (fault.byte (subst (IsLabelAt text name) cut label) some other (subst (λ t. BeginsAt size t at) cut begins))
 
 -- where a `}` is right after the label of a branch, its command ends right there
 pub brace_first : (text : List ℕ) {rest : List ℕ} → begins "}" text ≡ true → Ends text rest → length rest ≡ length text

@@ -3,7 +3,6 @@ use Rattle.sedck_commands.proofs.Common.{◌≡◌, ℕ, suc, ◌<◌, ◌≤◌
 use Rattle.sedck_commands.specs.Items as w
 use Rattle.sedck_commands.specs.Blocks.{Nests}
 use Rattle.sedck_commands.specs.Labels.{AreLabelsOnce}
-use Rattle.sedck_commands.specs.ReadItems.{HasNoItems}
 use Rattle.sedck_commands.specs.FirstFaults.{Defines, NotesBlock, ItemsFault}
 use Rattle.sedck_commands.specs.FirstFaults as o
 use Rattle.sedck_commands.proofs.FirstBytes.{tails}
@@ -103,5 +102,6 @@ refused {items = items} {opened = opened} (o.command {verb = v} last l b c q n a
 refused (o.unclosed {last = last} others l e) (w.nothing m) g = omega (arith, g.nests, ap length e, length-append others (last ∷ []))
 refused x y g = omega (arith, kinds_one (begun x) (items_begun y))
 
-pub fault_refuses : {size : ℕ} {text : List ℕ} {f : ScriptFault} → ItemsFault size [] [] text f → HasNoItems text
+pub fault_refuses : {size : ℕ} {text : List ℕ} {f : ScriptFault} → ItemsFault size [] [] text f → (items : List Item) → Items text items
+    → length (commands_among items) ≤ 4095 → AreLabelsOnce (commands_among items) → Nests items 0 → ⊥
 fault_refuses x all y few once nests = refused x y (record { few = few; once = once; nests = nests })

@@ -1,13 +1,10 @@
 -- Labels of branches, and what may be after a label.
-use Rattle.sedck_commands.proofs.Common.{◌≡◌, ℕ, Bool, true, false, not, ◌||◌, ◌≢◌, ◌-◌, ◌<◌, List, [], ◌∷◌, ◌++◌, length, take, Option, Some, None, ap, sym, ◌∙◌, subst, append_assoc, arith, nil_from_length, one_of, unread, Cursor, ◌==◌, is_blank, is_separator, is_ending, is_label_byte, IsEmptyOr, Longest, Ends, LabelText, IsNoBrace, begins_braced_comment, EndsOrFails, BranchText, longest_one}
+use Rattle.sedck_commands.proofs.Common.{◌≡◌, ℕ, Bool, true, false, not, ◌||◌, ◌≢◌, ◌<◌, List, ◌∷◌, ◌++◌, length, Option, Some, None, ap, sym, ◌∙◌, subst, arith, nil_from_length, ◌==◌, is_blank, is_separator, is_ending, is_label_byte, IsEmptyOr, Longest, Ends, LabelText, IsNoBrace, begins_braced_comment, BranchText, longest_one}
 use Rattle.sedck_commands.proofs.UniqueParts.{ends_first}
 use Rattle.sedck_commands.specs.Items.{IsNoComment}
 use Rattle.sedck_commands.specs.Private.Alike.{EndsJump}
 use Rattle.sedck_commands.specs.Private.Reading.{IsLabelAt}
-use Rattle.sedck_commands.specs.Faults.{FollowsLabel, IsLabelBehind}
-use Rattle.sedck_commands.specs.Private.LabelReading.{IsBehindVerb, IsBehindLabel}
 use Rattle.sedck_commands.proofs.UniqueVerbs.{label_or_end}
-use Rattle.sedck_commands.proofs.CursorPlaces.{fails_here, read_byte, read_more}
 
 pub label_same : {text f g r s : List ℕ} → IsLabelAt text f r → LabelText text g s → (f ≡ g) × (r ≡ s)
 label_same {text} {f} {g} {r} {s} l m = longest_one l.run (subst (λ t. Longest is_label_byte t g s) (longest_one m.skipped l.skipped).1 m.run)
@@ -53,29 +50,3 @@ no_end_behind_definition {rest = rest} {b = b} e h n x = brace_no_end b h (subst
 
 pub no_end_behind_label : {text more rest : List ℕ} {b : ℕ} → text ≡ b ∷ more → is_separator b ≡ false → b ≢ 125 → IsNoComment text → Ends text rest → ⊥
 no_end_behind_label {rest = rest} {b = b} e h m n x = comment_no_end b h m (subst IsNoComment e n) (ends_first (subst (λ t. Ends t rest) e x))
-
--- ---- Where labels are
-
-pub behind_label : (text begins behind : Cursor) {blanks name : List ℕ} → IsBehindVerb (one_of ":bt") text → Longest is_blank (unread text) blanks (unread begins)
-    → Longest is_label_byte (unread begins) name (unread behind) → behind.whole ≡ text.whole → IsBehindLabel behind
-behind_label text begins behind {blanks} {name} v l m same =
-    let front = take (text.at - 1) text.whole.now in
-    let cut : unread text ≡ (blanks ++ name) ++ unread behind =
-    l.cut ∙ ap (λ t. blanks ++ t) m.cut ∙ sym (append_assoc blanks name (unread behind)) in
-    let read = read_more text behind (blanks ++ name) cut same ∙ ap (λ t. t ++ (blanks ++ name)) (read_byte text v.1)
-    ∙ append_assoc front (v.0 ∷ []) (blanks ++ name) in
-    record { follows = (front, blanks, name, v.0, read, v.2, l.passes, m.passes); stops = m.stops }
-
--- where a label should begin or go on, and does not
-pub no_label_place : {behind : Cursor} → IsBehindLabel behind
-    → FollowsLabel behind.whole.now behind.at × EndsOrFails is_label_byte behind.whole.now behind.at
-no_label_place {behind} h = (h.follows, fails_here is_label_byte behind h.stops)
-
--- a label begins after its verb and blanks
-pub label_begins : (text begins : Cursor) {blanks name behind : List ℕ} (test : ℕ → Bool) → IsBehindVerb test text
-    → Longest is_blank (unread text) blanks (unread begins) → begins.whole ≡ text.whole → Longest is_label_byte (unread begins) name behind
-    → 0 < length name → IsLabelBehind test begins.whole.now begins.at name
-label_begins text begins {blanks} {name} {behind} test v l same m some =
-    let front = take (text.at - 1) text.whole.now in
-    let read = read_more text begins blanks l.cut same ∙ ap (λ t. t ++ blanks) (read_byte text v.1) ∙ append_assoc front (v.0 ∷ []) blanks in
-    ((front, blanks, v.0, read, v.2, l.passes), behind, m, some)

@@ -1,5 +1,4 @@
 mod Common
-pub mod CursorPlaces
 pub mod LineBytes
 mod FaultLemmas3
 pub mod FirstBytes
@@ -31,7 +30,7 @@ pub mod ItemFaults
 pub mod LocationLemmas
 pub mod ReferenceLemmas
 pub mod LiteralLengths
-pub mod PlaceLemmas
+pub mod EmptyPlaces
 pub mod BracketLemmas
 pub mod EscapeLemmas
 pub mod FaultLemmas1

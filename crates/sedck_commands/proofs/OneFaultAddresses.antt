@@ -7,7 +7,7 @@ use Rattle.sedck_commands.specs.declared.fault.ScriptFault.TheVariants.{BadAddre
 use Rattle.sedck_commands.proofs.FirstBytes.{heads, tails}
 use Rattle.sedck_commands.proofs.UniqueVerbs.{no_backslash}
 use Rattle.sedck_commands.proofs.UniqueItems.{place_class, place_begins, place_one, place_no_mark, place_other, no_verb_here, no_comma_here, longest_along}
-use Rattle.sedck_commands.proofs.UniqueAddresses.{no_place}
+use Rattle.sedck_commands.proofs.UniqueAddresses.{no_place, begins_no}
 use Rattle.sedck_commands.proofs.OneFaultEnds.{at_one}
 use Rattle.sedck_commands.proofs.OneFaultParts.{OneCause, pattern_fault_one, pattern_fault_not}
 
@@ -53,22 +53,19 @@ place_fault_not (o.custom e h a x) (p.custom i d j k) =
     let behind = tails (sym e) in pattern_fault_not (no_backslash d) (no_newline d) (rw (heads behind, tails behind) at x) (_, j, k)
 place_fault_not x y = omega (arith, sym (fault_begins x) ∙ place_begins y)
 
-begins_address_here : {b : ℕ} {behind text : List ℕ} → BeginsNoAddress text → text ≡ b ∷ behind → begins_address b ≡ true → ⊥
-begins_address_here {b} n e h = both_ways (begins_address b) (not-true (begins_address b) (subst (λ t. BeginsNoAddress t) e n)) h
-
 digit_begins : (b : ℕ) → is_digit b ≡ true → begins_address b ≡ true
 digit_begins b h = rw h refl
 
 no_fault_here : {size : ℕ} {text : List ℕ} {f : ScriptFault} → BeginsNoAddress text → PlaceFault size text f → ⊥
-no_fault_here n (o.number {b = b} e h none a) = begins_address_here n e (digit_begins b h)
-no_fault_here n (o.context e a x) = begins_address_here n e refl
-no_fault_here n (o.undelimited e h a) = begins_address_here n e refl
-no_fault_here n (o.custom e h a x) = begins_address_here n e refl
+no_fault_here n (o.number {b = b} e h none a) = begins_no e (digit_begins b h) n
+no_fault_here n (o.context e a x) = begins_no e refl n
+no_fault_here n (o.undelimited e h a) = begins_no e refl n
+no_fault_here n (o.custom e h a x) = begins_no e refl n
 
 -- ---- All of them
 
 -- what is after an address and a comma
-second_one : {text r s t u : List ℕ} {q v : Place} → PlaceText text q r → IsAfterComma r s → PlaceText text v t → IsAfterComma t u → s ≡ u
+pub second_one : {text r s t u : List ℕ} {q v : Place} → PlaceText text q r → IsAfterComma r s → PlaceText text v t → IsAfterComma t u → s ≡ u
 second_one x c y d =
     let before = longest_one (longest_along (place_one x y).1 c.before) d.before in (longest_one (longest_along (tails before.1) c.after) d.after).1
 

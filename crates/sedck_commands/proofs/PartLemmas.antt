@@ -1,27 +1,8 @@
--- Names and texts.
-use Rattle.sedck_commands.proofs.Common.{◌≡◌, ◌≢◌, ℕ, Bool, true, false, ◌<◌, ◌≤◌, get_or, arith, not, List, [], ◌∷◌, length, ap, sym, ◌∙◌, subst, inl, inr, ◌⊎◌, is_newline, is_blank, is_continued, IsEmptyOr, Longest, Lines, GivenText, Name, is_skipped, longest_one, nil_from_length, false≢true}
+-- Texts.
+use Rattle.sedck_commands.proofs.Common.{◌≡◌, ◌≢◌, ℕ, arith, List, [], ◌∷◌, length, ap, sym, ◌∙◌, subst, inl, inr, ◌⊎◌, is_blank, Longest, Lines, GivenText, longest_one, nil_from_length}
 use Rattle.sedck_commands.specs.Parts as p
 use Rattle.sedck_commands.proofs.FirstBytes.{heads, tails}
 use Rattle.std.proofs.lemmas.List.{length-append}
-
-module _ {text blanks begins front rest name r : List ℕ} (l : Longest is_blank text blanks begins) (m : Longest (λ b. not (is_newline b)) begins front rest)
-    (n : Name text name r) where
-  same : (name ≡ front) × (r ≡ rest)
-  same = longest_one (subst (λ t. Longest (λ b. not (is_newline b)) t name r) (longest_one n.skipped l).1 n.run) m
-
-  pub name_some : 0 < length front
-  name_some = subst (λ t. 0 < length t) same.0 n.some
-
-  pub name_plain : IsEmptyOr (λ b. not (is_skipped b)) front
-  name_plain = subst (IsEmptyOr (λ b. not (is_skipped b))) same.0 n.alike.plain
-
-  pub name_over : (rest ≡ []) ⊎ (is_continued front ≡ false)
-  name_over = subst (λ t. (t ≡ []) ⊎ (is_continued front ≡ false)) same.1 (subst (λ t. (r ≡ []) ⊎ (is_continued t ≡ false)) same.0 n.alike.over)
-
--- the first byte of a text that isn't empty
-pub first_passes : (test : ℕ → Bool) (text : List ℕ) → 1 ≤ length text → test (get_or text 0 0) ≡ true → IsEmptyOr (λ b. not (test b)) text → ⊥
-first_passes test [] l h e = omega (arith, l)
-first_passes test (b ∷ text) l h e = false≢true (sym (ap not h) ∙ e)
 
 -- What lines the rest begins with, the text begins with lines up to the same end.
 pub record LinesPassed (text rest : List ℕ) : Type 0 where

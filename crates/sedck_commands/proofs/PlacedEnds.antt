@@ -1,5 +1,5 @@
 -- What is at the offset of a fault of an end, a comment, a text or a name.
-use Rattle.sedck_commands.proofs.Common.{◌≡◌, ℕ, ◌+◌, Bool, true, false, List, [], ◌∷◌, ◌++◌, length, refl, ap, ◌∙◌, append_assoc, arith, not-true, one_of, is_blank, is_continued, begins_address, StandsWhere, is_extra, IsPlaced, EndsIn, ScriptFault}
+use Rattle.sedck_commands.proofs.Common.{◌≡◌, ℕ, ◌+◌, Bool, true, false, List, [], ◌∷◌, ◌++◌, length, refl, ap, ◌∙◌, append_assoc, arith, not-true, one_of, is_blank, is_continued, begins_address, StandsWhere, is_extra, IsPlaced, EndsIn, ScriptFault, drop, subst, sym, false≢true, VerbText}
 use Rattle.sedck_commands.specs.FirstFaults.{BeginsAt, EndFault, EndFlagsFault, CommentFault, TextFault, NameFault}
 use Rattle.sedck_commands.specs.FirstFaults as o
 use Rattle.sedck_commands.specs.Faults.{IsUnread}
@@ -8,8 +8,17 @@ use Rattle.sedck_commands.proofs.OffsetLemmas.{tail_cut, tail_tail, tail_behind,
 use Rattle.sedck_commands.proofs.TextEnds.{whole_from, byte_at}
 use Rattle.sedck_commands.proofs.LineBytes.{continued_cut, skipped_extra}
 use Rattle.sedck_commands.proofs.VerbCases.{no_text, no_name}
-use Rattle.sedck_commands.proofs.PlaceLemmas.{unread_verb}
+use Rattle.sedck_commands.proofs.UniqueItems.{place_first}
+use Rattle.sedck_commands.proofs.FirstBytes.{heads}
 use Rattle.sedck_commands.proofs.OneFaultEnds.{file_not}
+
+unread_verb : {text : List ℕ} {b : ℕ} (whole : List ℕ) (place : ℕ) → drop place whole ≡ b ∷ text → begins_address b ≡ false
+    → NoVerb (b ∷ text) → IsUnread whole place
+unfolding IsUnread
+unread_verb whole place here other none = (
+  λ address rest x. let first = place_first x in absurd (false≢true (sym other ∙ ap begins_address (heads (sym here ∙ first.2)) ∙ first.3)),
+  λ verb rest x. none verb rest (subst (λ t. VerbText t verb rest) here x),
+)
 
 -- the last byte of a line that is joined with the next one
 joined_placed : {whole : List ℕ} (line behind : List ℕ) (offset : ℕ) → EndsIn whole (line ++ behind) → is_continued line ≡ true

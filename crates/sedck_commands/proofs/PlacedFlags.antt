@@ -1,17 +1,19 @@
 -- What is at the offset of a fault of what `s` and `y` take.
-use Rattle.sedck_commands.proofs.Common.{◌≡◌, ℕ, Bool, List, ◌∷◌, length, refl, inl, arith, ScriptFault, IsPlaced, EndsIn}
+use Rattle.sedck_commands.proofs.Common.{◌≡◌, ℕ, Bool, List, ◌∷◌, length, refl, inl, arith, ScriptFault, IsPlaced, EndsIn, is_digit, is_extra, true, not_from_false, false_from_ne_true}
 use Rattle.sedck_commands.specs.Faults.{begins_part}
 use Rattle.sedck_commands.specs.FirstFaults.{BeginsAt, FlagsFault, SubstitutionFault, TransliterationFault}
 use Rattle.sedck_commands.specs.FirstFaults as o
 use Rattle.sedck_commands.specs.declared.fault.ScriptFault.TheVariants as fault
 use Rattle.sedck_commands.proofs.OffsetLemmas.{tail_tail, tail_behind, number_tail, expression_tail, list_tail, replacement_tail}
 use Rattle.sedck_commands.proofs.TextEnds.{byte_at}
-use Rattle.sedck_commands.proofs.UniqueParts.{number_first}
-use Rattle.sedck_commands.proofs.PlaceLemmas.{extra_digit}
+use Rattle.sedck_commands.proofs.UniqueParts.{number_first, digit_no_end}
 use Rattle.sedck_commands.proofs.OneFaultFlags.{substitution_fault_not}
 use Rattle.sedck_commands.proofs.OneFaultVerbs.{transliteration_fault_not}
 use Rattle.sedck_commands.proofs.PlacedEnds.{end_placed, end_flags_placed, verb_stands, name_placed}
 use Rattle.sedck_commands.proofs.PlacedParts.{part_placed, pattern_placed, list_placed, first_list_placed, replacement_placed}
+
+extra_digit : (b : ℕ) → is_digit b ≡ true → is_extra b ≡ true
+extra_digit b h = not_from_false _ (false_from_ne_true _ (digit_no_end b h))
 
 -- ---- Flags
 

@@ -1,5 +1,5 @@
 -- What is at the offset of a fault of a verb, a command or items.
-use Rattle.sedck_commands.proofs.Common.{◌≡◌, ℕ, ◌+◌, Bool, true, not, List, [], ◌∷◌, ◌++◌, Option, Some, length, refl, ap, sym, subst, length-append, arith, All-push, begins, is_label_byte, IsEmptyOr, Longest, Address, AddressText, WrittenVerb, Known, JumpTo, Opening, VerbText, Item, is_mark, verb_turn, BeginsCommand, StandsAt, EndsOrFails, IsPlaced, EndsIn, ScriptFault}
+use Rattle.sedck_commands.proofs.Common.{All, ascii, ◌≡◌, ℕ, ◌+◌, Bool, true, not, List, [], ◌∷◌, ◌++◌, Option, Some, length, refl, ap, sym, subst, length-append, arith, All-push, begins, is_label_byte, IsEmptyOr, Longest, Address, AddressText, WrittenVerb, Known, JumpTo, Opening, VerbText, Item, is_mark, verb_turn, BeginsCommand, StandsAt, EndsOrFails, IsPlaced, EndsIn, ScriptFault}
 use Rattle.std.proofs.lemmas.List.Elements.{All-pop, All-nil}
 use Rattle.sedck_commands.specs.Parts as p
 use Rattle.sedck_commands.specs.Items as w
@@ -11,7 +11,6 @@ use Rattle.sedck_commands.proofs.TextEnds.{whole_from, byte_at, fails_at}
 use Rattle.sedck_commands.proofs.VerbBytes.{not_taken}
 use Rattle.sedck_commands.proofs.CommandLemmas.{address_tail}
 use Rattle.sedck_commands.proofs.FaultLemmas3.{brace_first, jump_listed}
-use Rattle.sedck_commands.proofs.StateLemmas.{AreOpen}
 use Rattle.sedck_commands.proofs.PlacedEnds.{end_placed, comment_placed, text_placed, name_placed}
 use Rattle.sedck_commands.proofs.PlacedAddresses.{address_placed}
 use Rattle.sedck_commands.proofs.PlacedFlags.{substitution_placed, transliteration_placed}
@@ -79,6 +78,10 @@ command_placed h k (o.verb a m g x) = verb_placed (verb_end h (are_read a) m) x
 command_placed h k (o.brace a m g v d at) = brace_placed _ (verb_end h (are_read a) m) v at
 
 -- ---- Items
+
+-- a `{` is at each of the offsets
+abbrev pub AreOpen : List ℕ → List ℕ → Type 0
+AreOpen whole places = All (λ place. StandsAt whole place (ascii "{")) places
 
 -- the blocks that are open after a command
 noted_open : {whole text rest : List ℕ} (verb : WrittenVerb) (opened now : List ℕ) (last : ℕ) → EndsIn whole text → VerbText text verb rest

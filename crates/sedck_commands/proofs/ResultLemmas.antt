@@ -11,10 +11,6 @@ pub if_err_more : {A E : Type 0} {P Q : E → Type 0} (r : Result A E) → ((e :
 if_err_more (Ok x) f h = tt
 if_err_more (Err e) f h = f e h
 
-pub if_err_both : {A E : Type 0} {P Q R : E → Type 0} (r : Result A E) → ((e : E) → P e → Q e → R e) → IfErr r P → IfErr r Q → IfErr r R
-if_err_both (Ok x) f h k = tt
-if_err_both (Err e) f h k = f e h k
-
 pub if_some_at : {A : Type 0} (P : A → Type 0) {o : Option A} {x : A} → o ≡ Some x → IfSome o P → P x
 if_some_at P e h = subst (λ o. IfSome o P) e h
 
@@ -22,19 +18,9 @@ pub if_err_from : {A E : Type 0} (P : E → Type 0) (r : Result A E) (e : E) →
 if_err_from P (Ok x) e h p = tt
 if_err_from P (Err y) e h p = subst P (sym h) p
 
--- what doesn't depend on the error
-pub if_err_always : {A E : Type 0} {P : Type 0} (r : Result A E) → P → IfErr r (λ _. P)
-if_err_always (Ok x) h = tt
-if_err_always (Err e) h = h
-
 pub if_none_always : {A P : Type 0} (o : Option A) → P → IfNone o P
 if_none_always (Some x) h = tt
 if_none_always None h = h
-
--- what holds of each error
-pub if_err_each : {A E : Type 0} (Q : E → Type 0) (r : Result A E) → ((e : E) → Q e) → IfErr r Q
-if_err_each Q (Ok x) h = tt
-if_err_each Q (Err e) h = h e
 
 -- what holds of an error in the text of a callee, which is the caller's
 pub if_err_same : {A E : Type 0} (P : List ℕ → E → Type 0) (r : Result A E) (e : E) {whole other : Bor (List ℕ)} → IsErrAnd r (λ y. y ≡ e) → other ≡ whole

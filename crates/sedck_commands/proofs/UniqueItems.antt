@@ -3,7 +3,7 @@ use Rattle.sedck_commands.proofs.Common.{◌≡◌, ◌≢◌, ℕ, Bool, true, 
 use Rattle.sedck_commands.specs.Program.{Line, Context}
 use Rattle.sedck_commands.specs.Parts as p
 use Rattle.sedck_commands.specs.Items as w
-use Rattle.sedck_commands.specs.Private.AddressReading.{begins_address}
+use Rattle.sedck_commands.specs.Faults.{begins_address}
 use Rattle.sedck_commands.proofs.FirstBytes.{heads, tails}
 use Rattle.sedck_commands.proofs.UniqueParts.{ends_one, number_one, number_first, expression_one, pattern_one}
 use Rattle.sedck_commands.proofs.UniqueVerbs.{verb_one, no_backslash}

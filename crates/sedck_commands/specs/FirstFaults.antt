@@ -39,8 +39,8 @@ pub data EndFlagsFault (size : ℕ) (text : List ℕ) : ScriptFault → Type 0 w
 
 -- a carriage return is in a comment, the first of its line, and not at its end
 pub data CommentFault (size : ℕ) (text : List ℕ) : ScriptFault → Type 0 where
-  inner_return : {line rest : List ℕ} {offset : ℕ} (front more : List ℕ) → Longest (λ b. not (is_newline b)) text line rest → line ≡ front ++ carriage_return ∷ more
-      → (Contains front carriage_return → ⊥) → 0 < length more → BeginsAt size ((carriage_return ∷ more) ++ rest) offset
+  inner_return : {line rest : List ℕ} {offset : ℕ} (front more : List ℕ) → Longest (λ b. not (is_newline b)) text line rest
+      → line ≡ front ++ carriage_return ∷ more → (Contains front carriage_return → ⊥) → 0 < length more → BeginsAt size ((carriage_return ∷ more) ++ rest) offset
       → CommentFault size text (ExtraText offset)
 
 -- after the verb's blanks there is no text

@@ -60,7 +60,8 @@ pub data VerbTextIn (n : Narrowings) : List ℕ → WrittenVerb → List ℕ →
       → VerbTextIn n (b ∷ delimiter ∷ text) (Known (Substitute substitution)) rest
   transliterate : {b delimiter : ℕ} {text from behind to after rest : List ℕ}
       → b ≡ ascii "y" → IsTrue (is_delimiter delimiter)
-      → DelimitedList delimiter text from behind → n (Listed delimiter text behind) → DelimitedList delimiter behind to after → length from ≡ length to → Ends after rest
+      → DelimitedList delimiter text from behind → n (Listed delimiter text behind) → DelimitedList delimiter behind to after
+      → length from ≡ length to → Ends after rest
       → VerbTextIn n (b ∷ delimiter ∷ text) (Known (Transliterate from to)) rest
 
 -- A command: its addresses, then blanks (ours) and any number of `!`, then its verb. It is negated where there is a `!`.

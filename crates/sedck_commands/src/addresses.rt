@@ -1,19 +1,18 @@
 //! Addresses of commands, and decimal numbers.
 
-ghost use Rattle.std.specs.Prelude.{[], ◌≡◌, ◌≤◌, ◌<◌, ◌∷◌, ℕ, List, Some, None, length, drop, IsTrue, IfOk, IfErr, IfSome, IfNone, min};
+ghost use Rattle.std.specs.Prelude.{[], ◌≡◌, ◌<◌, ◌∷◌, ℕ, List, Some, None, length, IsTrue, IfOk, IfErr, IfSome, IfNone, min};
 ghost use Rattle.sedck_commands.specs.Cuts.{is_delimiter, is_digit};
 ghost use Rattle.sedck_commands.specs.Program.{place_patterns, address_patterns};
 ghost use Rattle.sedck_commands.specs.Parts.{PlaceText, AddressText, Number};
-ghost use Rattle.sedck_commands.specs.Faults.{IsPlaced, IsOfText};
-ghost use Rattle.sedck_text.specs.Cursors.{unread, Follows};
-ghost use Rattle.sedck_commands.specs.Private.PieceReading.{IsPartPlaced};
-ghost use Rattle.sedck_commands.specs.Private.AddressReading.{begins_address, ContextText, CustomText, BeginsPlace, BeginsNoPlace, IsOnlyAddress, IsNoCommand, IsBehindComma, HasNoComma, IsSecond, BeginsNoSecond, EmptyOfPlace};
-ghost use Rattle.sedck_commands.specs.ReadItems.{has_previous, IsEmptyAt, AddressEmpty};
+ghost use Rattle.sedck_commands.specs.Faults.{begins_address, IsOfText};
+ghost use Rattle.sedck_text.specs.Cursors.{unread};
+ghost use Rattle.sedck_commands.specs.Private.AddressReading.{ContextText, CustomText, IsSecond};
+ghost use Rattle.sedck_commands.specs.ReadItems.{has_previous, IsFirstEmpty, AddressEmpty};
 ghost use Rattle.std.specs.List.{list_all};
 ghost use Rattle.std.specs.Str.Parse.{digits_value};
 ghost use Rattle.sedck_commands.specs.Program as clean;
 ghost use Rattle.sedck_commands.specs.View as view;
-ghost use Rattle.sedck_commands.specs.FirstFaults.{BeginsAt, PatternFault, PlaceFault, AddressFault, AreAddresses};
+ghost use Rattle.sedck_commands.specs.FirstFaults.{BeginsAt, PatternFault, PlaceFault, BeginsNoAddress, IsAfterComma, HasNoComma, AddressFault, AreAddresses, EmptyPlace};
 ghost use Rattle.sedck_text.specs.Bytes.{ascii};
 
 use crate::bytes::{NUMBER_LIMIT, is_delimiter, is_digit};
@@ -38,11 +37,8 @@ fn read_context<'a>(
     text: Cursor<'a>,
 ) -> Result<(Place, Cursor<'a>), ScriptFault>
     requires delimiter { IsTrue (is_delimiter delimiter) }
-    requires opened { Follows text delimiter }
     ensures read { IfOk result (λ x. ContextText delimiter (unread text.entry) (view.place_of x.0) (unread x.1)) }
     ensures same { IfOk result (λ x. x.1.whole ≡ text.entry.whole) }
-    ensures refused { IfErr result (λ fault. IsOfText fault → (p : clean.Place) (rest : List ℕ) → ContextText delimiter (unread text.entry) p rest → ⊥) }
-    ensures placed { IfErr result (λ fault. IsPartPlaced opening text.entry.whole.now fault) }
     ensures first { IfErr result (λ fault. IsOfText fault → PatternFault (length text.entry.whole.now) opening delimiter (unread text.entry) fault) }
 {
     let (pattern, rest) = read_pattern(alloc, opening, delimiter, text)?;
@@ -57,8 +53,6 @@ fn read_custom_context<'a>(
 ) -> Result<(Place, Cursor<'a>), ScriptFault>
     ensures read { IfOk result (λ x. CustomText (unread text.entry) (view.place_of x.0) (unread x.1)) }
     ensures same { IfOk result (λ x. x.1.whole ≡ text.entry.whole) }
-    ensures refused { IfErr result (λ fault. IsOfText fault → (p : clean.Place) (rest : List ℕ) → CustomText (unread text.entry) p rest → ⊥) }
-    ensures placed { IfErr result (λ fault. IsPartPlaced opening text.entry.whole.now fault) }
     ensures first { IfErr result (λ fault. IsOfText fault → (begins : List ℕ) → begins ≡ ascii "\\" ∷ unread text.entry
         → BeginsAt (length text.entry.whole.now) begins opening → PlaceFault (length text.entry.whole.now) begins fault) }
 {
@@ -80,11 +74,9 @@ fn read_place<'a>(
 ) -> Result<(Place, Cursor<'a>), ScriptFault>
     requires first { unread text ≡ first ∷ unread behind }
     requires same { behind.whole ≡ text.whole }
-    requires follows { Follows behind first }
     requires begins { IsTrue (begins_address first) }
     ensures read { IfOk result (λ x. PlaceText (unread text.entry) (view.place_of x.0) (unread x.1)) }
     ensures same { IfOk result (λ x. x.1.whole ≡ text.entry.whole) }
-    ensures placed { IfErr result (λ fault. IsPlaced text.entry.whole.now fault) }
     ensures first { IfErr result (λ fault. IsOfText fault → PlaceFault (length text.entry.whole.now) (unread text.entry) fault) }
 {
     if first == b'$' {
@@ -111,9 +103,7 @@ fn split_place<'a>(
 ) -> Result<Option<(Place, Cursor<'a>)>, ScriptFault>
     ensures read { IfOk result (λ x. IfSome x (λ y. PlaceText (unread text.entry) (view.place_of y.0) (unread y.1))) }
     ensures same { IfOk result (λ x. IfSome x (λ y. y.1.whole ≡ text.entry.whole)) }
-    ensures none { IfOk result (λ x. IfNone x (BeginsNoPlace (unread text.entry))) }
-    ensures begins { IfErr result (λ fault. BeginsPlace (unread text.entry)) }
-    ensures placed { IfErr result (λ fault. IsPlaced text.entry.whole.now fault) }
+    ensures none { IfOk result (λ x. IfNone x (BeginsNoAddress (unread text.entry))) }
     ensures first { IfErr result (λ fault. IsOfText fault → PlaceFault (length text.entry.whole.now) (unread text.entry) fault) }
 {
     let Some((first, behind)) = text.split_first() else {
@@ -128,7 +118,7 @@ fn split_place<'a>(
 
 /// What follows a comma and the blanks round it.
 fn skip_comma<'a>(text: Cursor<'a>) -> Option<Cursor<'a>>
-    ensures some { IfSome result (λ second. IsBehindComma (unread text.entry) (unread second)) }
+    ensures some { IfSome result (λ second. IsAfterComma (unread text.entry) (unread second)) }
     ensures same { IfSome result (λ x. x.whole ≡ text.entry.whole) }
     ensures none { IfNone result (HasNoComma (unread text.entry)) }
 {
@@ -147,7 +137,6 @@ fn split_second<'a>(
     ensures read { IfOk result (λ x. IfSome x (λ y. IsSecond (unread text.entry) (view.place_of y.0) (unread y.1))) }
     ensures same { IfOk result (λ x. IfSome x (λ y. y.1.whole ≡ text.entry.whole)) }
     ensures none { IfOk result (λ x. IfNone x (HasNoComma (unread text.entry))) }
-    ensures placed { IfErr result (λ fault. IsPlaced text.entry.whole.now fault) }
     ensures first { IfErr result (λ fault. IsOfText fault → (begins : List ℕ) (place : clean.Place) → PlaceText begins place (unread text.entry)
         → AddressFault (length text.entry.whole.now) begins fault) }
 {
@@ -172,10 +161,8 @@ fn is_previous(pattern: &Pattern) -> bool
 /// The offset of the address's expression, where that is empty: its closing delimiter, right before what follows the address.
 fn empty_offset(place: &Place, behind: Cursor<'_>) -> Option<usize>
     requires { 0 < behind.at }
-    ensures empty { (from : ℕ) → PlaceText (drop from behind.entry.whole.now) (view.place_of place.now) (unread behind.entry)
-        → IsEmptyAt behind.entry.whole.now (place_patterns (view.place_of place.now)) result }
-    ensures emptied { (text : List ℕ) → PlaceText text (view.place_of place.now) (unread behind.entry)
-        → EmptyOfPlace (length behind.entry.whole.now) text (view.place_of place.now) result }
+    ensures { (text : List ℕ) → PlaceText text (view.place_of place.now) (unread behind.entry)
+        → IsFirstEmpty (place_patterns (view.place_of place.now)) (EmptyPlace (length behind.entry.whole.now) text) result }
 {
     let Place::Context(pattern) = place else {
         return None;
@@ -193,10 +180,8 @@ pub fn split_address<'a>(
 ) -> Result<(Address, Option<usize>, Cursor<'a>), ScriptFault>
     ensures read { IfOk result (λ x. AddressText (unread text.entry) (view.address_of x.0) (unread x.2)) }
     ensures same { IfOk result (λ x. x.2.whole ≡ text.entry.whole) }
-    ensures only { IfOk result (λ x. IsOnlyAddress (unread text.entry) (view.address_of x.0) (unread x.2)) }
-    ensures empty { IfOk result (λ x. IsEmptyAt text.entry.whole.now (address_patterns (view.address_of x.0)) x.1) }
-    ensures emptied { IfOk result (λ x. IfSome x.1 (AddressEmpty (length text.entry.whole.now) (unread text.entry))) }
-    ensures placed { IfErr result (λ fault. IsPlaced text.entry.whole.now fault) }
+    ensures empty { IfOk result (λ x. IsFirstEmpty (address_patterns (view.address_of x.0))
+        (AddressEmpty (length text.entry.whole.now) (unread text.entry)) x.1) }
     ensures all { IfOk result (λ x. AreAddresses (unread text.entry) (view.address_of x.0) (unread x.2)) }
     ensures first { IfErr result (λ fault. IsOfText fault → AddressFault (length text.entry.whole.now) (unread text.entry) fault) }
 {

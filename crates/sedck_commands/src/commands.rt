@@ -1,24 +1,22 @@
 //! Commands as they are written.
 
-ghost use Rattle.std.specs.Prelude.{if◌then◌else◌, ◌≡◌, ◌≤◌, ◌<◌, ◌++◌, ◌==◌, ◌⊎◌, ◌-◌, ◌+◌, ℕ, List, Bool, true, Option, length, drop, IfSome, IfOk, IfErr, OnOk, OnErr};
+ghost use Rattle.std.specs.Prelude.{if◌then◌else◌, ◌≡◌, ◌≤◌, ◌<◌, ◌++◌, ◌==◌, ◌-◌, ◌+◌, ℕ, List, Bool, true, Option, length, drop, IfOk, IfErr, OnOk};
 ghost use Rattle.std.specs.List.{list_any};
 ghost use Rattle.sedck_text.specs.Bytes.{ascii};
 ghost use Rattle.sedck_text.specs.Text.{one_of};
-ghost use Rattle.sedck_commands.specs.Program as clean;
+ghost use Rattle.sedck_text.specs.Classes.{is_mark};
 ghost use Rattle.sedck_commands.specs.Program.{address_patterns};
-ghost use Rattle.sedck_commands.specs.Items.{WrittenVerb, Opening, JumpTo, VerbText, Takes, CommandText};
+ghost use Rattle.sedck_commands.specs.Items.{Opening, JumpTo, VerbText, Takes};
 ghost use Rattle.sedck_commands.specs.ReadAlike.{MayBeBraced};
-ghost use Rattle.sedck_commands.specs.Faults.{BeginsCommand, IsVerbDue, IsEmptyExpression, IsPlaced, IsOfText};
+ghost use Rattle.sedck_commands.specs.Faults.{IsOfText};
 ghost use Rattle.sedck_text.specs.Cursors.{unread};
 ghost use Rattle.sedck_commands.specs.ItemView.{written_verb};
-ghost use Rattle.sedck_commands.specs.Private.VerbReading.{is_braced, DefinesKnown, HasLabel, IsBracedAt};
-ghost use Rattle.sedck_commands.specs.ReadItems.{IsWrittenAt, IsJumpIn, has_previous, IsEmptyAt, CommandEmpty, written_patterns};
-ghost use Rattle.sedck_commands.specs.Private.AddressReading.{is_mark};
-ghost use Rattle.sedck_commands.specs.Private.Progress.{takes, IsBeyond, AreAllowed};
+ghost use Rattle.sedck_commands.specs.Private.VerbReading.{is_braced, IsFreshIn, HasLabel, IsBracedAt};
+ghost use Rattle.sedck_commands.specs.ReadItems.{IsJumpIn, IsFirstEmpty, CommandEmpty, written_patterns};
 ghost use Rattle.sedck_commands.specs.Private.Forms.{IsForm, IsVerbAt};
-ghost use Rattle.sedck_commands.specs.Private.Locating.{IsOnlyLocation};
+ghost use Rattle.sedck_commands.specs.Private.Locating.{IsLocated};
 ghost use Rattle.sedck_commands.specs.View.{address_of};
-ghost use Rattle.sedck_commands.specs.FirstFaults.{MayGoOn, CheckFault, AreAddresses, CommandFault, EmptyVerb};
+ghost use Rattle.sedck_commands.specs.FirstFaults.{takes, MayGoOn, CheckFault, AreAddresses, CommandFault, EmptyVerb};
 ghost use Rattle.sedck_commands.specs.Cuts.{Longest};
 
 use crate::addresses::split_address;
@@ -66,13 +64,10 @@ fn check_verb<'a>(
     address: &Address,
     negated: bool,
 ) -> Result<(Form<'a>, Cursor<'a>), ScriptFault>
-    requires due { IsVerbDue reader.cursor.whole.now reader.cursor.at }
     ensures begins { IfOk result (λ x. IsVerbAt reader.entry.cursor x.0 x.1) }
-    ensures allowed { IfOk result (λ x. AreAllowed (address_of address.now) negated reader.entry.depth reader.entry.count (unread reader.entry.cursor)) }
-    ensures placed { IfErr result (λ fault. IsPlaced reader.entry.cursor.whole.now fault) }
     ensures may { IfOk result (λ x. MayGoOn (address_of address.now) negated reader.entry.depth reader.entry.count (unread reader.entry.cursor)) }
-    ensures first { IfErr result (λ fault. CheckFault (length reader.entry.cursor.whole.now) (address_of address.now) negated reader.entry.depth reader.entry.count
-        (unread reader.entry.cursor) fault) }
+    ensures first { IfErr result (λ fault. CheckFault (length reader.entry.cursor.whole.now) (address_of address.now) negated
+        reader.entry.depth reader.entry.count (unread reader.entry.cursor) fault) }
 {
     let place = reader.cursor.offset();
     let Some((byte, behind)) = reader.cursor.split_first() else {
@@ -96,7 +91,6 @@ fn check_verb<'a>(
 /// Whether the verb may be where this many blocks are open: no `}` may be right after its label inside of two of them.
 fn check_brace(verb: &Written, depth: usize) -> Result<(), ScriptFault>
     ensures allowed { OnOk result (MayBeBraced (is_braced (written_verb verb.now)) depth) }
-    ensures placed { IfErr result (λ fault. (text : List ℕ) → IsWrittenAt text verb.now → IsPlaced text fault) }
     ensures first { IfErr result (λ fault. (tests : Bool) × (label : Option (List ℕ)) × (written_verb verb.now ≡ JumpTo tests label true) × (2 ≤ depth)
         × ((offset : ℕ) → IsBracedAt offset verb.now → fault ≡ ScriptFault.BadLabel offset)) }
 {
@@ -110,10 +104,8 @@ fn check_brace(verb: &Written, depth: usize) -> Result<(), ScriptFault>
 
 /// Where the verb has an empty expression, the offset after its delimiter.
 fn empty_verb(verb: &Written, behind: usize) -> Option<usize>
-    ensures empty { (text : List ℕ) → (has_previous (written_patterns (written_verb verb.now)) ≡ true → IsEmptyExpression text behind)
-        → IsEmptyAt text (written_patterns (written_verb verb.now)) result }
-    ensures emptied { (size : ℕ) (begins rest : List ℕ) → VerbText begins (written_verb verb.now) rest → behind + length begins ≡ size + 2
-        → IfSome result (EmptyVerb size begins) }
+    ensures { (size : ℕ) (begins rest : List ℕ) → VerbText begins (written_verb verb.now) rest → behind + length begins ≡ size + 2
+        → IsFirstEmpty (written_patterns (written_verb verb.now)) (EmptyVerb size begins) result }
 {
     if let Written::Known(Verb::Substitute(substitution)) = verb {
         if let Pattern::Previous = substitution.pattern {
@@ -130,18 +122,15 @@ fn read_allowed_verb<'a>(
     address: &Address,
     negated: bool,
 ) -> Result<(Written<'a>, Cursor<'a>), ScriptFault>
-    requires due { IsVerbDue reader.cursor.whole.now reader.cursor.at }
     ensures read { IfOk result (λ x. VerbText (unread reader.entry.cursor) (written_verb x.0) (unread x.1)) }
     ensures same { IfOk result (λ x. x.1.whole ≡ reader.entry.cursor.whole) }
     ensures taken { IfOk result (λ x. Takes (written_verb x.0) (address_of address.now) negated) }
-    ensures fresh { IfOk result (λ x. DefinesKnown reader.entry.labels.now (written_verb x.0) → ⊥) }
+    ensures fresh { IfOk result (λ x. IsFreshIn reader.entry.labels.now x.0) }
     ensures shallow { IfOk result (λ x. written_verb x.0 ≡ Opening → reader.entry.depth < 64) }
     ensures braced { IfOk result (λ x. MayBeBraced (is_braced (written_verb x.0)) reader.entry.depth) }
     ensures few { IfOk result (λ x. reader.entry.count < 4095) }
-    ensures label { IfOk result (λ x. IsWrittenAt reader.entry.cursor.whole.now x.0) }
     ensures jump { IfOk result (λ x. IsJumpIn (length reader.entry.cursor.whole.now)
         (drop (reader.entry.cursor.at + 1) reader.entry.cursor.whole.now) x.0) }
-    ensures placed { IfErr result (λ fault. IsPlaced reader.entry.cursor.whole.now fault) }
     ensures first { IfErr result (λ fault. IsOfText fault → (text behind marks : List ℕ) → AreAddresses text (address_of address.now) behind
         → Longest is_mark behind marks (unread reader.entry.cursor) → negated ≡ list_any (λ b. b == ascii "!") marks
         → CommandFault (length reader.entry.cursor.whole.now) (HasLabel reader.entry.labels.now) reader.entry.depth reader.entry.count text fault) }
@@ -157,24 +146,19 @@ pub fn read_command<'a>(
     alloc: Global,
     reader: Reader<'_, 'a>,
 ) -> Result<(WrittenCommand<'a>, Option<usize>, Cursor<'a>), ScriptFault>
-    requires begins { BeginsCommand (unread reader.cursor) }
-    ensures read { IfOk result (λ x. CommandText (unread reader.entry.cursor) (address_of x.0.address) x.0.negated (written_verb x.0.verb) (unread x.2)) }
+    ensures read { IfOk result (λ x. IsLocated (length reader.entry.cursor.whole.now) (unread reader.entry.cursor) x.0 (unread x.2)) }
     ensures same { IfOk result (λ x. x.2.whole ≡ reader.entry.cursor.whole) }
-    ensures fresh { IfOk result (λ x. DefinesKnown reader.entry.labels.now (written_verb x.0.verb) → ⊥) }
+    ensures fresh { IfOk result (λ x. IsFreshIn reader.entry.labels.now x.0.verb) }
     ensures shallow { IfOk result (λ x. written_verb x.0.verb ≡ Opening → reader.entry.depth < 64) }
     ensures braced { IfOk result (λ x. MayBeBraced (is_braced (written_verb x.0.verb)) reader.entry.depth) }
     ensures few { IfOk result (λ x. reader.entry.count < 4095) }
-    ensures label { IfOk result (λ x. IsWrittenAt reader.entry.cursor.whole.now x.0.verb) }
     ensures jump { IfOk result (λ x. IsJumpIn (length reader.entry.cursor.whole.now)
         (drop (x.0.location.verb + 1) reader.entry.cursor.whole.now) x.0.verb) }
-    ensures located { IfOk result (λ x. IsOnlyLocation (length reader.entry.cursor.whole.now) (unread reader.entry.cursor) x.0.location) }
-    ensures empty { IfOk result (λ x. IsEmptyAt reader.entry.cursor.whole.now
-        (address_patterns (address_of x.0.address) ++ written_patterns (written_verb x.0.verb)) x.1) }
-    ensures emptied { IfOk result (λ x. IfSome x.1 (CommandEmpty (length reader.entry.cursor.whole.now)
-        (drop x.0.location.start reader.entry.cursor.whole.now))) }
-    ensures placed { IfErr result (λ fault. IsPlaced reader.entry.cursor.whole.now fault) }
+    ensures empty { IfOk result (λ x. IsFirstEmpty (address_patterns (address_of x.0.address) ++ written_patterns (written_verb x.0.verb))
+        (CommandEmpty (length reader.entry.cursor.whole.now) (drop x.0.location.start reader.entry.cursor.whole.now)) x.1) }
     ensures first { IfErr result (λ fault. IsOfText fault
-        → CommandFault (length reader.entry.cursor.whole.now) (HasLabel reader.entry.labels.now) reader.entry.depth reader.entry.count (unread reader.entry.cursor) fault) }
+        → CommandFault (length reader.entry.cursor.whole.now) (HasLabel reader.entry.labels.now) reader.entry.depth reader.entry.count
+        (unread reader.entry.cursor) fault) }
 {
     let start = reader.cursor;
     let (address, empty, behind) = split_address(alloc, start)?;

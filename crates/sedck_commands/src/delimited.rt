@@ -4,18 +4,16 @@ ghost use Rattle.std.specs.Prelude.{◌≡◌, ◌<◌, ◌-◌, ◌∷◌, ℕ,
 ghost use Rattle.std.specs.Cow.{cow_slice_items};
 ghost use Rattle.sedck_text.specs.Bytes.{ascii};
 ghost use Rattle.sedck_commands.specs.Cuts.{is_delimiter, Longest};
-ghost use Rattle.sedck_bre.specs.Tree.{Tree};
 ghost use Rattle.sedck_commands.specs.Parts.{DelimitedExpression, ExpressionText, DelimitedList, FirstList};
 ghost use Rattle.sedck_commands.specs.Private.Alike.{IsExpression};
 ghost use Rattle.sedck_commands.specs.ReadAlike.{begins_firmly, has_loose_quote, is_misread};
-ghost use Rattle.sedck_commands.specs.Faults.{StandsAt, IsNoExpression, IsMisjudged, IsRefusedExpression, IsOfText};
-ghost use Rattle.sedck_text.specs.Cursors.{unread, Follows};
+ghost use Rattle.sedck_commands.specs.Faults.{IsNoExpression, IsMisjudged, IsOfText};
+ghost use Rattle.sedck_text.specs.Cursors.{unread};
 ghost use Rattle.sedck_commands.specs.View.{pattern_of};
-ghost use Rattle.sedck_commands.specs.Private.PieceReading.{IsPiece, PatternText, IsWrittenUpTo, IsFirstEscape, IsPartPlaced, list_escape};
+ghost use Rattle.sedck_commands.specs.Private.PieceReading.{IsPiece, PatternText, IsWrittenUpTo, IsFirstEscape, list_escape};
 ghost use Rattle.sedck_commands.specs.declared.delimited.Piece.{Piece};
 ghost use Rattle.sedck_commands.specs.BracketLists.{BracketBegins, BracketList, BracketsClose};
 ghost use Rattle.sedck_bre.specs.Faults as expressions;
-ghost use Rattle.sedck_commands.specs.Program as clean;
 ghost use Rattle.sedck_commands.specs.FirstFaults.{PieceFault, CutFault, ExpressionTextFault, PatternFault, ListFault, FirstListFault};
 
 use crate::bytes::{can_be_escaped, is_digit, is_letter};
@@ -49,8 +47,6 @@ pub fn read_piece<'a>(
     requires delimiter { IsTrue (is_delimiter delimiter) }
     ensures read { IfOk result (λ x. IsPiece delimiter (unread text.entry) x.0 (unread x.1)) }
     ensures same { IfOk result (λ x. x.1.whole ≡ text.entry.whole) }
-    ensures refused { IfErr result (λ fault. (piece : Piece) (rest : List ℕ) → IsPiece delimiter (unread text.entry) piece rest → ⊥) }
-    ensures placed { IfErr result (λ fault. IsPartPlaced opening text.entry.whole.now fault) }
     ensures first { IfErr result (λ fault. PieceFault (length text.entry.whole.now) opening delimiter (unread text.entry) fault) }
 {
     let unterminated = ScriptFault::Unterminated { place: opening };
@@ -103,9 +99,6 @@ fn read_expression<'a>(
     ensures read { IfOk result (λ x. DelimitedExpression delimiter (unread text.entry) (cow_slice_items x.0) (unread x.2)) }
     ensures same { IfOk result (λ x. x.2.whole ≡ text.entry.whole) }
     ensures escape { IfOk result (λ x. IsFirstEscape delimiter text.entry.whole.now (unread text.entry) (cow_slice_items x.0) (delimiter ∷ (unread x.2)) x.1) }
-    ensures refused { IfErr result (λ fault. IsOfText fault → (expression : List ℕ) (rest : List ℕ)
-        → DelimitedExpression delimiter (unread text.entry) expression rest → ⊥) }
-    ensures placed { IfErr result (λ fault. IsPartPlaced opening text.entry.whole.now fault) }
     ensures first { IfErr result (λ fault. IsOfText fault → CutFault (length text.entry.whole.now) opening delimiter (unread text.entry) fault) }
 {
     let mut rest = text;
@@ -141,9 +134,6 @@ fn read_replaced<'a>(
     ensures read { IfOk result (λ x. DelimitedExpression delimiter (unread text.entry) (cow_slice_items x.0) (unread x.2)) }
     ensures same { IfOk result (λ x. x.2.whole ≡ text.entry.whole) }
     ensures escape { IfOk result (λ x. IsFirstEscape delimiter text.entry.whole.now (unread text.entry) (cow_slice_items x.0) (delimiter ∷ (unread x.2)) x.1) }
-    ensures refused { IfErr result (λ fault. IsOfText fault → (expression : List ℕ) (rest : List ℕ)
-        → DelimitedExpression delimiter (unread text.entry) expression rest → ⊥) }
-    ensures placed { IfErr result (λ fault. IsPartPlaced opening text.entry.whole.now fault) }
     ensures first { IfErr result (λ fault. IsOfText fault → CutFault (length text.entry.whole.now) opening delimiter (unread text.entry) fault) }
 {
     let written = &text.unread()[..behind_written.offset() - text.offset()];
@@ -217,12 +207,8 @@ fn read_expression_text<'a>(
     text: Cursor<'a>,
 ) -> Result<(CowSlice<'a, u8>, Cursor<'a>), ScriptFault>
     requires delimiter { IsTrue (is_delimiter delimiter) }
-    requires opened { Follows text delimiter }
     ensures read { IfOk result (λ x. ExpressionText delimiter (unread text.entry) (cow_slice_items x.0) (unread x.1)) }
     ensures same { IfOk result (λ x. x.1.whole ≡ text.entry.whole) }
-    ensures refused { IfErr result (λ fault. IsOfText fault → (expression : List ℕ) (rest : List ℕ)
-        → ExpressionText delimiter (unread text.entry) expression rest → ⊥) }
-    ensures placed { IfErr result (λ fault. IsPartPlaced opening text.entry.whole.now fault) }
     ensures first { IfErr result (λ fault. IsOfText fault → ExpressionTextFault (length text.entry.whole.now) opening delimiter (unread text.entry) fault) }
 {
     let (bytes, escape, rest) = read_expression(alloc, opening, delimiter, text)?;
@@ -237,7 +223,6 @@ fn read_expression_text<'a>(
 /// The fault of an expression that begins at the offset.
 fn expression_fault(place: usize, fault: ReFault) -> ScriptFault
     ensures memory { IsOfText result → expressions.IsOfText fault }
-    ensures placed { (text : List ℕ) (opening : ℕ) → (expressions.IsOfText fault → IsRefusedExpression text place fault) → IsPartPlaced opening text result }
     ensures cause { IsOfText result → result ≡ ScriptFault.BadExpression place fault }
 {
     match fault {
@@ -249,8 +234,6 @@ fn expression_fault(place: usize, fault: ReFault) -> ScriptFault
 /// The expression that the text spells, where matchers of real seds don't get it wrong.
 fn read_judged(alloc: Global, text: &[u8]) -> Result<Expr, ReFault>
     ensures read { IfOk result (λ e. IsExpression text.now e) }
-    ensures only { IfOk result (λ e. (t : Tree) → IsExpression text.now t → t ≡ e) }
-    ensures none { IfErr result (λ fault. expressions.IsOfText fault → (t : Tree) → IsExpression text.now t → ⊥) }
     ensures refused { IfErr result (λ fault. expressions.IsOfText fault → IsNoExpression text.now fault ⊎ IsMisjudged text.now fault) }
 {
     let expression = parse(alloc, text)?;
@@ -268,13 +251,8 @@ pub fn read_pattern<'a>(
     text: Cursor<'a>,
 ) -> Result<(Pattern, Cursor<'a>), ScriptFault>
     requires delimiter { IsTrue (is_delimiter delimiter) }
-    requires opened { Follows text delimiter }
     ensures read { IfOk result (λ x. PatternText delimiter (unread text.entry) (pattern_of x.0) (unread x.1)) }
     ensures same { IfOk result (λ x. x.1.whole ≡ text.entry.whole) }
-    ensures only { IfOk result (λ x. (p : clean.Pattern) (rest : List ℕ) → PatternText delimiter (unread text.entry) p rest
-        → (p ≡ pattern_of x.0) × (rest ≡ (unread x.1))) }
-    ensures refused { IfErr result (λ fault. IsOfText fault → (p : clean.Pattern) (rest : List ℕ) → PatternText delimiter (unread text.entry) p rest → ⊥) }
-    ensures placed { IfErr result (λ fault. IsPartPlaced opening text.entry.whole.now fault) }
     ensures first { IfErr result (λ fault. IsOfText fault → PatternFault (length text.entry.whole.now) opening delimiter (unread text.entry) fault) }
 {
     let (bytes, rest) = read_expression_text(alloc, opening, delimiter, text)?;
@@ -298,8 +276,6 @@ pub fn read_list<'a>(
     requires delimiter { IsTrue (is_delimiter delimiter) }
     ensures read { IfOk result (λ x. DelimitedList delimiter (unread text.entry) x.0.items (unread x.1)) }
     ensures same { IfOk result (λ x. x.1.whole ≡ text.entry.whole) }
-    ensures refused { IfErr result (λ fault. IsOfText fault → (bytes : List ℕ) (rest : List ℕ) → DelimitedList delimiter (unread text.entry) bytes rest → ⊥) }
-    ensures placed { IfErr result (λ fault. IsPartPlaced opening text.entry.whole.now fault) }
     ensures first { IfErr result (λ fault. IsOfText fault → ListFault (length text.entry.whole.now) opening delimiter (unread text.entry) fault) }
 {
     let mut bytes = Vec::new(alloc);
@@ -334,12 +310,8 @@ pub fn read_first_list<'a>(
     text: Cursor<'a>,
 ) -> Result<(Vec<u8>, Cursor<'a>), ScriptFault>
     requires delimiter { IsTrue (is_delimiter delimiter) }
-    requires opened { Follows text delimiter }
-    requires verb { (1 < text.at) × StandsAt text.whole.now (text.at - 2) (ascii "y") }
     ensures read { IfOk result (λ x. FirstList delimiter (unread text.entry) x.0.items (unread x.1)) }
     ensures same { IfOk result (λ x. x.1.whole ≡ text.entry.whole) }
-    ensures refused { IfErr result (λ fault. IsOfText fault → (bytes : List ℕ) (rest : List ℕ) → FirstList delimiter (unread text.entry) bytes rest → ⊥) }
-    ensures placed { IfErr result (λ fault. IsPartPlaced opening text.entry.whole.now fault) }
     ensures first { IfErr result (λ fault. IsOfText fault → FirstListFault (length text.entry.whole.now) opening delimiter (unread text.entry) fault) }
 {
     let (bytes, rest) = read_list(alloc, opening, delimiter, text)?;

@@ -1,9 +1,8 @@
 //! Flags of `s`.
 
-ghost use Rattle.std.specs.Prelude.{◌≡◌, ℕ, List, option_copied, IfOk, IfErr, length, Bool, false};
+ghost use Rattle.std.specs.Prelude.{◌≡◌, List, option_copied, IfOk, IfErr, length, Bool, false};
 ghost use Rattle.sedck_commands.specs.Program as clean;
 ghost use Rattle.sedck_commands.specs.Private.Alike.{Flags};
-ghost use Rattle.sedck_commands.specs.Faults.{IsPlaced};
 ghost use Rattle.sedck_text.specs.Cursors.{unread};
 ghost use Rattle.sedck_commands.specs.Private.FlagReading.{IsFlag, with_flags};
 ghost use Rattle.sedck_commands.specs.FirstFaults.{FlagsFault};
@@ -37,8 +36,8 @@ pub enum Flag<'a> {
 fn read_flag<'a>(text: Cursor<'a>) -> Result<(Flag<'a>, Cursor<'a>), ScriptFault>
     ensures read { IfOk result (λ x. IsFlag (unread text.entry) x.0 (unread x.1)) }
     ensures same { IfOk result (λ x. x.1.whole ≡ text.entry.whole) }
-    ensures placed { IfErr result (λ fault. IsPlaced text.entry.whole.now fault) }
-    ensures first { IfErr result (λ fault. (global print numbered : Bool) → FlagsFault (length text.entry.whole.now) global print numbered (unread text.entry) fault) }
+    ensures first { IfErr result (λ fault. (global print numbered : Bool)
+        → FlagsFault (length text.entry.whole.now) global print numbered (unread text.entry) fault) }
 {
     let Some((first, behind)) = text.split_first() else {
         return Ok((Flag::End, text));
@@ -72,7 +71,6 @@ pub fn read_flags<'a>(text: Cursor<'a>) -> Result<(Seen, Option<&'a [u8]>, Curso
     ensures read { IfOk result (λ x. (pattern : clean.Pattern) (parts : List clean.Part)
         → Flags pattern parts (unread text.entry) (with_flags pattern parts x.0 (option_copied x.1)) (unread x.2)) }
     ensures same { IfOk result (λ x. x.2.whole ≡ text.entry.whole) }
-    ensures placed { IfErr result (λ fault. IsPlaced text.entry.whole.now fault) }
     ensures first { IfErr result (λ fault. FlagsFault (length text.entry.whole.now) false false false (unread text.entry) fault) }
 {
     let mut seen = Seen {

@@ -5,12 +5,12 @@ ghost use Rattle.std.specs.Option.{option_or};
 ghost use Rattle.sedck_text.specs.Bytes.{ascii};
 ghost use Rattle.sedck_commands.specs.Cuts.{is_separator};
 ghost use Rattle.sedck_text.specs.Cursors.{unread};
-ghost use Rattle.sedck_commands.specs.Faults.{IsPlaced, IsOfText};
-ghost use Rattle.sedck_commands.specs.Private.Progress.{IsProgress, BeginsCommand, NotesLabel, NotesBlock};
-ghost use Rattle.sedck_commands.specs.ReadItems.{IsRead, HasNoItems};
+ghost use Rattle.sedck_commands.specs.Faults.{BeginsCommand, IsOfText};
+ghost use Rattle.sedck_commands.specs.Private.Progress.{IsProgress, NotesLabel};
+ghost use Rattle.sedck_commands.specs.ReadItems.{IsRead};
 ghost use Rattle.sedck_commands.specs.ItemView.{written_verb};
 ghost use Rattle.sedck_commands.specs.Blocks.{verb_turn};
-ghost use Rattle.sedck_commands.specs.FirstFaults.{ItemsFault};
+ghost use Rattle.sedck_commands.specs.FirstFaults.{NotesBlock, ItemsFault};
 
 use crate::commands::read_command;
 use crate::fault::ScriptFault;
@@ -85,7 +85,6 @@ fn close_block<'a>(
     ensures progress { IfOk result (λ rest. IsProgress begins.entry.whole.now (unread rest) progress.new) }
     ensures same { IfOk result (λ rest. rest.whole ≡ begins.entry.whole) }
     ensures shorter { IfOk result (λ rest. length (unread rest) < length (unread begins.entry)) }
-    ensures placed { IfErr result (λ fault. IsPlaced begins.entry.whole.now fault) }
     ensures first { IfErr result (λ fault. IsOfText fault → ItemsFault (length begins.entry.whole.now) [] [] begins.entry.whole.now fault) }
 {
     let Some(_) = progress.open_blocks.pop() else {
@@ -172,7 +171,6 @@ fn add_command<'a>(
     ensures progress { IfOk result (λ rest. IsProgress begins.entry.whole.now (unread rest) progress.new) }
     ensures same { IfOk result (λ rest. rest.whole ≡ begins.entry.whole) }
     ensures shorter { IfOk result (λ rest. length (unread rest) < length (unread begins.entry)) }
-    ensures placed { IfErr result (λ fault. IsPlaced begins.entry.whole.now fault) }
     ensures first { IfErr result (λ fault. IsOfText fault → ItemsFault (length begins.entry.whole.now) [] [] begins.entry.whole.now fault) }
 {
     let reader = Reader {
@@ -202,7 +200,6 @@ fn read_item<'a>(
     ensures progress { IfOk result (λ rest. IsProgress begins.entry.whole.now (unread rest) progress.new) }
     ensures same { IfOk result (λ rest. rest.whole ≡ begins.entry.whole) }
     ensures shorter { IfOk result (λ rest. length (unread rest) < length (unread begins.entry)) }
-    ensures placed { IfErr result (λ fault. IsPlaced begins.entry.whole.now fault) }
     ensures first { IfErr result (λ fault. IsOfText fault → ItemsFault (length begins.entry.whole.now) [] [] begins.entry.whole.now fault) }
 {
     if first == b'#' {
@@ -217,8 +214,6 @@ fn read_item<'a>(
 /// The items of the text, with what is known of them.
 pub fn read_items<'a>(alloc: Global, text: &'a [u8]) -> Result<Progress<'a>, ScriptFault>
     ensures read { IfOk result (λ progress. IsRead text.now progress) }
-    ensures refused { IfErr result (λ fault. IsOfText fault → HasNoItems text.now) }
-    ensures placed { IfErr result (λ fault. IsPlaced text.now fault) }
     ensures first { IfErr result (λ fault. IsOfText fault → ItemsFault (length text.now) [] [] text.now fault) }
 {
     let mut progress = Progress {

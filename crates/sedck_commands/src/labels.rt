@@ -1,18 +1,16 @@
 //! Labels after `:`, `b` and `t`, and the places of the commands that define them.
 
-ghost use Rattle.std.specs.Prelude.{◌≡◌, ◌<◌, ◌+◌, ℕ, Bool, false, List, Option, length, is_some, option_copied, IfOk, IfErr, IfSome, OnOk, Some, if◌then◌else◌, ◌∷◌};
-ghost use Rattle.sedck_text.specs.Text.{begins, one_of};
+ghost use Rattle.std.specs.Prelude.{◌≡◌, ◌<◌, ◌+◌, ℕ, false, List, Option, length, is_some, option_copied, IfOk, IfErr, IfSome, OnOk, Some, if◌then◌else◌, ◌∷◌};
+ghost use Rattle.sedck_text.specs.Text.{begins};
 ghost use Rattle.sedck_text.specs.Cursors.{unread};
-ghost use Rattle.sedck_commands.specs.Cuts.{is_ending, is_label_byte, IsEmptyOr, Longest, is_separator};
-ghost use Rattle.sedck_commands.specs.Parts.{Ends, LabelText};
+ghost use Rattle.sedck_commands.specs.Cuts.{is_ending, IsEmptyOr, is_separator};
+ghost use Rattle.sedck_commands.specs.Parts.{LabelText};
 ghost use Rattle.sedck_commands.specs.Items.{IsNoComment, IsNoBrace};
 ghost use Rattle.sedck_commands.specs.Private.Alike.{EndsJump};
 ghost use Rattle.sedck_commands.specs.ReadAlike.{begins_braced_comment};
-ghost use Rattle.sedck_commands.specs.Faults.{IsLabelBehind, IsPlaced};
 ghost use Rattle.sedck_commands.specs.Private.Reading.{IsLabelAt};
 ghost use Rattle.sedck_commands.specs.Labels.{label_place};
-ghost use Rattle.sedck_commands.specs.Private.LabelReading.{BranchText, IsBehindVerb, IsBehindLabel};
-ghost use Rattle.sedck_commands.specs.ReadItems.{IsJumpAt};
+ghost use Rattle.sedck_commands.specs.Private.LabelReading.{BranchText};
 ghost use Rattle.std.specs.Str.{bytes_eq};
 ghost use Rattle.sedck_commands.specs.FirstFaults.{LabelBeginsAt, DefinitionFault, JumpFault, ends_label, MayLackLabel};
 
@@ -35,12 +33,9 @@ pub struct Jump<'a> {
 
 /// The bytes of a label after blanks, their offset, and what follows them. There may be none.
 fn split_label<'a>(text: Cursor<'a>) -> (&'a [u8], usize, Cursor<'a>)
-    requires { IsBehindVerb (one_of ":bt") text }
     ensures parts { IsLabelAt (unread text.entry) result.0.now (unread result.2) }
     ensures same { result.2.whole ≡ text.entry.whole }
-    ensures behind { IsBehindLabel result.2 }
     ensures offset { result.1 + length result.0.now ≡ result.2.at }
-    ensures label { (test : ℕ → Bool) → IsBehindVerb test text.entry → 0 < length result.0.now → IsLabelBehind test text.entry.whole.now result.1 result.0.now }
 {
     let begins = text.skip(Class::Blank);
     let (name, behind) = begins.split(Class::Label);
@@ -49,11 +44,10 @@ fn split_label<'a>(text: Cursor<'a>) -> (&'a [u8], usize, Cursor<'a>)
 
 /// Whether a label that is defined may end here.
 fn check_behind_definition<'a>(behind: Cursor<'a>) -> Result<(), ScriptFault>
-    requires { IsBehindLabel behind }
     ensures allowed { OnOk result (IsNoBrace (unread behind.entry)) }
-    ensures placed { IfErr result (λ fault. IsPlaced behind.entry.whole.now fault) }
     ensures free { OnOk result (IsEmptyOr is_separator (unread behind.entry)) }
-    ensures first { IfErr result (λ fault. (b : ℕ) × (more : List ℕ) × (unread behind.entry ≡ b ∷ more) × (is_separator b ≡ false) × (fault ≡ ScriptFault.BadLabel behind.entry.at)) }
+    ensures first { IfErr result (λ fault. (b : ℕ) × (more : List ℕ) × (unread behind.entry ≡ b ∷ more)
+        × (is_separator b ≡ false) × (fault ≡ ScriptFault.BadLabel behind.entry.at)) }
 {
     if let Some(next) = behind.first() {
         if !Class::Separator.has(next) {
@@ -67,11 +61,8 @@ fn check_behind_definition<'a>(behind: Cursor<'a>) -> Result<(), ScriptFault>
 
 /// The label that is defined, its offset, and what follows it.
 pub fn read_definition<'a>(text: Cursor<'a>) -> Result<(&'a [u8], usize, Cursor<'a>), ScriptFault>
-    requires { IsBehindVerb (one_of ":") text }
     ensures read { IfOk result (λ x. LabelText (unread text.entry) x.0.now (unread x.2) × IsNoBrace (unread x.2)) }
     ensures same { IfOk result (λ x. x.2.whole ≡ text.entry.whole) }
-    ensures label { IfOk result (λ x. IsLabelBehind (one_of ":") text.entry.whole.now x.1 x.0.now) }
-    ensures placed { IfErr result (λ fault. IsPlaced text.entry.whole.now fault) }
     ensures at { IfOk result (λ x. IsLabelAt (unread text.entry) x.0.now (unread x.2)) }
     ensures offset { IfOk result (λ x. x.1 + length x.0.now ≡ x.2.at) }
     ensures free { IfOk result (λ x. IsEmptyOr is_separator (unread x.2)) }
@@ -87,11 +78,10 @@ pub fn read_definition<'a>(text: Cursor<'a>) -> Result<(&'a [u8], usize, Cursor<
 
 /// Whether the label of a branch may end here.
 fn check_behind_label<'a>(behind: Cursor<'a>) -> Result<(), ScriptFault>
-    requires { IsBehindLabel behind }
     ensures allowed { OnOk result (IsNoComment (unread behind.entry)) }
-    ensures placed { IfErr result (λ fault. IsPlaced behind.entry.whole.now fault) }
     ensures free { OnOk result (IsEmptyOr ends_label (unread behind.entry)) }
-    ensures first { IfErr result (λ fault. (b : ℕ) × (more : List ℕ) × (unread behind.entry ≡ b ∷ more) × (ends_label b ≡ false) × (fault ≡ ScriptFault.BadLabel behind.entry.at)) }
+    ensures first { IfErr result (λ fault. (b : ℕ) × (more : List ℕ) × (unread behind.entry ≡ b ∷ more)
+        × (ends_label b ≡ false) × (fault ≡ ScriptFault.BadLabel behind.entry.at)) }
 {
     if let Some(next) = behind.first() {
         if !Class::Separator.has(next) && next != b'}' {
@@ -120,10 +110,8 @@ fn begins_braced_comment(text: &[u8]) -> bool
 /// The rest of the text from the end of a branch with a label on. Some seds take a `}` right after the label for a part of it, and
 /// a comment after that too.
 fn end_of_jump<'a>(behind: Cursor<'a>) -> Result<Cursor<'a>, ScriptFault>
-    requires { IsBehindLabel behind }
     ensures read { IfOk result (λ rest. EndsJump (unread behind.entry) (unread rest)) }
     ensures same { IfOk result (λ x. x.whole ≡ behind.entry.whole) }
-    ensures placed { IfErr result (λ fault. IsPlaced behind.entry.whole.now fault) }
     ensures first { IfErr result (λ fault. (text name : List ℕ) → IsLabelAt text name (unread behind.entry) → 0 < length name
         → IsEmptyOr ends_label (unread behind.entry) → JumpFault (length behind.entry.whole.now) text fault) }
 {
@@ -139,10 +127,8 @@ fn end_of_jump<'a>(behind: Cursor<'a>) -> Result<Cursor<'a>, ScriptFault>
 /// Whether a branch without a label may end here, after its blanks. A comment may not follow, since some seds take it for a
 /// label.
 fn check_no_label<'a>(begins: Cursor<'a>) -> Result<(), ScriptFault>
-    requires behind { IsBehindLabel begins }
     ensures allowed { OnOk result (IsNoComment (unread begins.entry) × IsEmptyOr is_ending (unread begins.entry)
         × (begins_braced_comment (unread begins.entry) ≡ false)) }
-    ensures placed { IfErr result (λ fault. IsPlaced begins.entry.whole.now fault) }
     ensures first { IfErr result (λ fault. (MayLackLabel (unread begins.entry) → ⊥) × (fault ≡ ScriptFault.BadLabel begins.entry.at)) }
 {
     if let Some(next) = begins.first() {
@@ -157,9 +143,7 @@ fn check_no_label<'a>(begins: Cursor<'a>) -> Result<(), ScriptFault>
 
 /// The offset of the `}` that is right after a label, or after a verb without one.
 fn brace_behind<'a>(behind: Cursor<'a>) -> Option<usize>
-    requires { IsBehindLabel behind }
     ensures brace { is_some result ≡ begins "}" (unread behind.entry) }
-    ensures placed { IfSome result (λ place. IsPlaced behind.entry.whole.now (ScriptFault.BadLabel place)) }
     ensures at { IfSome result (λ place. place ≡ behind.entry.at) }
 {
     if behind.unread().starts_with(b"}") {
@@ -170,12 +154,9 @@ fn brace_behind<'a>(behind: Cursor<'a>) -> Option<usize>
 
 /// The label of a branch or a test, or none, and the rest of the text from the command's end on.
 pub fn read_jump<'a>(tests: bool, text: Cursor<'a>) -> Result<(Jump<'a>, Cursor<'a>), ScriptFault>
-    requires { IsBehindVerb (one_of "bt") text }
     ensures read { IfOk result (λ x. BranchText (unread text.entry) (option_copied x.0.label) (is_some x.0.brace) (unread x.1)) }
     ensures same { IfOk result (λ x. x.1.whole ≡ text.entry.whole) }
     ensures tests { IfOk result (λ x. x.0.tests ≡ tests) }
-    ensures label { IfOk result (λ x. IsJumpAt text.entry.whole.now x.0) }
-    ensures placed { IfErr result (λ fault. IsPlaced text.entry.whole.now fault) }
     ensures first { IfErr result (λ fault. JumpFault (length text.entry.whole.now) (unread text.entry) fault) }
     ensures ends { IfOk result (λ x. IfSome x.0.brace (λ place. place ≡ x.1.at)) }
     ensures jump { IfOk result (λ x. IfSome (option_copied x.0.label)

@@ -1,9 +1,8 @@
 //! Names of files, as commands give them.
 
-ghost use Rattle.std.specs.Prelude.{◌≡◌, ◌⊎◌, ℕ, List, length, IfOk, IfErr};
+ghost use Rattle.std.specs.Prelude.{◌≡◌, length, IfOk, IfErr};
 ghost use Rattle.sedck_commands.specs.Cuts.{is_continued};
 ghost use Rattle.sedck_commands.specs.Private.Alike.{Name};
-ghost use Rattle.sedck_commands.specs.Faults.{IsPlaced};
 ghost use Rattle.sedck_commands.specs.FirstFaults.{NameFault};
 ghost use Rattle.sedck_text.specs.Cursors.{unread};
 ghost use Rattle.sedck_commands.specs.Private.NameReading.{is_skipped};
@@ -51,8 +50,6 @@ pub fn read_name<'a>(
 ) -> Result<(&'a [u8], Cursor<'a>), ScriptFault>
     ensures read { IfOk result (λ x. Name (unread text.entry) x.0.now (unread x.1)) }
     ensures same { IfOk result (λ x. x.1.whole ≡ text.entry.whole) }
-    ensures refused { IfErr result (λ fault. (name : List ℕ) (rest : List ℕ) → Name (unread text.entry) name rest → ⊥) }
-    ensures placed { IfErr result (λ fault. (fault ≡ ScriptFault.MissingName opening) ⊎ IsPlaced text.entry.whole.now fault) }
     ensures first { IfErr result (λ fault. NameFault (length text.entry.whole.now) opening (unread text.entry) fault) }
 {
     let begins = text.skip(Class::Blank);

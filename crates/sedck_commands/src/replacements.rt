@@ -1,18 +1,17 @@
 //! Replacements of `s`: their parts, the groups that they keep of a match, the least length outside of them, and the length of their literal parts.
 
-ghost use Rattle.std.specs.Prelude.{◌≡◌, ◌≤◌, ◌<◌, ℕ, List, [], ◌∷◌, length, map, option_map, IsTrue, IfOk, IfErr, IfSome, IfNone, ◌^◌, Some, All};
+ghost use Rattle.std.specs.Prelude.{◌≡◌, ◌≤◌, ◌<◌, [], ◌∷◌, length, map, option_map, IsTrue, IfOk, IfErr, IfSome, IfNone, ◌^◌, Some, All};
 ghost use Rattle.sedck_commands.specs.Faults.{IsOfText};
-ghost use Rattle.sedck_commands.specs.Cuts.{is_delimiter, Longest};
-ghost use Rattle.sedck_commands.specs.Parts.{EscapedPart, Replacement, is_plain, greatest_group, IsPart};
+ghost use Rattle.sedck_commands.specs.Cuts.{is_delimiter};
+ghost use Rattle.sedck_commands.specs.Parts.{EscapedPart, Replacement, greatest_group, IsPart};
 ghost use Rattle.sedck_text.specs.Cursors.{unread};
 ghost use Rattle.sedck_commands.specs.View.{pattern_of, part_of};
-ghost use Rattle.sedck_commands.specs.Private.PieceReading.{IsPartPlaced};
-ghost use Rattle.sedck_commands.specs.Private.ReplacementReading.{IsGroupWithin, HasGroupsUpTo, IsNextPart};
+ghost use Rattle.sedck_commands.specs.Private.ReplacementReading.{HasGroupsUpTo, IsNextPart};
 ghost use Rattle.sedck_commands.specs.References.{IsOutside};
 ghost use Rattle.sedck_commands.specs.Program.{part_length as length_of_part, literal_length as length_of_parts};
 ghost use Rattle.sedck_commands.specs.Private.Keeping.{may_keep, kept_with, kept_from};
 ghost use Rattle.sedck_commands.specs.Program as clean;
-ghost use Rattle.sedck_commands.specs.FirstFaults.{ReplacementFault};
+ghost use Rattle.sedck_commands.specs.FirstFaults.{IsPartWithin, ReplacementFault};
 
 use crate::bytes::{is_digit, is_letter};
 use crate::delimited::{Piece, read_piece};
@@ -34,8 +33,8 @@ pub fn greatest_group(pattern: &Pattern) -> u8
 /// What a backslash and this byte mean, which the slice holds.
 fn escaped_part<'a>(b: u8, itself: &'a [u8], greatest: u8) -> Option<Part<'a>>
     requires { itself.now ≡ b ∷ [] }
-    ensures read { IfSome result (λ part. EscapedPart b (part_of part) × IsGroupWithin greatest (part_of part)) }
-    ensures none { IfNone result ((part : clean.Part) → EscapedPart b part → IsGroupWithin greatest part → ⊥) }
+    ensures read { IfSome result (λ part. EscapedPart b (part_of part) × IsPartWithin greatest (part_of part)) }
+    ensures none { IfNone result ((part : clean.Part) → EscapedPart b part → IsPartWithin greatest part → ⊥) }
 {
     if b == b'n' {
         return Some(Part::Newline);
@@ -65,9 +64,6 @@ fn read_part<'a>(
     requires delimiter { IsTrue (is_delimiter delimiter) }
     ensures read { IfOk result (λ x. IsNextPart delimiter greatest (unread text.entry) (option_map part_of x.0) (unread x.1)) }
     ensures same { IfOk result (λ x. x.1.whole ≡ text.entry.whole) }
-    ensures refused { IfErr result (λ fault. (parts : List clean.Part) (rest : List ℕ)
-        → Replacement delimiter (unread text.entry) parts rest → HasGroupsUpTo greatest parts → ⊥) }
-    ensures placed { IfErr result (λ fault. IsPartPlaced opening text.entry.whole.now fault) }
     ensures first { IfErr result (λ fault. ReplacementFault (length text.entry.whole.now) opening delimiter greatest (unread text.entry) fault) }
     ensures next { IfOk result (λ x. IfSome x.0 (λ part. (fault : ScriptFault)
         → ReplacementFault (length text.entry.whole.now) opening delimiter greatest (unread x.1) fault
@@ -107,9 +103,6 @@ pub fn read_replacement<'a>(
     ensures read { IfOk result (λ x. Replacement delimiter (unread text.entry) (map part_of x.0.items) (unread x.1)) }
     ensures same { IfOk result (λ x. x.1.whole ≡ text.entry.whole) }
     ensures groups { IfOk result (λ x. HasGroupsUpTo greatest (map part_of x.0.items)) }
-    ensures refused { IfErr result (λ fault. IsOfText fault → (parts : List clean.Part) (rest : List ℕ)
-        → Replacement delimiter (unread text.entry) parts rest → HasGroupsUpTo greatest parts → ⊥) }
-    ensures placed { IfErr result (λ fault. IsPartPlaced opening text.entry.whole.now fault) }
     ensures first { IfErr result (λ fault. IsOfText fault
         → ReplacementFault (length text.entry.whole.now) opening delimiter greatest (unread text.entry) fault) }
 {

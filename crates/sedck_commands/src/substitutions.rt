@@ -4,12 +4,11 @@ ghost use Rattle.std.specs.Prelude.{◌≡◌, ◌≢◌, ◌<◌, ◌-◌, ℕ,
 ghost use Rattle.sedck_text.specs.Bytes.{ascii};
 ghost use Rattle.sedck_commands.specs.Cuts.{is_delimiter};
 ghost use Rattle.sedck_commands.specs.Program as clean;
-ghost use Rattle.sedck_commands.specs.Items.{WrittenVerb, Known, VerbText};
-ghost use Rattle.sedck_commands.specs.Faults.{StandsAt, IsPlaced, IsOfText};
-ghost use Rattle.sedck_commands.specs.Private.PieceReading.{IsPartPlaced};
-ghost use Rattle.sedck_text.specs.Cursors.{unread, IsAhead, Follows};
+ghost use Rattle.sedck_commands.specs.Items.{Known, VerbText};
+ghost use Rattle.sedck_commands.specs.Faults.{IsOfText};
+ghost use Rattle.sedck_text.specs.Cursors.{unread};
 ghost use Rattle.sedck_commands.specs.Private.VerbReading.{AreLists, IsBracedAt};
-ghost use Rattle.sedck_commands.specs.ReadItems.{IsWrittenAt, IsJumpIn};
+ghost use Rattle.sedck_commands.specs.ReadItems.{IsJumpIn};
 ghost use Rattle.sedck_commands.specs.ItemView.{written_verb};
 ghost use Rattle.sedck_commands.specs.FirstFaults.{HasNoDelimiter, SubstitutionFault, TransliterationFault};
 
@@ -27,9 +26,7 @@ use std::alloc::Global;
 /// The delimiter after a verb, and what follows it.
 fn split_delimiter<'a>(opening: usize, text: Cursor<'a>) -> Result<(u8, Cursor<'a>), ScriptFault>
     ensures read { IfOk result (λ x. (unread text.entry ≡ x.0 ∷ unread x.1) × IsTrue (is_delimiter x.0)) }
-    ensures ahead { IfOk result (λ x. IsAhead text.entry 1 x.1 × Follows x.1 x.0) }
-    ensures refused { IfErr result (λ fault. (delimiter : ℕ) (rest : List ℕ) → unread text.entry ≡ delimiter ∷ rest → IsTrue (is_delimiter delimiter) → ⊥) }
-    ensures placed { IfErr result (λ fault. (whole : List ℕ) → IsPartPlaced opening whole fault) }
+    ensures same { IfOk result (λ x. x.1.whole ≡ text.entry.whole) }
     ensures first { IfErr result (λ fault. HasNoDelimiter (unread text.entry) × (fault ≡ ScriptFault.Unterminated opening)) }
 {
     let unterminated = ScriptFault::Unterminated { place: opening };
@@ -47,12 +44,10 @@ pub fn read_substitution<'a>(
     alloc: Global,
     text: Cursor<'a>,
 ) -> Result<(Written<'a>, Cursor<'a>), ScriptFault>
-    requires { Follows text (ascii "s") }
+    requires { 0 < text.at }
     ensures read { IfOk result (λ x. VerbText (ascii "s" ∷ unread text.entry) (written_verb x.0) (unread x.1)) }
     ensures same { IfOk result (λ x. x.1.whole ≡ text.entry.whole) }
     ensures no_label { IfOk result (λ x. (name : List ℕ) → written_verb x.0 ≢ Known (clean.Label name)) }
-    ensures label { IfOk result (λ x. IsWrittenAt text.entry.whole.now x.0) }
-    ensures placed { IfErr result (λ fault. IsPlaced text.entry.whole.now fault) }
     ensures first { IfErr result (λ fault. IsOfText fault → SubstitutionFault (length text.entry.whole.now) (text.entry.at - 1) (unread text.entry) fault) }
     ensures brace { IfOk result (λ x. IsBracedAt x.1.at x.0) }
     ensures jump { IfOk result (λ x. IsJumpIn (length text.entry.whole.now) (unread text.entry) x.0) }
@@ -86,13 +81,8 @@ fn read_lists<'a>(
     text: Cursor<'a>,
 ) -> Result<(Vec<u8>, Vec<u8>, Cursor<'a>), ScriptFault>
     requires delimiter { IsTrue (is_delimiter delimiter) }
-    requires opened { Follows text delimiter }
-    requires verb { (1 < text.at) × StandsAt text.whole.now (text.at - 2) (ascii "y") }
-    requires stands { StandsAt text.whole.now opening (ascii "y") }
     ensures read { IfOk result (λ x. AreLists delimiter (unread text.entry) x.0.items x.1.items (unread x.2)) }
     ensures same { IfOk result (λ x. x.2.whole ≡ text.entry.whole) }
-    ensures refused { IfErr result (λ fault. IsOfText fault → (from to rest : List ℕ) → AreLists delimiter (unread text.entry) from to rest → ⊥) }
-    ensures placed { IfErr result (λ fault. IsPartPlaced opening text.entry.whole.now fault) }
     ensures first { IfErr result (λ fault. IsOfText fault → (begins : List ℕ) → begins ≡ delimiter ∷ unread text.entry
         → TransliterationFault (length text.entry.whole.now) opening begins fault) }
 {
@@ -109,12 +99,10 @@ pub fn read_transliteration<'a>(
     alloc: Global,
     text: Cursor<'a>,
 ) -> Result<(Written<'a>, Cursor<'a>), ScriptFault>
-    requires { Follows text (ascii "y") }
+    requires { 0 < text.at }
     ensures read { IfOk result (λ x. VerbText (ascii "y" ∷ unread text.entry) (written_verb x.0) (unread x.1)) }
     ensures same { IfOk result (λ x. x.1.whole ≡ text.entry.whole) }
     ensures no_label { IfOk result (λ x. (name : List ℕ) → written_verb x.0 ≢ Known (clean.Label name)) }
-    ensures label { IfOk result (λ x. IsWrittenAt text.entry.whole.now x.0) }
-    ensures placed { IfErr result (λ fault. IsPlaced text.entry.whole.now fault) }
     ensures first { IfErr result (λ fault. IsOfText fault → TransliterationFault (length text.entry.whole.now) (text.entry.at - 1) (unread text.entry) fault) }
     ensures brace { IfOk result (λ x. IsBracedAt x.1.at x.0) }
     ensures jump { IfOk result (λ x. IsJumpIn (length text.entry.whole.now) (unread text.entry) x.0) }

@@ -4,9 +4,7 @@ ghost use Rattle.std.specs.Prelude.{◌≡◌, ℕ, List, IfSome, IfNone, IfOk, 
 ghost use Rattle.sedck_text.specs.Cursors.{unread};
 ghost use Rattle.sedck_commands.specs.Parts.{Lines, GivenText, Ends};
 ghost use Rattle.sedck_commands.specs.Private.Reading.{EndsFlags};
-ghost use Rattle.sedck_commands.specs.Faults.{IsPlaced};
 ghost use Rattle.sedck_commands.specs.Private.CommentReading.{CommentText};
-ghost use Rattle.sedck_text.specs.Text.{begins};
 ghost use Rattle.sedck_commands.specs.FirstFaults.{CommentFault, EndFault, EndFlagsFault};
 
 use crate::bytes::is_ending;
@@ -72,7 +70,6 @@ pub fn read_text<'a>(text: Cursor<'a>) -> Option<(&'a [u8], Cursor<'a>)>
 pub fn read_comment<'a>(text: Cursor<'a>) -> Result<Cursor<'a>, ScriptFault>
     ensures read { IfOk result (λ rest. (line : List ℕ) × CommentText (unread text.entry) line (unread rest)) }
     ensures same { IfOk result (λ x. x.whole ≡ text.entry.whole) }
-    ensures placed { IfErr result (λ fault. IsPlaced text.entry.whole.now fault) }
     ensures first { IfErr result (λ fault. CommentFault (length text.entry.whole.now) (unread text.entry) fault) }
 {
     let (line, rest) = text.split(Class::Except(b'\n'));
@@ -90,7 +87,6 @@ pub fn read_comment<'a>(text: Cursor<'a>) -> Result<Cursor<'a>, ScriptFault>
 pub fn end_of_command<'a>(text: Cursor<'a>) -> Result<Cursor<'a>, ScriptFault>
     ensures read { IfOk result (λ rest. Ends (unread text.entry) (unread rest)) }
     ensures same { IfOk result (λ x. x.whole ≡ text.entry.whole) }
-    ensures placed { IfErr result (λ fault. IsPlaced text.entry.whole.now fault) }
     ensures first { IfErr result (λ fault. EndFault (length text.entry.whole.now) (unread text.entry) fault) }
 {
     let rest = text.skip(Class::Blank);
@@ -108,7 +104,6 @@ pub fn end_of_command<'a>(text: Cursor<'a>) -> Result<Cursor<'a>, ScriptFault>
 pub fn end_of_flags<'a>(text: Cursor<'a>) -> Result<Cursor<'a>, ScriptFault>
     ensures read { IfOk result (λ rest. EndsFlags (unread text.entry) (unread rest)) }
     ensures same { IfOk result (λ x. x.whole ≡ text.entry.whole) }
-    ensures placed { IfErr result (λ fault. IsPlaced text.entry.whole.now fault) }
     ensures first { IfErr result (λ fault. EndFlagsFault (length text.entry.whole.now) (unread text.entry) fault) }
 {
     let rest = end_of_command(text)?;

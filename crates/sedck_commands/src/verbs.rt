@@ -1,15 +1,15 @@
 //! Verbs with what they take.
 
-ghost use Rattle.std.specs.Prelude.{◌≡◌, ◌≢◌, ◌-◌, ℕ, List, ◌∷◌, IfOk, IfErr, length};
+ghost use Rattle.std.specs.Prelude.{◌≡◌, ◌≢◌, ◌<◌, ◌-◌, ℕ, List, ◌∷◌, IfOk, IfErr, length};
 ghost use Rattle.sedck_text.specs.Bytes.{ascii};
 ghost use Rattle.sedck_commands.specs.Program as clean;
-ghost use Rattle.sedck_commands.specs.Items.{WrittenVerb, Known, Simple, VerbText};
-ghost use Rattle.sedck_commands.specs.Faults.{IsPlaced, IsOfText};
-ghost use Rattle.sedck_text.specs.Cursors.{unread, Follows};
+ghost use Rattle.sedck_commands.specs.Items.{Known, Simple, VerbText};
+ghost use Rattle.sedck_commands.specs.Faults.{IsOfText};
+ghost use Rattle.sedck_text.specs.Cursors.{unread};
 ghost use Rattle.sedck_commands.specs.View.{verb_of};
 ghost use Rattle.sedck_commands.specs.ItemView.{written_verb};
-ghost use Rattle.sedck_commands.specs.ReadItems.{IsWrittenAt, IsJumpIn};
-ghost use Rattle.sedck_commands.specs.Private.VerbReading.{DefinesKnown, HasLabel, IsBracedAt};
+ghost use Rattle.sedck_commands.specs.ReadItems.{IsJumpIn};
+ghost use Rattle.sedck_commands.specs.Private.VerbReading.{IsFreshIn, HasLabel, IsBracedAt};
 ghost use Rattle.sedck_commands.specs.Private.Forms.{IsForm, text_byte, file_byte, jump_byte};
 ghost use Rattle.sedck_commands.specs.FirstFaults.{EndFault, TextFault, NameFault, LabelFault, JumpFault, VerbFault};
 
@@ -34,8 +34,6 @@ fn read_simple_verb<'a>(
     ensures read { IfOk result (λ x. (b : ℕ) → Simple b (verb_of verb.entry) → VerbText (b ∷ unread text.entry) (written_verb x.0) (unread x.1)) }
     ensures same { IfOk result (λ x. x.1.whole ≡ text.entry.whole) }
     ensures no_label { IfOk result (λ x. (name : List ℕ) → written_verb x.0 ≢ Known (clean.Label name)) }
-    ensures label { IfOk result (λ x. IsWrittenAt text.entry.whole.now x.0) }
-    ensures placed { IfErr result (λ fault. IsPlaced text.entry.whole.now fault) }
     ensures brace { IfOk result (λ x. IsBracedAt x.1.at x.0) }
     ensures jump { IfOk result (λ x. IsJumpIn (length text.entry.whole.now) (unread text.entry) x.0) }
     ensures first { IfErr result (λ fault. EndFault (length text.entry.whole.now) (unread text.entry) fault) }
@@ -49,12 +47,10 @@ fn read_text_verb<'a>(
     verb: TextVerb,
     text: Cursor<'a>,
 ) -> Result<(Written<'a>, Cursor<'a>), ScriptFault>
-    requires { Follows text (text_byte verb) }
+    requires { 0 < text.at }
     ensures read { IfOk result (λ x. VerbText (text_byte verb ∷ unread text.entry) (written_verb x.0) (unread x.1)) }
     ensures same { IfOk result (λ x. x.1.whole ≡ text.entry.whole) }
     ensures no_label { IfOk result (λ x. (name : List ℕ) → written_verb x.0 ≢ Known (clean.Label name)) }
-    ensures label { IfOk result (λ x. IsWrittenAt text.entry.whole.now x.0) }
-    ensures placed { IfErr result (λ fault. IsPlaced text.entry.whole.now fault) }
     ensures brace { IfOk result (λ x. IsBracedAt x.1.at x.0) }
     ensures jump { IfOk result (λ x. IsJumpIn (length text.entry.whole.now) (unread text.entry) x.0) }
     ensures first { IfErr result (λ fault. TextFault (text.entry.at - 1) (unread text.entry) fault) }
@@ -76,12 +72,10 @@ fn read_file_verb<'a>(
     access: Access,
     text: Cursor<'a>,
 ) -> Result<(Written<'a>, Cursor<'a>), ScriptFault>
-    requires { Follows text (file_byte access) }
+    requires { 0 < text.at }
     ensures read { IfOk result (λ x. VerbText (file_byte access ∷ unread text.entry) (written_verb x.0) (unread x.1)) }
     ensures same { IfOk result (λ x. x.1.whole ≡ text.entry.whole) }
     ensures no_label { IfOk result (λ x. (name : List ℕ) → written_verb x.0 ≢ Known (clean.Label name)) }
-    ensures label { IfOk result (λ x. IsWrittenAt text.entry.whole.now x.0) }
-    ensures placed { IfErr result (λ fault. IsPlaced text.entry.whole.now fault) }
     ensures brace { IfOk result (λ x. IsBracedAt x.1.at x.0) }
     ensures jump { IfOk result (λ x. IsJumpIn (length text.entry.whole.now) (unread text.entry) x.0) }
     ensures first { IfErr result (λ fault. NameFault (length text.entry.whole.now) (text.entry.at - 1) (unread text.entry) fault) }
@@ -98,12 +92,9 @@ fn read_label<'a>(
     labels: &IndexMap<&'a [u8], usize>,
     text: Cursor<'a>,
 ) -> Result<(Written<'a>, Cursor<'a>), ScriptFault>
-    requires { Follows text (ascii ":") }
     ensures read { IfOk result (λ x. VerbText (ascii ":" ∷ unread text.entry) (written_verb x.0) (unread x.1)) }
     ensures same { IfOk result (λ x. x.1.whole ≡ text.entry.whole) }
-    ensures fresh { IfOk result (λ x. DefinesKnown labels.now (written_verb x.0) → ⊥) }
-    ensures label { IfOk result (λ x. IsWrittenAt text.entry.whole.now x.0) }
-    ensures placed { IfErr result (λ fault. IsPlaced text.entry.whole.now fault) }
+    ensures fresh { IfOk result (λ x. IsFreshIn labels.now x.0) }
     ensures brace { IfOk result (λ x. IsBracedAt x.1.at x.0) }
     ensures jump { IfOk result (λ x. IsJumpIn (length text.entry.whole.now) (unread text.entry) x.0) }
     ensures first { IfErr result (λ fault. LabelFault (length text.entry.whole.now) (HasLabel labels.now) (unread text.entry) fault) }
@@ -118,12 +109,9 @@ fn read_label<'a>(
 
 /// The label after a branch or a test, or none, and the rest of the script from its end on.
 fn read_branch<'a>(tests: bool, text: Cursor<'a>) -> Result<(Written<'a>, Cursor<'a>), ScriptFault>
-    requires { Follows text (jump_byte tests) }
     ensures read { IfOk result (λ x. VerbText (jump_byte tests ∷ unread text.entry) (written_verb x.0) (unread x.1)) }
     ensures same { IfOk result (λ x. x.1.whole ≡ text.entry.whole) }
     ensures no_label { IfOk result (λ x. (name : List ℕ) → written_verb x.0 ≢ Known (clean.Label name)) }
-    ensures label { IfOk result (λ x. IsWrittenAt text.entry.whole.now x.0) }
-    ensures placed { IfErr result (λ fault. IsPlaced text.entry.whole.now fault) }
     ensures brace { IfOk result (λ x. IsBracedAt x.1.at x.0) }
     ensures jump { IfOk result (λ x. IsJumpIn (length text.entry.whole.now) (unread text.entry) x.0) }
     ensures first { IfErr result (λ fault. JumpFault (length text.entry.whole.now) (unread text.entry) fault) }
@@ -142,12 +130,10 @@ pub fn read_verb<'a>(
     form: Form<'a>,
     text: Cursor<'a>,
 ) -> Result<(Written<'a>, Cursor<'a>), ScriptFault>
-    requires { (b : ℕ) × IsForm b form × Follows text b }
+    requires { (b : ℕ) × IsForm b form × (0 < text.at) }
     ensures read { IfOk result (λ x. (b : ℕ) → IsForm b form.entry → VerbText (b ∷ unread text.entry) (written_verb x.0) (unread x.1)) }
     ensures same { IfOk result (λ x. x.1.whole ≡ text.entry.whole) }
-    ensures fresh { IfOk result (λ x. DefinesKnown labels.now (written_verb x.0) → ⊥) }
-    ensures label { IfOk result (λ x. IsWrittenAt text.entry.whole.now x.0) }
-    ensures placed { IfErr result (λ fault. IsPlaced text.entry.whole.now fault) }
+    ensures fresh { IfOk result (λ x. IsFreshIn labels.now x.0) }
     ensures brace { IfOk result (λ x. IsBracedAt x.1.at x.0) }
     ensures jump { IfOk result (λ x. IsJumpIn (length text.entry.whole.now) (unread text.entry) x.0) }
     ensures first { IfErr result (λ fault. IsOfText fault → (b : ℕ) → IsForm b form.entry

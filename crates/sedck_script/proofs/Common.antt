@@ -10,7 +10,7 @@ pub use Rattle.std.specs.Cmp.Lexicographic.{slice_cmp}
 pub use Rattle.std.specs.HashMap.{HashMap}
 pub use Rattle.std.specs.List.{list_all, AllByRecursion}
 pub use Rattle.std.specs.Ordering.{nat_cmp}
-pub use Rattle.std.specs.Prelude.{IsTrue, Any, All, flat_map}
+pub use Rattle.std.specs.Prelude.{IsTrue, All, flat_map}
 pub use Rattle.std.specs.declared.cmp.Ordering.{Ordering}
 pub use Rattle.std.specs.declared.cmp.Ordering.TheVariants.{Less, Equal, Greater}
 pub use Rattle.sedck_bre.specs.Lengths.{IsLeastSize}
@@ -35,7 +35,7 @@ pub use Rattle.sedck_script.specs.Invariant.{IsReplacement}
 pub use Rattle.sedck_script.specs.Names.{IsBefore, sorted_names, IsName, names_size, read_names, write_names, placed, with_name}
 pub use Rattle.sedck_script.specs.Private.ExpressionReading.{has_some, IsLeastOf}
 pub use Rattle.sedck_script.specs.Private.NameReading.{all_accessed}
-pub use Rattle.sedck_script.specs.Private.Resolving.{item_label, IsLostLabel, IsKnownLabel}
+pub use Rattle.sedck_script.specs.Private.Resolving.{item_label, IsKnownLabel}
 pub use Rattle.sedck_script.specs.Resolution.{Resolves, Defines, AreLabelsDistinct, done, known, jump, opening, closing, ResolvesIn, LeadsTo}
 pub use Rattle.sedck_script.specs.Shortest.{SomeHasLength}
 pub use Rattle.sedck_script.specs.Spelling.{Spells, IsQuiet, AreCommands, SpellsIn}

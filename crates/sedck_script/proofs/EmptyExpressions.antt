@@ -10,7 +10,7 @@ use Rattle.sedck_commands.specs.Items as w
 use Rattle.sedck_commands.specs.ReadAlike.{read_alike}
 use Rattle.sedck_commands.specs.ReadItems.{written_patterns, AddressEmpty, CommandEmpty}
 use Rattle.sedck_commands.specs.ReadItems as r
-use Rattle.sedck_commands.specs.FirstFaults.{IsAfterComma, BeginsNoAddress, AreAddresses, EmptyPlace, EmptyVerb}
+use Rattle.sedck_commands.specs.FirstFaults.{BeginsNoAddress, AreAddresses, EmptyPlace, EmptyVerb}
 use Rattle.sedck_commands.specs.FirstFaults as o
 use Rattle.std.proofs.lemmas.Bool.{both_ways, not-true}
 use Rattle.sedck_text.proofs.Runs.{longest_one}
@@ -21,7 +21,7 @@ use Rattle.sedck_commands.proofs.UniqueItems.{place_class, place_begins, place_o
 use Rattle.sedck_commands.proofs.UniqueAddresses.{no_place}
 use Rattle.sedck_commands.proofs.ReplacementParts.{flags_leave}
 use Rattle.sedck_commands.proofs.OneFaultEnds.{at_one}
-use Rattle.sedck_commands.proofs.OneFaultAddresses.{are_addresses_one, all_addresses}
+use Rattle.sedck_commands.proofs.OneFaultAddresses.{second_one, are_addresses_one, all_addresses}
 
 pub previous_left : (xs ys : List Pattern) → has_previous xs ≡ true → has_previous (xs ++ ys) ≡ true
 previous_left [] ys h = absurd (false≢true h)
@@ -65,12 +65,6 @@ place_empty_one (inr e) (inr f) = at_one (tails (sym e.3.1 ∙ tails (sym e.2 �
 no_empty_here : (size offset : ℕ) {text : List ℕ} → BeginsNoAddress text → EmptyPlace size text offset → ⊥
 no_empty_here size offset n (inl e) = both_ways _ (not-true _ (subst BeginsNoAddress e.1 n)) refl
 no_empty_here size offset n (inr e) = both_ways _ (not-true _ (subst BeginsNoAddress e.2 n)) refl
-
--- what is after an address and a comma
-second_one : {text behind second after other : List ℕ} {q v : Place} → PlaceText text q behind → IsAfterComma behind second → PlaceText text v after
-    → IsAfterComma after other → second ≡ other
-second_one x c y d =
-    let before = longest_one (longest_along (place_one x y).1 c.before) d.before in (longest_one (longest_along (tails before.1) c.after) d.after).1
 
 address_empty : {size offset : ℕ} {text rest : List ℕ} {a : Address} → AreAddresses text a rest → AddressEmpty size text offset
     → has_previous (address_patterns a) ≡ true

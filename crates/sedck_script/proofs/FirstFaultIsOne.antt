@@ -6,7 +6,7 @@ use Rattle.std.proofs.lemmas.List.{get_or-take, length-take-le}
 use Rattle.std.proofs.lemmas.Option.{slice_get_within, get_or_from_slice_get}
 use Rattle.sedck_commands.specs.Locations.{locations_of}
 use Rattle.sedck_commands.specs.Faults.{IsFirstZero, StandsAt}
-use Rattle.sedck_commands.specs.FirstFaults.{IsLabelAt, LabelBeginsAt}
+use Rattle.sedck_commands.specs.FirstFaults.{LabelBeginsAt}
 use Rattle.sedck_commands.specs.FirstFaults as first
 use Rattle.sedck_commands.specs.ReadItems.{patterns_of, CommandEmpty}
 use Rattle.sedck_commands.specs.declared.fault.ScriptFault.{ScriptFault}
@@ -203,5 +203,5 @@ links_refuse {items = items} x (f.expression front more empty all none cut free 
 pub first_fault_refuses : (text : List ℕ) (fault : ScriptFault) → IsFirstFault text fault → (p : Program) → Spells text p → ⊥
 first_fault_refuses text _ (f.too_long long) p spells = omega (arith, long, spells.allowed.fits)
 first_fault_refuses text _ (f.zero fits z) p spells = spells.allowed.no_zero (zero_there text _ z)
-first_fault_refuses text _ (f.items is x) p spells = no_program (fault_refuses x) p spells
+first_fault_refuses text _ (f.items is x) p spells = no_program x p spells
 first_fault_refuses text _ (f.links is has x) p spells = links_refuse has.spelled x p spells

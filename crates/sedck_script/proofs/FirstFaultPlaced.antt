@@ -6,12 +6,13 @@ use Rattle.std.proofs.lemmas.List.{drop-drop}
 use Rattle.sedck_text.specs.Text.{one_of}
 use Rattle.sedck_commands.specs.Items.{JumpTo}
 use Rattle.sedck_commands.specs.Items as w
-use Rattle.sedck_commands.specs.Faults.{IsPlaced, IsLabelBehind, IsEmptyExpression}
+use Rattle.sedck_commands.specs.Faults.{IsPlaced, IsOfText, IsLabelBehind, IsEmptyExpression}
 use Rattle.sedck_commands.specs.FirstFaults.{BeginsAt, LabelBeginsAt, EmptyEnds, EmptyPlace, AreAddresses}
 use Rattle.sedck_commands.specs.FirstFaults as o
 use Rattle.sedck_commands.specs.ReadItems.{AddressEmpty, CommandEmpty}
 use Rattle.sedck_commands.specs.ReadItems as r
 use Rattle.sedck_commands.specs.declared.fault.ScriptFault.{ScriptFault}
+use Rattle.sedck_commands.specs.declared.fault.ScriptFault.TheVariants.{OutOfMemory}
 use Rattle.sedck_commands.proofs.TextEnds.{whole_from, byte_at, follows_byte}
 use Rattle.sedck_commands.proofs.UniqueItems.{longest_along}
 use Rattle.sedck_commands.proofs.UniqueAddresses.{place_tail}
@@ -105,3 +106,8 @@ first_fault_placed (f.too_long long) = (refl, long)
 first_fault_placed (f.zero fits z) = (z, fits)
 first_fault_placed (f.items is x) = items_fault_placed x
 first_fault_placed (f.links is has x) = links_placed has.spelled x
+
+-- what is no first fault is that memory ran out
+pub fault_placed : (text : List ℕ) (fault : ScriptFault) → (IsOfText fault → IsFirstFault text fault) → IsPlaced text fault
+fault_placed text OutOfMemory first = tt
+fault_placed text fault first = first_fault_placed (first (λ memory. cc memory))

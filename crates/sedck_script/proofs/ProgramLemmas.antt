@@ -1,16 +1,13 @@
 -- Which programs a text spells, by its items.
-use Rattle.sedck_script.proofs.Common.{◌≡◌, ℕ, zero, suc, ◌<◌, ◌≤◌, true, false, List, [], ◌∷◌, ◌++◌, length, map, get_or, Option, Some, None, Contains, refl, ap, sym, ◌∙◌, subst, inl, inr, arith, Any, false≢true, length-map, Bor, HashMap, Tree, Pattern, Previous, Expression, NoAddress, Label, Command, Program, address_patterns, verb_patterns, patterns, expressions, Known, Item, Written, Closing, Items, Defines, AreLabelsDistinct, LeadsTo, Resolves, done, known, jump, opening, closing, Spells, AreCommands, label_place, HasLabels, commands_among, item_of, item_label, IsLostLabel, has_previous, item_patterns, has_some, WrittenItem, items_one, All, flat_map, take}
+use Rattle.sedck_script.proofs.Common.{◌≡◌, ℕ, zero, suc, ◌<◌, ◌≤◌, true, false, List, [], ◌∷◌, ◌++◌, length, map, get_or, Option, Some, None, Contains, refl, ap, sym, ◌∙◌, subst, inl, inr, arith, false≢true, Bor, HashMap, Tree, Pattern, Previous, Expression, NoAddress, Label, Command, Program, address_patterns, verb_patterns, patterns, expressions, Known, Item, Written, Closing, Items, AreLabelsDistinct, Resolves, done, known, jump, opening, closing, Spells, AreCommands, HasLabels, commands_among, item_of, item_label, has_previous, item_patterns, has_some, WrittenItem, All, flat_map, take}
 use Rattle.std.proofs.Common.{◌≢◌, drop}
 use Rattle.std.specs.Prelude.{slice_get}
-use Rattle.std.proofs.lemmas.List.{get_or-map}
 use Rattle.std.proofs.lemmas.Option.{slice_get-map, slice_get-get_or, slice_get_within, get_or_from_slice_get}
 use Rattle.std.proofs.Math.Seq.{split_at}
 use Rattle.std.proofs.lemmas.List.{get_or-take, length-take-le, map-append}
 use Rattle.std.specs.Option.{option_map}
 use Rattle.sedck_commands.specs.Program.{pattern_expressions}
-use Rattle.sedck_text.specs.Text.{one_of}
-use Rattle.sedck_commands.specs.Faults.{IsLabelBehind, IsUndefinedLabel}
-use Rattle.sedck_commands.specs.ReadItems.{HasNoItems, IsItemAt, EmptyOf}
+use Rattle.sedck_commands.specs.ReadItems.{IsItemAt, EmptyOf}
 use Rattle.sedck_script.proofs.Nesting.{resolves_nests, resolves_length, label_written, labels_once}
 use Rattle.sedck_script.proofs.SortedNames.{Contains-cons_cases, Contains-cons_more}
 use Rattle.sedck_commands.specs.FirstFaults as first
@@ -20,16 +17,17 @@ use Rattle.sedck_script.specs.Private.Resolving.{IsFirstLost, IsKnownLabel}
 use Rattle.sedck_commands.specs.declared.fault.ScriptFault.{ScriptFault}
 use Rattle.sedck_commands.specs.declared.fault.ScriptFault.TheVariants.{NoPreviousExpression}
 use Rattle.sedck_commands.specs.Labels.{AreLabelsOnce}
+use Rattle.sedck_commands.specs.FirstFaults.{ItemsFault}
 use Rattle.sedck_commands.specs.ItemView.{locations_in}
+use Rattle.sedck_commands.proofs.FaultRefuses.{fault_refuses}
 use Rattle.sedck_commands.specs.Locations.{locations_of}
 use Rattle.sedck_commands.specs.declared.items.WrittenCommand.{WrittenCommand}
 use Rattle.sedck_commands.specs.declared.items.WrittenItem.TheVariants as item
-use Rattle.sedck_script.proofs.UniqueCommands.{commands_one}
 
--- a text without items spells no program
-pub no_program : {text : List ℕ} → HasNoItems text → (other : Program) → Spells text other → ⊥
-no_program none other s =
-    none s.items s.spelled (omega (arith, resolves_length s.commands.resolved, s.commands.allowed.count)) (labels_once s.commands.resolved s.commands.labels)
+-- a text whose items have a fault spells no program
+pub no_program : {size : ℕ} {text : List ℕ} {f : ScriptFault} → ItemsFault size [] [] text f → (other : Program) → Spells text other → ⊥
+no_program x other s =
+    fault_refuses x s.items s.spelled (omega (arith, resolves_length s.commands.resolved, s.commands.allowed.count)) (labels_once s.commands.resolved s.commands.labels)
     (resolves_nests s.commands.resolved)
 
 -- ---- Labels
@@ -46,52 +44,10 @@ among_has (Closing ∷ items) name h = elim (Contains-cons_cases Closing items _
   | inr more ↦ among_has items name more
 ]
 
-module _ {S : Type 0} (labels : HashMap (Bor (List ℕ)) ℕ S) where
-  lost_by : (all : List Command) (label : Option (List ℕ)) (target : ℕ) → LeadsTo all label target → IsLostLabel labels label
-      → (name : List ℕ) × (at : ℕ) × (label_place labels name ≡ None) × Defines all name at
-  lost_by all None target h l = absurd l
-  lost_by all (Some name) target h l = (name, target, l, h)
-
-  -- a lost label would be defined by a command
-  lost_at : {all cs : List Command} {blocks : List ℕ} {place : ℕ} {items : List Item} (k : ℕ) (d : Item) → Resolves all blocks place items cs
-      → k < length items → IsLostLabel labels (item_label (get_or items k d))
-      → (name : List ℕ) × (at : ℕ) × (label_place labels name ≡ None) × Defines all name at
-  lost_at k d done lt l = absurd (omega arith)
-  lost_at {all = all} zero d (jump {label = n} t may h r) lt l = lost_by all n t h l
-  lost_at zero d _ lt l = absurd l
-  lost_at (suc k) d (known r) lt l = lost_at k d r (omega arith) l
-  lost_at (suc k) d (jump t may h r) lt l = lost_at k d r (omega arith) l
-  lost_at (suc k) d (opening h r) lt l = lost_at k d r (omega arith) l
-  lost_at (suc k) d (closing h r) lt l = lost_at k d r (omega arith) l
-
-  none_some : {i : ℕ} {o : Option ℕ} → o ≡ None → o ≡ Some i → ⊥
-  none_some e f = absurd (cc (e, f))
-
-  -- where a label is lost, no program is spelled
-  pub no_target : {text : List ℕ} (items : List WrittenItem) → Items text (map item_of items) → HasLabels labels (commands_among (map item_of items))
-      → Any (λ item. IsLostLabel labels (item_label (item_of item))) items
-      → (other : Program) → Spells text other → ⊥
-  no_target items x h any other s =
-      let same : s.items ≡ map item_of items = items_one s.spelled x in
-      let r : Resolves other.commands [] 0 (map item_of items) other.commands = rw same at s.commands.resolved in
-      let lost = lost_at any.0 (item_of any.1) r (omega (arith, any.2, length-map items item_of))
-      (subst (λ i. IsLostLabel labels (item_label i)) (sym (get_or-map item_of items any.0 any.1 (item_of any.1) any.2)) (rw any.3 any.4)) in
-      none_some lost.2 (h.found lost.0 lost.1 (label_written r lost.0 lost.1 lost.3))
-
-  -- a label that the map of the items lacks is defined by none of them
-  pub undefined_label : {text : List ℕ} (items : List Item) (place : ℕ) (name : List ℕ) → Items text items → HasLabels labels (commands_among items)
-      → IsLabelBehind (one_of "bt") text place name → label_place labels name ≡ None → IsUndefinedLabel text place
-  undefined_label items place name x h here none = (
-    name,
-    here,
-    λ others y has.
-        let found = among_has items name (subst (λ t. Contains t (Written NoAddress false (Known (Label name)))) (items_one y x) has) in
-        none_some none (h.found name found.0 found.1),
-  )
-
-  pub distinct : {items : List Item} {cs : List Command} → HasLabels labels (commands_among items) → Resolves cs [] 0 items cs → AreLabelsDistinct cs
-  distinct h r name i j d e =
-      let same : Some i ≡ Some j = sym (h.found name i (label_written r name i d)) ∙ h.found name j (label_written r name j e) in cc same
+distinct : {S : Type 0} (labels : HashMap (Bor (List ℕ)) ℕ S) {items : List Item} {cs : List Command} → HasLabels labels (commands_among items)
+    → Resolves cs [] 0 items cs → AreLabelsDistinct cs
+distinct labels h r name i j d e =
+    let same : Some i ≡ Some j = sym (h.found name i (label_written r name i d)) ∙ h.found name j (label_written r name j e) in cc same
 
 -- ---- Expressions
 
@@ -122,16 +78,6 @@ some_not_empty (t ∷ ts) h e = absurd (cc e)
 none_empty : (ts : List Tree) → has_some ts ≡ false → ts ≡ []
 none_empty [] h = refl
 none_empty (t ∷ ts) h = absurd (false≢true (sym h))
-
--- an empty expression without another one
-pub no_expression : {text : List ℕ} {items : List Item} {cs : List Command} → Items text items → Resolves cs [] 0 items cs
-    → has_previous (item_patterns items) ≡ true → has_some (expressions cs) ≡ false
-    → (other : Program) → Spells text other → ⊥
-no_expression {items = items} {cs = cs} x r h none other s =
-    let same : s.items ≡ items = items_one s.spelled x in
-    let commands : cs ≡ other.commands = commands_one r (rw same at s.commands.resolved) s.commands.labels in
-    let previous : Contains (patterns cs) Previous = previous_contained (patterns cs) (ap has_previous (resolved_patterns r) ∙ h) in
-    s.commands.allowed.expression (rw commands at previous) (rw commands at (none_empty (expressions cs) none))
 
 -- the items are these commands, where each empty expression has another one
 pub are_commands : {S : Type 0} (labels : HashMap (Bor (List ℕ)) ℕ S) {items : List Item} {cs : List Command}
@@ -199,13 +145,13 @@ module _ {S : Type 0} (labels : HashMap (Bor (List ℕ)) ℕ S) (items : List Wr
       subst (LinksFault text (map item_of items) spelled) (sym at.1) (LinksFault.label (map item_of front) (map item_of more)
       (item_of (item.Command x.command)) (ap (map item_of) cut ∙ map-append item_of front (item.Command x.command ∷ more))
       (jump_of (item_of (item.Command x.command)) x.label)
-      (λ d. none_some labels x.lost (h.found x.name d.0 d.1))
+      (λ d. absurd (cc (x.lost, h.found x.name d.0 d.1)))
       (all_known front (λ k d below. let short : k < x.place = omega (arith, below, length-take-le x.place items (omega (arith, within))) in
       subst (λ i. IsKnownLabel labels (item_label (item_of i))) (sym (get_or-take x.place items k d short)) (x.before k d short)))
       (ap (λ l. slice_get l (length (commands_among (map item_of front)))) (sym located ∙ ap locations_in cut) ∙ located_in front x.command more)
       at.2)
 
-pub first_empty : {text : List ℕ} {place : ℕ} (items : List WrittenItem) → EmptyOf text items (Some place) → (spelled : Items text (map item_of items))
+pub first_empty : {text : List ℕ} {place : ℕ} (items : List WrittenItem) → EmptyOf text items place → (spelled : Items text (map item_of items))
     → locations_in items ≡ locations_of (length text) spelled → AreJumpsDefined (map item_of items) (map item_of items)
     → flat_map pattern_expressions (item_patterns (map item_of items)) ≡ [] → LinksFault text (map item_of items) spelled (NoPreviousExpression place)
 first_empty {text} {place} items x spelled located jumps_known none =

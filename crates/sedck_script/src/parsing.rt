@@ -23,8 +23,6 @@ use std::alloc::Global;
 /// Whether the text may be a script's: it isn't too long, and holds no byte 0.
 fn check_text(text: &[u8]) -> Result<(), ScriptFault>
     ensures allowed { OnOk result (IsScriptText text.now) }
-    ensures refused { OnErr result (IsScriptText text.now → ⊥) }
-    ensures placed { IfErr result (λ fault. IsPlaced text.now fault) }
     ensures too_long { TEXT_LIMIT < length text.now → result ≡ Err (ScriptFault.TooLong TEXT_LIMIT) }
     ensures zero { (place : ℕ) → length text.now ≤ TEXT_LIMIT → IsFirstZero text.now place → result ≡ Err (ScriptFault.NulByte place) }
     ensures first { IfErr result (λ fault. IsFirstFault text.now fault) }
@@ -42,8 +40,6 @@ fn check_text(text: &[u8]) -> Result<(), ScriptFault>
 fn checked_items<'a>(alloc: Global, text: &'a [u8]) -> Result<Progress<'a>, ScriptFault>
     ensures allowed { IfOk result (λ progress. IsScriptText text.now) }
     ensures read { IfOk result (λ progress. IsRead text.now progress) }
-    ensures refused { IfErr result (λ fault. IsOfText fault → (other : Program) → Spells text.now other → ⊥) }
-    ensures placed { IfErr result (λ fault. IsPlaced text.now fault) }
     ensures too_long { TEXT_LIMIT < length text.now → result ≡ Err (ScriptFault.TooLong TEXT_LIMIT) }
     ensures zero { (place : ℕ) → length text.now ≤ TEXT_LIMIT → IsFirstZero text.now place → result ≡ Err (ScriptFault.NulByte place) }
     ensures first { IfErr result (λ fault. IsOfText fault → IsFirstFault text.now fault) }
@@ -75,10 +71,8 @@ fn commands<'a>(
 ) -> Result<Vec<Command<'a>>, ScriptFault>
     requires { IsRead text.now progress }
     ensures read { IfOk result (λ commands. AreCommands (map item_of progress.entry.items.items) (map command_of commands.items)) }
-    ensures refused { IfErr result (λ fault. IsOfText fault → (other : Program) → Spells text.now other → ⊥) }
-    ensures placed { IfErr result (λ fault. IsPlaced text.now fault) }
-    ensures first { IfErr result (λ fault. IsOfText fault → (spelled : Items text.now (map item_of progress.entry.items.items))
-        → LinksFault text.now (map item_of progress.entry.items.items) spelled fault) }
+    ensures first { IfErr result (λ fault. IsOfText fault → (read : IsRead text.now progress.entry)
+        → LinksFault text.now (map item_of progress.entry.items.items) read.spelled fault) }
 {
     let Progress {
         items,
@@ -102,8 +96,6 @@ fn script<'a>(
     requires read { IsRead text.now progress }
     ensures spelled { IfOk result (λ script. Spells text.now script) }
     ensures only { IfOk result (λ script. (other : Program) → Spells text.now other → other ≡ script) }
-    ensures refused { IfErr result (λ fault. IsOfText fault → (other : Program) → Spells text.now other → ⊥) }
-    ensures placed { IfErr result (λ fault. IsPlaced text.now fault) }
     ensures first { IfErr result (λ fault. IsOfText fault → IsFirstFault text.now fault) }
 {
     let commands = commands(alloc, text, progress)?;
@@ -116,6 +108,7 @@ fn script<'a>(
 ///
 /// A text spells one script at most (POSIX.1-2024 XCU sed). It is read in time linear in it, but for the sorting of at
 /// most 4,095 names. Fault 1 is reported first, then 2, then what is met from left to right, then 17, 15 and 21.
+#[tactic(auto, using(crate::proofs::FirstFaultPlaced::fault_placed))]
 pub fn parse<'a>(alloc: Global, text: &'a [u8]) -> Result<Script<'a>, ScriptFault>
     ensures spelled { IfOk result (λ script. Spells text.now script) }
     ensures only { IfOk result (λ script. (other : Program) → Spells text.now other → other ≡ script) }
@@ -140,6 +133,7 @@ pub struct Located<'a> {
 /// The script that the text spells, as `parse` reads it, with the location of each command.
 ///
 /// The locations take time linear in the text. The faults are those of `parse`.
+#[tactic(auto, using(crate::proofs::FirstFaultPlaced::fault_placed))]
 pub fn locate<'a>(alloc: Global, text: &'a [u8]) -> Result<Located<'a>, ScriptFault>
     ensures spelled { IfOk result (λ located. Spells text.now located.script) }
     ensures only { IfOk result (λ located. (other : Program) → Spells text.now other → other ≡ located.script) }

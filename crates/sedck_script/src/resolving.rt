@@ -1,14 +1,13 @@
 //! From items to commands: the places that branches, tests and blocks lead to.
 
-ghost use Rattle.std.specs.Prelude.{◌≡◌, ◌⊎◌, ◌+◌, drop, ℕ, List, [], IfNone, IfSome, Some, None, length, map, All, Any, IfOk, IfErr, OnOk, OnErr, option_copied};
+ghost use Rattle.std.specs.Prelude.{◌≡◌, ◌+◌, drop, ℕ, List, [], IfNone, IfSome, Some, None, length, map, All, IfOk, IfErr, OnOk, option_copied};
 ghost use Rattle.sedck_script.specs.View as view;
-ghost use Rattle.sedck_text.specs.Text.{one_of};
-ghost use Rattle.sedck_commands.specs.Faults.{IsLabelBehind, IsOfText};
+ghost use Rattle.sedck_commands.specs.Faults.{IsOfText};
 ghost use Rattle.sedck_script.specs.Resolution.{Resolves};
 ghost use Rattle.sedck_commands.specs.Labels.{HasLabels, label_place, commands_among};
-ghost use Rattle.sedck_script.specs.Private.Resolving.{IsFirstLost, IsUnknownLabel, TakesTarget, IsKnownLabel, IsLostLabel, label_of, item_label, target_of, resolved_command};
+ghost use Rattle.sedck_script.specs.Private.Resolving.{IsFirstLost, TakesTarget, IsKnownLabel, label_of, item_label, target_of, resolved_command};
 ghost use Rattle.sedck_commands.specs.ItemView.{written_verb, item_of};
-ghost use Rattle.sedck_commands.specs.ReadItems.{IsWrittenAt, IsItemAt};
+ghost use Rattle.sedck_commands.specs.ReadItems.{IsItemAt};
 ghost use Rattle.sedck_commands.specs.Blocks.{Nests, verb_turn};
 ghost use Rattle.sedck_commands.specs.FirstFaults.{LabelBeginsAt};
 ghost use Rattle.sedck_commands.specs.declared.items.WrittenCommand.{WrittenCommand};
@@ -71,7 +70,6 @@ fn block_target(verb: &Written, targets: &mut Vec<usize>, end: usize) -> usize
 fn label_of<'a>(item: &WrittenItem<'a>) -> Option<(&'a [u8], usize)>
     ensures none { IfNone result (item_label (item_of item.now) ≡ None) }
     ensures some { IfSome result (λ x. item_label (item_of item.now) ≡ Some x.0.now) }
-    ensures label { IfSome result (λ x. (text : List ℕ) → IsItemAt text item.now → IsLabelBehind (one_of "bt") text x.1 x.0.now) }
     ensures command { IfSome result (λ x. (command : WrittenCommand) × (item.now ≡ WrittenItem.Command command) × ((text : List ℕ) → IsItemAt text item.now
         → LabelBeginsAt (length text) (drop (command.location.verb + 1) text) x.0.now x.1)) }
 {
@@ -87,8 +85,6 @@ fn label_of<'a>(item: &WrittenItem<'a>) -> Option<(&'a [u8], usize)>
 /// Whether the label of a branch or a test is known.
 fn check_target(item: &WrittenItem, labels: &IndexMap<&[u8], usize>) -> Result<(), ScriptFault>
     ensures known { OnOk result (IsKnownLabel labels.now (item_label (item_of item.now))) }
-    ensures lost { OnErr result (IsLostLabel labels.now (item_label (item_of item.now))) }
-    ensures placed { IfErr result (λ fault. (text : List ℕ) → IsItemAt text item.now → IsUnknownLabel labels.now text fault) }
     ensures first { IfErr result (λ fault. (command : WrittenCommand) × (name : List ℕ) × (item.now ≡ WrittenItem.Command command)
         × (item_label (item_of item.now) ≡ Some name) × (label_place labels.now name ≡ None) × ((text : List ℕ) → IsItemAt text item.now
         → (offset : ℕ) × (fault ≡ ScriptFault.UnknownLabel offset) × LabelBeginsAt (length text) (drop (command.location.verb + 1) text) name offset)) }
@@ -104,8 +100,6 @@ fn check_target(item: &WrittenItem, labels: &IndexMap<&[u8], usize>) -> Result<(
 /// Whether each label is known, and else the first that isn't.
 fn check_targets(items: &[WrittenItem], labels: &IndexMap<&[u8], usize>) -> Result<(), ScriptFault>
     ensures known { OnOk result (All (λ item. IsKnownLabel labels.now (item_label (item_of item))) items.now) }
-    ensures lost { OnErr result (Any (λ item. IsLostLabel labels.now (item_label (item_of item))) items.now) }
-    ensures placed { IfErr result (λ fault. (text : List ℕ) → All (IsItemAt text) items.now → IsUnknownLabel labels.now text fault) }
     ensures first { IfErr result (λ fault. IsFirstLost labels.now items.now fault) }
 {
     for item in items {
@@ -125,9 +119,6 @@ pub fn linked<'a>(
     requires nests { Nests (map item_of items.items) 0 }
     requires end { end ≡ length (commands_among (map item_of items.items)) }
     ensures resolved { IfOk result (λ v. Resolves (map view.command_of v.items) [] 0 (map item_of items.entry.items) (map view.command_of v.items)) }
-    ensures lost { IfErr result (λ fault. IsOfText fault → Any (λ item. IsLostLabel labels.now (item_label (item_of item))) items.entry.items) }
-    ensures placed { IfErr result (λ fault. (text : List ℕ) → All (IsItemAt text) items.entry.items → (fault ≡ ScriptFault.OutOfMemory)
-        ⊎ IsUnknownLabel labels.now text fault) }
     ensures known { IfOk result (λ v. All (λ item. IsKnownLabel labels.now (item_label (item_of item))) items.entry.items) }
     ensures first { IfErr result (λ fault. IsOfText fault → IsFirstLost labels.now items.entry.items fault) }
 {

@@ -1,7 +1,7 @@
 -- What the byte of a verb says of the rest of its command.
-use Rattle.std.specs.Prelude.{◌≡◌, ℕ, Bool, if◌then◌else◌, ◌∷◌}
+use Rattle.std.specs.Prelude.{◌≡◌, ℕ, ◌<◌, Bool, if◌then◌else◌, ◌∷◌}
 use Rattle.sedck_text.specs.Bytes.{ascii}
-use Rattle.sedck_text.specs.Cursors.{unread, Follows}
+use Rattle.sedck_text.specs.Cursors.{unread}
 use Rattle.sedck_text.specs.declared.cursor.Cursor.{Cursor}
 use Rattle.sedck_commands.specs.Items.{Simple}
 use Rattle.sedck_commands.specs.View.{verb_of}
@@ -41,4 +41,4 @@ pub record IsVerbAt (begins : Cursor) (taken : Form) (behind : Cursor) : Type 0 
   pub cut : unread begins ≡ byte ∷ unread behind
   pub is : IsForm byte taken
   pub whole : behind.whole ≡ begins.whole
-  pub follows : Follows behind byte
+  pub after : 0 < behind.at

@@ -6,10 +6,8 @@ use Rattle.sedck_text.specs.Cursors.{unread}
 use Rattle.sedck_text.specs.declared.cursor.Cursor.{Cursor}
 use Rattle.sedck_commands.specs.Parts.{DelimitedExpression, ExpressionText}
 use Rattle.sedck_commands.specs.Private.Alike.{IsPattern}
-use Rattle.sedck_commands.specs.Faults.{IsPlaced}
 use Rattle.sedck_commands.specs.FirstFaults.{CutFault}
 use Rattle.sedck_commands.specs.declared.fault.ScriptFault.{ScriptFault}
-use Rattle.sedck_commands.specs.declared.fault.ScriptFault.TheVariants as fault
 use Rattle.sedck_commands.specs.declared.delimited.Piece.{Piece}
 use Rattle.sedck_commands.specs.declared.delimited.Piece.TheVariants as piece
 
@@ -25,9 +23,8 @@ abbrev pub PatternText : ℕ → List ℕ → Pattern → List ℕ → Type 0
 PatternText delimiter text pattern rest = (expression : List ℕ) × ExpressionText delimiter text expression rest × IsPattern expression pattern
 
 -- These bytes of a delimited part, an expression or a list, have been read, and rest is left.
-pub record IsReadUpTo (Delimited : List ℕ → List ℕ → List ℕ → Type 0) (text bytes rest : List ℕ) : Type 0 where
-  pub sound : (more after : List ℕ) → Delimited rest more after → Delimited text (bytes ++ more) after
-  pub only : (all after : List ℕ) → Delimited text all after → (more : List ℕ) × Delimited rest more after
+abbrev pub IsReadUpTo : (List ℕ → List ℕ → List ℕ → Type 0) → List ℕ → List ℕ → List ℕ → Type 0
+IsReadUpTo Delimited text bytes rest = (more after : List ℕ) → Delimited rest more after → Delimited text (bytes ++ more) after
 
 -- The bytes of an expression between the cursors have been read, without an escaped delimiter. What is wrong from there on is wrong with the expression.
 pub record IsWrittenUpTo (delimiter : ℕ) (text rest : Cursor) : Type 0 where
@@ -49,8 +46,3 @@ pub data IsFirstEscape (delimiter : ℕ) (whole text : List ℕ) : List ℕ → 
 -- what a backslash and this byte mean in a list of `y`
 abbrev pub list_escape : ℕ → Option ℕ
 list_escape b = if b == backslash then Some backslash else if b == 110 then Some newline else None
-
--- what is known of the fault of a part: one without an end is reported at what opens the part
-abbrev pub IsPartPlaced : ℕ → List ℕ → ScriptFault → Type 0
-IsPartPlaced opening text (fault.Unterminated place) = place ≡ opening
-IsPartPlaced opening text other = IsPlaced text other

@@ -2,11 +2,9 @@
 use Rattle.std.specs.Prelude.{◌≡◌, ℕ, ◌+◌, ◌<◌, length, drop, get_or, slice_get, All, if◌then◌else◌, List, [], ◌∷◌, ◌++◌, Option, Some, None, unwrap_or}
 use Rattle.std.specs.Borrow.{Bor}
 use Rattle.std.specs.HashMap.{HashMap}
-use Rattle.sedck_text.specs.Text.{one_of}
 use Rattle.sedck_commands.specs.Program.{Verb, Branch, Test, Block, Command}
 use Rattle.sedck_commands.specs.Items.{WrittenVerb, Known, JumpTo, Opening, Item, Written, Closing}
 use Rattle.sedck_commands.specs.View.{address_of}
-use Rattle.sedck_commands.specs.Faults.{IsLabelBehind}
 use Rattle.sedck_commands.specs.Labels.{label_place}
 use Rattle.sedck_commands.specs.FirstFaults.{LabelBeginsAt}
 use Rattle.sedck_commands.specs.Blocks.{Turn, Opens, Closes, Stays, Jumps}
@@ -22,11 +20,6 @@ use Rattle.sedck_commands.specs.declared.items.WrittenItem.TheVariants as item
 abbrev pub IsKnownLabel : {S : Type 0} → HashMap (Bor (List ℕ)) ℕ S → Option (List ℕ) → Type 0
 IsKnownLabel labels None = Unit {0}
 IsKnownLabel labels (Some name) = (i : ℕ) × (label_place labels name ≡ Some i)
-
--- a label is one that the map lacks
-abbrev pub IsLostLabel : {S : Type 0} → HashMap (Bor (List ℕ)) ℕ S → Option (List ℕ) → Type 0
-IsLostLabel labels None = ⊥
-IsLostLabel labels (Some name) = label_place labels name ≡ None
 
 -- the label to which a verb leads, if it leads to one
 abbrev pub label_of : WrittenVerb → Option (List ℕ)
@@ -59,11 +52,6 @@ TakesTarget Opens old new target = (old ≡ [] → ⊥) → old ≡ new ++ targe
 TakesTarget Closes old new target = new ≡ old
 TakesTarget Stays old new target = new ≡ old
 TakesTarget (Jumps braced) old new target = new ≡ old
-
--- the fault is a label of the text that the map lacks
-abbrev pub IsUnknownLabel : {S : Type 0} → HashMap (Bor (List ℕ)) ℕ S → List ℕ → ScriptFault → Type 0
-IsUnknownLabel labels text fault =
-    (place : ℕ) × (name : List ℕ) × (fault ≡ UnknownLabel place) × IsLabelBehind (one_of "bt") text place name × (label_place labels name ≡ None)
 
 -- the first of the items whose label the map lacks is this command at this place, and the fault at its label
 pub record IsFirstLost {S : Type 0} (labels : HashMap (Bor (List ℕ)) ℕ S) (items : List WrittenItem) (fault : ScriptFault) : Type 0 where

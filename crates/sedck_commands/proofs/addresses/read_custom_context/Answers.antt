@@ -1,13 +1,8 @@
 use Rattle.sedck_commands.proofs.ResultLemmas.{if_err_more}
-use Rattle.sedck_commands.proofs.AddressLemmas.{custom_delimiter}
 use Rattle.sedck_commands.proofs.Common.{ap, ◌∙◌, sym, ◌∷◌, length, unread, subst, refl}
 use Rattle.sedck_commands.specs.FirstFaults as first
 use Rattle.sedck_commands.specs.FirstFaults.{PatternFault}
 use Rattle.sedck_commands.proofs.addresses.read_custom_context.Goals as goal
-
-pub returns-clause-refused : goal.returns-clause-refused
-returns-clause-refused c = if_err_more c.read_context.result
-    (λ fault h memory p rest x. h memory p rest (custom_delimiter c.in-Some.ensures.cut x).1) c.read_context.ensures.refused
 
 pub returns-in_default-clause-first : goal.returns-in_default-clause-first
 returns-in_default-clause-first c = λ memory begins e at. first.undelimited e (rw c.in_default.ensures.cut tt) at

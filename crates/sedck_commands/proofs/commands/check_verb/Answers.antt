@@ -1,34 +1,9 @@
-use Rattle.sedck_commands.proofs.Common.{◌≡◌, ◌∷◌, Some, ap, sym, ◌∙◌, arith, not, subst, is_in, verb_bytes, IsEmptyOr, unread, unread_length, both_ways, eqb-true, eq-eqb, address_of}
-use Rattle.sedck_commands.proofs.CursorPlaces.{stands_here}
+use Rattle.sedck_commands.proofs.Common.{◌≡◌, ◌∷◌, ap, sym, ◌∙◌, arith, not, subst, is_in, verb_bytes, IsEmptyOr, unread, unread_length, both_ways, eqb-true, eq-eqb}
 use Rattle.sedck_commands.proofs.FormLemmas.{form_known}
 use Rattle.sedck_commands.proofs.FaultLemmas3.{no_verb_fault}
-use Rattle.sedck_commands.proofs.PlaceLemmas.{ends_here, no_verb_placed}
-use Rattle.sedck_commands.proofs.VerbBytes.{byte_of, not_taken}
 use Rattle.sedck_commands.specs.FirstFaults as fault
 use Rattle.sedck_commands.proofs.commands.check_verb.Goals as goal
 use Rattle.sedck_commands.proofs.commands.check_verb.Goals.{else-opens_block-via-then-opens_block+else-reader-ge-DEPTH_LIMIT, else-opens_block-via-else-opens_block}
-
-pub returns-in_default-clause-placed : goal.returns-in_default-clause-placed
-returns-in_default-clause-placed c = rw c.offset-place.ensures (c.requires.due, ends_here c.args.reader.cursor c.in_default.ensures.cut)
-
-pub returns-in_default-form_of-clause-placed : goal.returns-in_default-form_of-clause-placed
-returns-in_default-form_of-clause-placed c =
-    no_verb_placed c.args.reader.cursor c.no_verb.ensures c.offset-place.ensures c.requires.due c.in-Some.ensures.cut c.in_default-form_of.ensures.none
-
-pub returns-then-not-takes-clause-placed : goal.returns-then-not-takes-clause-placed
-returns-then-not-takes-clause-placed c = rw c.offset-place.ensures (
-  c.in-Some.byte,
-  stands_here c.args.reader.cursor c.in-Some.ensures.cut,
-  not_taken c.in-Some.byte (address_of c.args.address.now) c.args.negated
-      (sym (c.takes.ensures c.in-Some.byte c.in-Some-form_of.ensures.some) ∙ c.if-not-takes.true),
-)
-
-pub returns-then-reader-ge-COMMAND_LIMIT-clause-placed : goal.returns-then-reader-ge-COMMAND_LIMIT-clause-placed
-returns-then-reader-ge-COMMAND_LIMIT-clause-placed c = rw c.offset-place.ensures (
-  c.in-Some.byte,
-  stands_here c.args.reader.cursor c.in-Some.ensures.cut,
-  form_known c.in-Some.byte c.in-Some-form_of.form c.in-Some-form_of.ensures.some,
-)
 
 pub returns-clause-begins : goal.returns-clause-begins
 returns-clause-begins c = record {
@@ -36,25 +11,8 @@ returns-clause-begins c = record {
   cut = c.in-Some.ensures.cut;
   is = c.in-Some-form_of.ensures.some;
   whole = c.in-Some.ensures.ahead.0.whole;
-  follows = c.in-Some.ensures.ahead.1;
+  after = c.in-Some.ensures.ahead.1.0;
 }
-
-pub returns-then-reader-ge-DEPTH_LIMIT-clause-placed : goal.returns-then-reader-ge-DEPTH_LIMIT-clause-placed
-returns-then-reader-ge-DEPTH_LIMIT-clause-placed c =
-    let brace : c.in-Some.byte ≡ 123 = eqb-true c.in-Some.byte 123 (sym (c.opens_block.ensures c.in-Some.byte c.in-Some-form_of.ensures.some) ∙ c.if-opens_block.true) in
-    rw c.offset-place.ensures (stands_here c.args.reader.cursor c.in-Some.ensures.cut ∙ ap Some brace)
-
-pub returns-clause-allowed : goal.returns-clause-allowed
-returns-clause-allowed c = λ verb rest x.
-    let byte = byte_of c.in-Some.ensures.cut x in (
-      byte.takes_so _ _ (sym (c.takes.ensures c.in-Some.byte c.in-Some-form_of.ensures.some) ∙ c.if-not-takes.false),
-      λ e. elim c.else-opens_block.branch [
-        | else-opens_block-via-then-opens_block+else-reader-ge-DEPTH_LIMIT w ↦ omega arith
-        | else-opens_block-via-else-opens_block w ↦ absurd (both_ways _
-            (sym (c.opens_block.ensures c.in-Some.byte c.in-Some-form_of.ensures.some) ∙ w.if-opens_block.false) (eq-eqb c.in-Some.byte 123 (byte.opening e)))
-      ],
-      omega arith,
-    )
 
 pub returns-in_default-clause-first : goal.returns-in_default-clause-first
 returns-in_default-clause-first c = rw c.offset-place.ensures

@@ -1,29 +1,19 @@
-use Rattle.sedck_commands.proofs.Common.{◌≡◌, ◌∷◌, sym, ◌∙◌, subst, length, unread, VerbText, IsPlaced, address_of, IsWrittenAt}
+use Rattle.sedck_commands.proofs.Common.{◌≡◌, ◌∷◌, sym, ◌∙◌, subst, length, unread, VerbText, address_of}
 use Rattle.sedck_commands.specs.Private.VerbReading.{HasLabel}
-use Rattle.sedck_commands.proofs.ResultLemmas.{if_err_from, if_err_same}
+use Rattle.sedck_commands.proofs.ResultLemmas.{if_err_from}
 use Rattle.sedck_commands.proofs.FaultLemmas3.{begins_there, verb_fault_at, jump_in}
+use Rattle.sedck_commands.proofs.VerbBytes.{byte_of}
 use Rattle.sedck_commands.specs.FirstFaults as fault
 use Rattle.sedck_commands.proofs.commands.read_allowed_verb.Goals as goal
 
 pub read_verb-requires : goal.read_verb-requires
-read_verb-requires c = let at = c.in_ok-form.ensures.begins in (at.byte, at.is, at.follows)
-
-pub returns-in_err-verb-clause-placed : goal.returns-in_err-verb-clause-placed
-returns-in_err-verb-clause-placed c = if_err_same IsPlaced c.from_residual-in_err-verb.result _ c.from_residual-in_err-verb.ensures.1
-    c.in_ok-form.ensures.begins.whole c.in_err-verb.ensures.placed
+read_verb-requires c = let at = c.in_ok-form.ensures.begins in (at.byte, at.is, at.after)
 
 read : {text behind rest : _} {b : _} {verb : _} → text ≡ b ∷ behind → VerbText (b ∷ behind) verb rest → VerbText text verb rest
 read {rest = rest} {verb = verb} e x = subst (λ t. VerbText t verb rest) (sym e) x
 
-pub returns-in_err-check_brace-clause-placed : goal.returns-in_err-check_brace-clause-placed
-returns-in_err-check_brace-clause-placed c = if_err_from _ c.from_residual-in_err-check_brace.result _ c.from_residual-in_err-check_brace.ensures.1
-    (c.in_err-check_brace.ensures.placed c.args.reader.cursor.whole.now (rw c.in_ok-form.ensures.begins.whole at c.in_ok-verb.ensures.label))
-
 pub returns-clause-read : goal.returns-clause-read
 returns-clause-read c = let at = c.in_ok-form.ensures.begins in read at.cut (c.in_ok-verb.ensures.read at.byte at.is)
-
-pub returns-clause-label : goal.returns-clause-label
-returns-clause-label c = subst (λ w. IsWrittenAt w.now c.in_ok-verb.verb) c.in_ok-form.ensures.begins.whole c.in_ok-verb.ensures.label
 
 pub returns-clause-jump : goal.returns-clause-jump
 returns-clause-jump c =
@@ -32,17 +22,17 @@ returns-clause-jump c =
 pub returns-clause-taken : goal.returns-clause-taken
 returns-clause-taken c =
     let at = c.in_ok-form.ensures.begins in
-    (c.in_ok-form.ensures.allowed _ _ (read at.cut (c.in_ok-verb.ensures.read at.byte at.is))).0
+    let may = c.in_ok-form.ensures.may in
+    (byte_of may.cut (read at.cut (c.in_ok-verb.ensures.read at.byte at.is))).takes_so _ _ may.taken
 
 pub returns-clause-shallow : goal.returns-clause-shallow
-returns-clause-shallow c =
+returns-clause-shallow c = λ opens.
     let at = c.in_ok-form.ensures.begins in
-    (c.in_ok-form.ensures.allowed _ _ (read at.cut (c.in_ok-verb.ensures.read at.byte at.is))).1
+    let may = c.in_ok-form.ensures.may in
+    may.shallow ((byte_of may.cut (read at.cut (c.in_ok-verb.ensures.read at.byte at.is))).opening opens)
 
 pub returns-clause-few : goal.returns-clause-few
-returns-clause-few c =
-    let at = c.in_ok-form.ensures.begins in
-    (c.in_ok-form.ensures.allowed _ _ (read at.cut (c.in_ok-verb.ensures.read at.byte at.is))).2
+returns-clause-few c = c.in_ok-form.ensures.may.few
 
 pub returns-in_err-form-clause-first : goal.returns-in_err-form-clause-first
 returns-in_err-form-clause-first c =

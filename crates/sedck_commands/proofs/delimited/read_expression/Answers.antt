@@ -1,28 +1,13 @@
-use Rattle.sedck_commands.proofs.Common.{◌≡◌, [], ◌∷◌, ◌++◌, ◌∙◌, ap, sym, length, unread, IsPartPlaced, as_written}
-use Rattle.sedck_commands.specs.Faults.{IsOfText}
+use Rattle.sedck_commands.proofs.Common.{◌≡◌, [], ◌∷◌, ◌++◌, ◌∙◌, ap, sym, unread, as_written}
 use Rattle.sedck_commands.specs.FirstFaults.{CutFault}
-use Rattle.sedck_commands.proofs.ResultLemmas.{if_err_each, if_err_same, if_err_from}
-use Rattle.sedck_commands.proofs.UniqueVerbs.{no_backslash}
-use Rattle.sedck_commands.proofs.PieceLemmas.{expression_byte, expression_pair, expression_end, expression_stuck, expression_broken, written_none, written_more, written_between}
+use Rattle.sedck_commands.proofs.ResultLemmas.{if_err_from}
+use Rattle.sedck_commands.proofs.PieceLemmas.{expression_byte, expression_pair, expression_end, written_more, written_between}
 use Rattle.sedck_commands.proofs.FaultLemmas1.{piece_in_same}
 use Rattle.sedck_commands.proofs.delimited.read_expression.Goals as goal
 
-pub returns-in_err-piece-clause-refused : goal.returns-in_err-piece-clause-refused
-returns-in_err-piece-clause-refused c = if_err_each _ c.from_residual.result
-    (λ fault memory. expression_stuck c.pieces.invariant.passed c.in_err-piece.ensures.refused)
-
-pub returns-in_err-piece-clause-placed : goal.returns-in_err-piece-clause-placed
-returns-in_err-piece-clause-placed c = if_err_same (IsPartPlaced c.args.opening) c.from_residual.result _ c.from_residual.ensures.1
-    c.pieces.invariant.same c.in_err-piece.ensures.placed
-
-pub returns-then-b-eq10-clause-refused : goal.returns-then-b-eq10-clause-refused
-returns-then-b-eq10-clause-refused c = λ memory. expression_broken (no_backslash c.requires.delimiter) c.pieces.invariant.passed
-    (rw c.in-Pair.is at c.in_ok-piece.ensures.read) c.if-b-eq10.true
-
 pub returns-in_err-piece-clause-first : goal.returns-in_err-piece-clause-first
 returns-in_err-piece-clause-first c =
-    if_err_from (λ fault. IsOfText fault → CutFault (length c.args.text.whole.now) c.args.opening c.args.delimiter (unread c.args.text) fault)
-    c.from_residual.result _ c.from_residual.ensures.1
+    if_err_from _ c.from_residual.result _ c.from_residual.ensures.1
     (λ memory. c.pieces.invariant.onward _ _ _ (CutFault.piece (piece_in_same c.pieces.invariant.same c.in_err-piece.ensures.first)))
 
 pub returns-then-b-eq10-clause-first : goal.returns-then-b-eq10-clause-first
@@ -30,25 +15,22 @@ returns-then-b-eq10-clause-first c = λ memory.
     let piece = rw c.in-Pair.is at c.in_ok-piece.ensures.read in
     c.pieces.invariant.onward _ _ _ (CutFault.line (piece.0 ∙ ap (λ b. 92 ∷ b ∷ unread c.in_ok-piece.behind) c.if-b-eq10.true))
 
-pub pieces-init : goal.pieces-init
-pieces-init c = written_none c.args.text
-
 pub pieces-preserved-in-Byte : goal.pieces-preserved-in-Byte
 pieces-preserved-in-Byte c =
     let piece = rw c.in-Byte.is at c.in_ok-piece.ensures.read in
-    written_more (c.in-Byte.field-0 ∷ []) c.in_ok-piece.ensures.same piece.0 (expression_byte (no_backslash c.requires.delimiter) piece)
+    written_more (c.in-Byte.field-0 ∷ []) c.in_ok-piece.ensures.same piece.0 (expression_byte piece)
     (λ size opening fault wrong. CutFault.byte piece.0 piece.1 piece.2 piece.3 wrong) c.pieces.invariant
 
 pub pieces-preserved : goal.pieces-preserved
 pieces-preserved c =
     let piece = rw c.in-Pair.is at c.in_ok-piece.ensures.read in
-    written_more (92 ∷ c.in-Pair.b ∷ []) c.in_ok-piece.ensures.same piece.0 (expression_pair (no_backslash c.requires.delimiter) c.if-b-eq10.false piece)
+    written_more (92 ∷ c.in-Pair.b ∷ []) c.in_ok-piece.ensures.same piece.0 (expression_pair c.if-b-eq10.false piece)
     (λ size opening fault wrong. CutFault.pair piece.0 piece.1 c.if-b-eq10.false wrong) c.pieces.invariant
 
 pub returns-in-End-clause-read : goal.returns-in-End-clause-read
 returns-in-End-clause-read c =
     let between = written_between c.pieces.invariant c.offset.ensures c.offset-in-End.ensures c.unread.ensures in
-    rw (← between.2.2) at (expression_end between.2.3 (rw c.in-End.is at c.in_ok-piece.ensures.read))
+    rw (← between.2.2) at (expression_end between.2.0 between.2.3 (rw c.in-End.is at c.in_ok-piece.ensures.read))
 
 pub returns-in-End-clause-escape : goal.returns-in-End-clause-escape
 returns-in-End-clause-escape c =

@@ -1,29 +1,14 @@
-use Rattle.sedck_commands.proofs.Common.{inr, ap, sym, ◌∙◌, both_ways, IsTrue, length, cow_slice_items, unread, is_misread}
-use Rattle.sedck_commands.specs.Faults.{IsOfText}
+use Rattle.sedck_commands.proofs.Common.{ap, sym, ◌∙◌, both_ways, IsTrue, cow_slice_items, is_misread}
 use Rattle.sedck_commands.specs.FirstFaults.{ExpressionTextFault}
 use Rattle.sedck_commands.proofs.ResultLemmas.{if_err_from}
-use Rattle.sedck_commands.proofs.UniqueVerbs.{no_backslash}
-use Rattle.sedck_commands.proofs.EscapeLemmas.{written_expression, no_written_expression, escape_place}
+use Rattle.sedck_commands.proofs.EscapeLemmas.{written_expression}
 use Rattle.sedck_commands.proofs.FaultLemmas1.{misread_fault}
 use Rattle.sedck_commands.proofs.delimited.read_expression_text.Goals as goal
 use Rattle.sedck_commands.proofs.delimited.read_expression_text.Goals.{in-Some+else-is_misread, in_default}
 
-pub returns-then-is_misread-clause-refused : goal.returns-then-is_misread-clause-refused
-returns-then-is_misread-clause-refused c = λ memory expression rest.
-    let misread : IsTrue (is_misread c.args.delimiter (cow_slice_items c.in_ok-bytes.bytes)) =
-    ap (is_misread c.args.delimiter) (sym c.as_slice.ensures.value) ∙ sym c.is_misread.ensures ∙ c.if-is_misread.true in
-    no_written_expression (no_backslash c.requires.delimiter) c.in_ok-bytes.ensures.read c.in_ok-bytes.ensures.escape c.in-Some.place c.in-Some.is misread
-
-pub returns-then-is_misread-clause-placed : goal.returns-then-is_misread-clause-placed
-returns-then-is_misread-clause-placed c =
-    let misread : IsTrue (is_misread c.args.delimiter (cow_slice_items c.in_ok-bytes.bytes)) =
-    ap (is_misread c.args.delimiter) (sym c.as_slice.ensures.value) ∙ sym c.is_misread.ensures ∙ c.if-is_misread.true in
-    inr (escape_place c.args.text c.requires.opened c.in_ok-bytes.ensures.read c.in_ok-bytes.ensures.escape c.in-Some.place c.in-Some.is misread)
-
 pub returns-in_err-bytes-clause-first : goal.returns-in_err-bytes-clause-first
 returns-in_err-bytes-clause-first c =
-    if_err_from (λ fault. IsOfText fault → ExpressionTextFault (length c.args.text.whole.now) c.args.opening c.args.delimiter (unread c.args.text) fault)
-    c.from_residual.result _ c.from_residual.ensures.1 (λ memory. ExpressionTextFault.cut (c.in_err-bytes.ensures.first memory))
+    if_err_from _ c.from_residual.result _ c.from_residual.ensures.1 (λ memory. ExpressionTextFault.cut (c.in_err-bytes.ensures.first memory))
 
 pub returns-then-is_misread-clause-first : goal.returns-then-is_misread-clause-first
 returns-then-is_misread-clause-first c = λ memory.

@@ -1,67 +1,44 @@
-use Rattle.sedck_commands.proofs.Common.{◌≡◌, ◌∙◌, ◌∷◌, ◌+◌, None, inl, refl, ap, sym, length, unread, unread_length, IsPartPlaced, list_escape}
-use Rattle.sedck_commands.specs.Faults.{IsOfText}
+use Rattle.sedck_commands.proofs.Common.{◌≡◌, [], ◌∙◌, ◌∷◌, ◌+◌, refl, ap, sym, length, unread, unread_length, DelimitedList}
 use Rattle.sedck_commands.specs.FirstFaults.{ListFault}
-use Rattle.sedck_commands.proofs.CursorPlaces.{stands_here}
-use Rattle.sedck_commands.proofs.ResultLemmas.{if_err_each, if_err_same, if_err_from}
-use Rattle.sedck_commands.proofs.UniqueVerbs.{no_backslash}
-use Rattle.sedck_commands.proofs.PieceLemmas.{piece_more, list_byte, list_escaped, list_pair, list_end, list_stuck, list_broken}
+use Rattle.sedck_commands.proofs.ResultLemmas.{if_err_from}
+use Rattle.sedck_commands.proofs.PieceLemmas.{piece_more, list_pair, list_end}
+use Rattle.sedck_commands.specs.Parts as p
 use Rattle.sedck_commands.proofs.FaultLemmas1.{piece_in_same, list_meant, list_meaningless}
 use Rattle.sedck_commands.proofs.delimited.read_list.Goals as goal
 
-pub returns-in_err-piece-clause-refused : goal.returns-in_err-piece-clause-refused
-returns-in_err-piece-clause-refused c = if_err_each _ c.from_residual.result
-    (λ fault memory. list_stuck (no_backslash c.requires.delimiter) c.loop-bytes.invariant.1 c.in_err-piece.ensures.refused)
-
-pub returns-in_err-piece-clause-placed : goal.returns-in_err-piece-clause-placed
-returns-in_err-piece-clause-placed c = if_err_same (IsPartPlaced c.args.opening) c.from_residual.result _ c.from_residual.ensures.1
-    c.loop-bytes.invariant.0 c.in_err-piece.ensures.placed
-
 pub returns-in-End-clause-read : goal.returns-in-End-clause-read
-returns-in-End-clause-read c = list_end c.loop-bytes.invariant.1 (rw c.in-End.is at c.in_ok-piece.ensures.read)
-
-pub returns-then-b-eq10-clause-refused : goal.returns-then-b-eq10-clause-refused
-returns-then-b-eq10-clause-refused c = λ memory. list_broken (no_backslash c.requires.delimiter) c.loop-bytes.invariant.1
-    (rw c.in-Pair.is at c.in_ok-piece.ensures.read) (ap list_escape c.if-b-eq10.true)
-
-pub returns-in_default-clause-refused : goal.returns-in_default-clause-refused
-returns-in_default-clause-refused c = λ memory.
-    let none : list_escape c.in-Pair.b ≡ None = cc (c.list_escape.ensures, c.in_default.is) in
-    list_broken (no_backslash c.requires.delimiter) c.loop-bytes.invariant.1 (rw c.in-Pair.is at c.in_ok-piece.ensures.read) none
+returns-in-End-clause-read c = list_end c.loop-bytes.bytes.items c.loop-bytes.invariant.1 (rw c.in-End.is at c.in_ok-piece.ensures.read)
 
 pub loop-bytes-preserved-in_ok-push-in-Byte : goal.loop-bytes-preserved-in_ok-push-in-Byte
-loop-bytes-preserved-in_ok-push-in-Byte c = (
-  c.in_ok-piece.ensures.same ∙ c.loop-bytes.invariant.0,
-  piece_more _ c.in_ok-push-in-Byte.ensures.items c.loop-bytes.invariant.1
-      (list_byte (no_backslash c.requires.delimiter) (rw c.in-Byte.is at c.in_ok-piece.ensures.read)),
-  λ fault wrong.
-      let piece = rw c.in-Byte.is at c.in_ok-piece.ensures.read in
-      c.loop-bytes.invariant.2 fault (ListFault.byte piece.0 piece.1 piece.2 piece.3 wrong),
-)
+loop-bytes-preserved-in_ok-push-in-Byte c =
+    let piece = rw c.in-Byte.is at c.in_ok-piece.ensures.read in (
+      c.in_ok-piece.ensures.same ∙ c.loop-bytes.invariant.0,
+      piece_more (DelimitedList c.args.delimiter) c.loop-bytes.bytes.items (c.in-Byte.b ∷ []) _ c.in_ok-push-in-Byte.ensures.items c.loop-bytes.invariant.1
+          (λ more after x. rw piece.0 (p.byte piece.1 piece.2 piece.3 x)),
+      λ fault wrong. c.loop-bytes.invariant.2 fault (ListFault.byte piece.0 piece.1 piece.2 piece.3 wrong),
+    )
 
 pub loop-bytes-preserved-in_ok-push-in-Escaped : goal.loop-bytes-preserved-in_ok-push-in-Escaped
-loop-bytes-preserved-in_ok-push-in-Escaped c = (
-  c.in_ok-piece.ensures.same ∙ c.loop-bytes.invariant.0,
-  piece_more _ c.in_ok-push-in-Escaped.ensures.items c.loop-bytes.invariant.1
-      (list_escaped (no_backslash c.requires.delimiter) (rw c.in-Escaped.is at c.in_ok-piece.ensures.read)),
-  λ fault wrong.
-      let piece = rw c.in-Escaped.is at c.in_ok-piece.ensures.read in
-      c.loop-bytes.invariant.2 fault (ListFault.escaped piece.0 piece.1 wrong),
-)
+loop-bytes-preserved-in_ok-push-in-Escaped c =
+    let piece = rw c.in-Escaped.is at c.in_ok-piece.ensures.read in (
+      c.in_ok-piece.ensures.same ∙ c.loop-bytes.invariant.0,
+      piece_more (DelimitedList c.args.delimiter) c.loop-bytes.bytes.items (c.args.delimiter ∷ []) _ c.in_ok-push-in-Escaped.ensures.items
+          c.loop-bytes.invariant.1 (λ more after x. rw piece.0 (p.escaped refl refl piece.1 x)),
+      λ fault wrong. c.loop-bytes.invariant.2 fault (ListFault.escaped piece.0 piece.1 wrong),
+    )
 
 pub loop-bytes-preserved : goal.loop-bytes-preserved
-loop-bytes-preserved c = (
-  c.in_ok-piece.ensures.same ∙ c.loop-bytes.invariant.0,
-  piece_more _ c.in_ok-push-in-Pair.ensures.items c.loop-bytes.invariant.1
-      (list_pair (no_backslash c.requires.delimiter) (sym c.in-Some.ensures) (rw c.in-Pair.is at c.in_ok-piece.ensures.read)),
-  λ fault wrong.
-      let piece = rw c.in-Pair.is at c.in_ok-piece.ensures.read in
-      c.loop-bytes.invariant.2 fault (ListFault.meant piece.0 piece.1 (list_meant c.in-Pair.b _ (sym c.in-Some.ensures)) wrong),
-)
+loop-bytes-preserved c =
+    let piece = rw c.in-Pair.is at c.in_ok-piece.ensures.read in (
+      c.in_ok-piece.ensures.same ∙ c.loop-bytes.invariant.0,
+      piece_more (DelimitedList c.args.delimiter) c.loop-bytes.bytes.items (c.in-Some.meant ∷ []) _ c.in_ok-push-in-Pair.ensures.items
+          c.loop-bytes.invariant.1 (list_pair (sym c.in-Some.ensures) piece),
+      λ fault wrong. c.loop-bytes.invariant.2 fault (ListFault.meant piece.0 piece.1 (list_meant c.in-Pair.b _ (sym c.in-Some.ensures)) wrong),
+    )
 
 pub returns-in_err-piece-clause-first : goal.returns-in_err-piece-clause-first
 returns-in_err-piece-clause-first c =
-    if_err_from (λ fault. IsOfText fault → ListFault (length c.args.text.whole.now) c.args.opening c.args.delimiter (unread c.args.text) fault)
-    c.from_residual.result _ c.from_residual.ensures.1
+    if_err_from _ c.from_residual.result _ c.from_residual.ensures.1
     (λ memory. c.loop-bytes.invariant.2 _ (ListFault.piece (piece_in_same c.loop-bytes.invariant.0 c.in_err-piece.ensures.first)))
 
 pub returns-then-b-eq10-clause-first : goal.returns-then-b-eq10-clause-first
@@ -76,8 +53,3 @@ returns-in_default-clause-first c = λ memory.
     let place : c.offset.result + length (unread c.loop-bytes.rest) ≡ length c.args.text.whole.now =
     rw c.offset.ensures (unread_length c.loop-bytes.rest ∙ ap (λ w. length w.now) c.loop-bytes.invariant.0) in
     c.loop-bytes.invariant.2 _ (ListFault.meaningless piece.0 piece.1 c.if-b-eq10.false none.0 none.1 place)
-
-pub returns-in_default-clause-placed : goal.returns-in_default-clause-placed
-returns-in_default-clause-placed c =
-    let pair = rw c.in-Pair.is at c.in_ok-piece.ensures.read in
-    inl (92, rw (c.offset.ensures, sym c.loop-bytes.invariant.0) (stands_here c.loop-bytes.rest pair.0), refl)

@@ -1,32 +1,18 @@
-use Rattle.sedck_commands.proofs.Common.{◌≡◌, [], ◌∷◌, ◌++◌, ◌∙◌, ap, sym, subst, Some, append_assoc, option_or, length, unread, DelimitedExpression, IsReadUpTo, IsPartPlaced, as_written}
-use Rattle.sedck_commands.specs.Faults.{IsOfText}
+use Rattle.sedck_commands.proofs.Common.{◌≡◌, [], ◌∷◌, ◌++◌, ◌∙◌, refl, ap, sym, subst, Some, append_assoc, option_or, length, unread, DelimitedExpression, IsReadUpTo, as_written}
 use Rattle.sedck_commands.specs.FirstFaults.{CutFault}
-use Rattle.sedck_commands.proofs.ResultLemmas.{if_err_each, if_err_same, if_err_from}
-use Rattle.sedck_commands.proofs.UniqueVerbs.{no_backslash}
-use Rattle.sedck_commands.proofs.PieceLemmas.{piece_more, expression_byte, expression_escaped, expression_pair, expression_end, expression_stuck, expression_broken, written_between}
+use Rattle.sedck_commands.proofs.ResultLemmas.{if_err_from}
+use Rattle.sedck_commands.proofs.PieceLemmas.{piece_more, expression_byte, expression_pair, expression_end, written_between}
+use Rattle.sedck_commands.specs.Parts as p
 use Rattle.sedck_commands.proofs.EscapeLemmas.{escape_more, escape_noted}
 use Rattle.sedck_commands.proofs.FaultLemmas1.{piece_in_same}
 use Rattle.sedck_commands.proofs.delimited.read_replaced.Goals as goal
 
-pub returns-in_err-piece-clause-refused : goal.returns-in_err-piece-clause-refused
-returns-in_err-piece-clause-refused c = if_err_each _ c.from_residual-in_err-piece.result
-    (λ fault memory. expression_stuck c.loop-bytes.invariant.1 c.in_err-piece.ensures.refused)
-
-pub returns-in_err-piece-clause-placed : goal.returns-in_err-piece-clause-placed
-returns-in_err-piece-clause-placed c = if_err_same (IsPartPlaced c.args.opening) c.from_residual-in_err-piece.result _ c.from_residual-in_err-piece.ensures.1
-    c.loop-bytes.invariant.0 c.in_err-piece.ensures.placed
-
 pub returns-in-End-clause-read : goal.returns-in-End-clause-read
-returns-in-End-clause-read c = expression_end c.loop-bytes.invariant.1 (rw c.in-End.is at c.in_ok-piece.ensures.read)
-
-pub returns-then-b-eq10-clause-refused : goal.returns-then-b-eq10-clause-refused
-returns-then-b-eq10-clause-refused c = λ memory. expression_broken (no_backslash c.requires.delimiter) c.loop-bytes.invariant.1
-    (rw c.in-Pair.is at c.in_ok-piece.ensures.read) c.if-b-eq10.true
+returns-in-End-clause-read c = expression_end c.loop-bytes.bytes.items c.loop-bytes.invariant.1 (rw c.in-End.is at c.in_ok-piece.ensures.read)
 
 pub returns-in_err-piece-clause-first : goal.returns-in_err-piece-clause-first
 returns-in_err-piece-clause-first c =
-    if_err_from (λ fault. IsOfText fault → CutFault (length c.args.text.whole.now) c.args.opening c.args.delimiter (unread c.args.text) fault)
-    c.from_residual-in_err-piece.result _ c.from_residual-in_err-piece.ensures.1
+    if_err_from _ c.from_residual-in_err-piece.result _ c.from_residual-in_err-piece.ensures.1
     (λ memory. c.loop-bytes.invariant.3 _ (CutFault.piece (piece_in_same c.loop-bytes.invariant.0 c.in_err-piece.ensures.first)))
 
 pub returns-then-b-eq10-clause-first : goal.returns-then-b-eq10-clause-first
@@ -38,7 +24,8 @@ pub loop-bytes-preserved-in_ok-push-in-Byte : goal.loop-bytes-preserved-in_ok-pu
 loop-bytes-preserved-in_ok-push-in-Byte c =
     let piece = rw c.in-Byte.is at c.in_ok-piece.ensures.read in (
       c.in_ok-piece.ensures.same ∙ c.loop-bytes.invariant.0,
-      piece_more _ c.in_ok-push-in-Byte.ensures.items c.loop-bytes.invariant.1 (expression_byte (no_backslash c.requires.delimiter) piece),
+      piece_more (DelimitedExpression c.args.delimiter) c.loop-bytes.bytes.items (c.in-Byte.b ∷ []) _ c.in_ok-push-in-Byte.ensures.items
+          c.loop-bytes.invariant.1 (expression_byte piece),
       escape_more (c.in-Byte.b ∷ []) _ c.in_ok-push-in-Byte.ensures.items piece.0 c.loop-bytes.invariant.2,
       λ fault wrong. c.loop-bytes.invariant.3 fault (CutFault.byte piece.0 piece.1 piece.2 piece.3 wrong),
     )
@@ -47,8 +34,8 @@ pub loop-bytes-preserved-in_ok-push-in-Escaped : goal.loop-bytes-preserved-in_ok
 loop-bytes-preserved-in_ok-push-in-Escaped c =
     let piece = rw c.in-Escaped.is at c.in_ok-piece.ensures.read in (
       c.in_ok-piece.ensures.same ∙ c.loop-bytes.invariant.0,
-      piece_more _ c.in_ok-push-in-Escaped.ensures.items c.loop-bytes.invariant.1
-          (expression_escaped (no_backslash c.requires.delimiter) piece),
+      piece_more (DelimitedExpression c.args.delimiter) c.loop-bytes.bytes.items (c.args.delimiter ∷ []) _ c.in_ok-push-in-Escaped.ensures.items
+          c.loop-bytes.invariant.1 (λ more after x. rw piece.0 (p.escaped refl refl piece.1 x)),
       escape_noted c.loop-bytes.rest _ c.in_ok-push-in-Escaped.ensures.items piece.0
           (c.or-escape.ensures ∙ ap (λ n. option_or c.loop-bytes.escape (Some n)) c.offset-in-Escaped.ensures) c.loop-bytes.invariant.0 c.loop-bytes.invariant.2,
       λ fault wrong. c.loop-bytes.invariant.3 fault (CutFault.escaped piece.0 piece.1 wrong),
@@ -60,8 +47,8 @@ loop-bytes-preserved c =
     let items = c.in_ok-push-in-Pair-2.ensures.items ∙ ap (λ t. t ++ c.in-Pair.b ∷ []) c.in_ok-push-in-Pair.ensures.items
     ∙ append_assoc c.loop-bytes.bytes.items (92 ∷ []) (c.in-Pair.b ∷ []) in (
       c.in_ok-piece.ensures.same ∙ c.loop-bytes.invariant.0,
-      piece_more _ items c.loop-bytes.invariant.1
-          (expression_pair (no_backslash c.requires.delimiter) c.if-b-eq10.false piece),
+      piece_more (DelimitedExpression c.args.delimiter) c.loop-bytes.bytes.items (92 ∷ c.in-Pair.b ∷ []) _ items c.loop-bytes.invariant.1
+          (expression_pair c.if-b-eq10.false piece),
       escape_more (92 ∷ c.in-Pair.b ∷ []) _ items piece.0 c.loop-bytes.invariant.2,
       λ fault wrong. c.loop-bytes.invariant.3 fault (CutFault.pair piece.0 piece.1 c.if-b-eq10.false wrong),
     )

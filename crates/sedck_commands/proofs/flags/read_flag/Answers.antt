@@ -1,45 +1,17 @@
-use Rattle.sedck_commands.proofs.Common.{◌≡◌, ◌||◌, true, ◌∷◌, length, refl, ap, ◌∙◌, sym, is_blank, is_ending, or_left, unread, IsPlaced}
+use Rattle.sedck_commands.proofs.Common.{◌≡◌, ◌||◌, true, ◌∷◌, length, refl, ap, ◌∙◌, sym, is_blank, is_ending, or_left, unread}
 use Rattle.std.proofs.lemmas.Bool.{or_right}
 use Rattle.sedck_commands.proofs.ResultLemmas.{if_err_from, if_err_same}
-use Rattle.sedck_commands.proofs.CursorPlaces.{stands_here}
-use Rattle.sedck_commands.proofs.PlaceLemmas.{extra_digit, unread_verb}
-use Rattle.sedck_commands.proofs.VerbCases.{no_name}
-use Rattle.sedck_commands.proofs.LineBytes.{name_placed}
 use Rattle.sedck_commands.proofs.FaultLemmas2.{begins_here, no_flag_byte}
 use Rattle.sedck_commands.specs.FirstFaults as fault
 use Rattle.sedck_commands.specs.FirstFaults.{FlagsFault}
 use Rattle.sedck_commands.proofs.flags.read_flag.Goals as goal
 use Rattle.sedck_commands.proofs.flags.read_flag.Goals.{else-not-has-via-then-not-has+else-not-is_ending, else-not-has-via-else-not-has}
 
-pub returns-in_err-name-clause-placed : goal.returns-in_err-name-clause-placed
-returns-in_err-name-clause-placed c =
-    let placed = rw c.in-Some.ensures.ahead.0.whole at c.in_err-name.ensures.placed in
-    if_err_from (IsPlaced c.args.text.whole.now) c.from_residual.result _ c.from_residual.ensures.1
-    (name_placed c.args.text.whole.now c.offset-place.result placed (rw c.offset-place.ensures (
-      (c.in-Some.first, stands_here c.args.text c.in-Some.ensures.cut, rw c.if-first-eq119.true refl),
-      unread_verb c.args.text.whole.now c.args.text.at c.in-Some.ensures.cut (rw c.if-first-eq119.true refl)
-          (no_name c.in-Some.first (rw c.if-first-eq119.true refl) c.in_err-name.ensures.refused),
-    )))
-
 pub returns-in_err-name-clause-first : goal.returns-in_err-name-clause-first
 returns-in_err-name-clause-first c = if_err_same (λ whole f. (g p n : _) → FlagsFault (length whole) g p n (unread c.args.text) f)
     c.from_residual.result _ c.from_residual.ensures.1 c.in-Some.ensures.ahead.0.whole (λ g p n.
     fault.FlagsFault.file (c.in-Some.ensures.cut ∙ ap (λ b. b ∷ unread c.in-Some.behind) c.if-first-eq119.true)
     (begins_here c.args.text (sym c.in-Some.ensures.ahead.0.whole) refl c.offset-place.ensures) c.in_err-name.ensures.first)
-
-pub returns-in_default-read_number-clause-placed : goal.returns-in_default-read_number-clause-placed
-returns-in_default-read_number-clause-placed c = rw c.offset-place.ensures (
-  c.in-Some.first,
-  stands_here c.args.text c.in-Some.ensures.cut,
-  extra_digit c.in-Some.first (sym c.is_digit.ensures ∙ c.if-is_digit.true),
-)
-
-pub returns-then-not-is_ending-clause-placed : goal.returns-then-not-is_ending-clause-placed
-returns-then-not-is_ending-clause-placed c = rw c.offset-place.ensures (
-  c.in-Some.first,
-  stands_here c.args.text c.in-Some.ensures.cut,
-  rw (sym c.has.ensures ∙ c.if-not-has.true, sym c.is_ending.ensures ∙ c.if-not-is_ending.true) refl,
-)
 
 pub returns-in_default-read_number-clause-first : goal.returns-in_default-read_number-clause-first
 returns-in_default-read_number-clause-first c = λ g p n. fault.FlagsFault.no_number c.in-Some.ensures.cut (sym c.is_digit.ensures ∙ c.if-is_digit.true)

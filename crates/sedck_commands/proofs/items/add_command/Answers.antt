@@ -1,55 +1,48 @@
-use Rattle.sedck_commands.proofs.Common.{◌-◌, ◌<◌, ◌≤◌, ◌∷◌, [], map, ap, ◌∙◌, subst, length-append, arith, map_push, All-push, Written, address_of, written_verb, item_of, commands_among, IsItemAt, patterns_of, item_patterns, NotesLabel, is_braced, unread_length, length}
+use Rattle.sedck_commands.proofs.Common.{◌≡◌, Opening, ◌-◌, ◌<◌, ◌≤◌, ◌∷◌, [], map, ap, ◌∙◌, subst, length-append, arith, map_push, All-push, Written, address_of, written_verb, item_of, commands_among, IsItemAt, NotesLabel, is_braced, unread_length, length}
 use Rattle.sedck_commands.proofs.ResultLemmas.{if_err_from}
-use Rattle.sedck_commands.proofs.ProgressLemmas.{front_command, command_shorter, behind_begins, brace_stands}
-use Rattle.sedck_commands.proofs.StateLemmas.{among_append, patterns_push, locations_push, labels_noted, blocks_noted, emptied_push}
-use Rattle.sedck_commands.proofs.CommandLemmas.{empty_append}
-use Rattle.sedck_commands.proofs.LocationLemmas.{located_command}
+use Rattle.sedck_commands.proofs.ProgressLemmas.{front_command, command_shorter, behind_begins}
+use Rattle.sedck_commands.proofs.StateLemmas.{among_append, patterns_push, locations_push, labels_noted, fresh_name, none_some, blocks_noted, emptied_push}
+use Rattle.sedck_commands.specs.ReadAlike.{MayBeBraced}
 use Rattle.sedck_commands.specs.FirstFaults as first
 use Rattle.sedck_commands.proofs.ItemFaults.{begun_at, command_same}
 use Rattle.sedck_commands.proofs.items.add_command.Goals as goal
 
 pub overflow_sub-last : goal.overflow_sub-last
-overflow_sub-last c = omega (arith, behind_begins c.args.begins c.in_ok-command.rest c.in_ok-command.ensures.same c.in_ok-command.ensures.read)
+overflow_sub-last c = omega (arith, behind_begins c.args.begins c.in_ok-command.rest c.in_ok-command.ensures.same c.in_ok-command.ensures.read.0)
 
 pub returns-clause-shorter : goal.returns-clause-shorter
-returns-clause-shorter c = command_shorter c.in_ok-command.ensures.read
+returns-clause-shorter c = command_shorter c.in_ok-command.ensures.read.0
 
 pub returns-clause-progress : goal.returns-clause-progress
 returns-clause-progress c =
     let old = c.args.progress.now in
     let command = c.in_ok-command.command in
+    let (read, here) = c.in_ok-command.ensures.read in
     let items = ap (map item_of) c.in_ok-note_command.ensures.items ∙ map_push item_of old.items.items _ in
-    let noted = blocks_noted
-    (written_verb command.verb) c.args.begins.whole.now old.open_blocks.items c.note_command.new.progress.open_blocks.items _ c.in_ok-note_command.ensures.opened
-    (λ e. subst (λ d. d < 64) (omega (arith, c.len.ensures)) (c.in_ok-command.ensures.shallow e))
-    (λ e. rw c.offset-last.ensures (brace_stands c.args.begins c.in_ok-command.rest c.in_ok-command.ensures.same c.in_ok-command.ensures.read e)) (λ e. subst (λ d. d ≤ 1) (omega (arith, c.len.ensures)) (c.in_ok-command.ensures.braced e)) c.requires.progress.opened in
+    let shallow = λ (e : written_verb command.verb ≡ Opening). subst (λ d. d < 64) (omega (arith, c.len.ensures)) (c.in_ok-command.ensures.shallow e) in
+    let braced = subst (λ d. MayBeBraced (is_braced (written_verb command.verb)) d) (omega (arith, c.len.ensures)) c.in_ok-command.ensures.braced in
+    let deeper = blocks_noted (written_verb command.verb) old.open_blocks.items c.note_command.new.progress.open_blocks.items _
+    c.in_ok-note_command.ensures.opened shallow braced in
     let size = length-append (commands_among (map item_of old.items.items))
     (Written (address_of command.address) command.negated (written_verb command.verb) ∷ []) in
     record {
-      front = rw items (front_command c.requires.progress.front c.requires.begins c.in_ok-command.ensures.read noted.0);
+      front = rw (items, c.in_ok-note_command.ensures.items, locations_push)
+          (front_command c.requires.progress.front c.requires.begins read here deeper);
       labels = rw (items, among_append) (labels_noted old.labels c.note_command.new.progress.labels (commands_among (map item_of old.items.items))
-          c.args.begins.whole.now (address_of command.address) command.negated command.verb
-          c.requires.progress.labels c.in_ok-command.ensures.label c.in_ok-command.ensures.read.taken c.in_ok-command.ensures.fresh
+          (address_of command.address) command.negated command.verb c.requires.progress.labels c.in_ok-command.ensures.fresh read.taken
           (subst (λ k. NotesLabel old.labels c.note_command.new.progress.labels k command.verb) c.requires.progress.count c.in_ok-note_command.ensures.labels));
       count = rw (items, among_append) (omega (arith, c.requires.progress.count, c.in_ok-note_command.ensures.count, size));
-      located = rw (c.in_ok-note_command.ensures.items, locations_push)
-          (located_command _ c.requires.progress.located c.requires.begins c.in_ok-command.ensures.read c.in_ok-command.ensures.located);
       few = omega (arith, c.in_ok-command.ensures.few, c.in_ok-note_command.ensures.count);
       label_places = rw c.in_ok-note_command.ensures.items
-          (All-push (IsItemAt c.args.begins.whole.now) _ _ c.requires.progress.label_places
-          (c.in_ok-command.ensures.label, c.in_ok-command.ensures.jump));
-      opened = noted.1;
-      empty = rw (items, patterns_push, c.in_ok-note_command.ensures.empty)
-          (empty_append c.args.begins.whole.now (item_patterns (map item_of old.items.items))
-          (patterns_of (Written (address_of command.address) command.negated (written_verb command.verb))) old.empty c.in_ok-command.empty
+          (All-push (IsItemAt c.args.begins.whole.now) _ _ c.requires.progress.label_places c.in_ok-command.ensures.jump);
+      empty = rw (items, patterns_push, c.in_ok-note_command.ensures.items, c.in_ok-note_command.ensures.empty)
+          (emptied_push c.args.begins.whole.now old.items.items command _ old.empty c.in_ok-command.empty
           c.requires.progress.empty c.in_ok-command.ensures.empty);
-      emptied = rw (c.in_ok-note_command.ensures.items, c.in_ok-note_command.ensures.empty)
-          (emptied_push c.args.begins.whole.now old.items.items command old.empty c.in_ok-command.empty
-          c.requires.progress.empty c.requires.progress.emptied c.in_ok-command.ensures.emptied);
       faults = λ fault x. c.requires.progress.faults fault (first.command (c.offset-last.result - 1) (begun_at c.requires.begins) c.requires.begins
-          c.in_ok-command.ensures.read (record {
-            fresh = λ name e d. c.in_ok-command.ensures.fresh (name, d.0, e, c.requires.progress.labels.found name d.0 d.1);
-            shallow = λ e. subst (λ d. d < 64) (omega (arith, c.len.ensures)) (c.in_ok-command.ensures.shallow e);
+          read (record {
+            fresh = λ name e d. none_some (fresh_name old.labels command.verb c.in_ok-command.ensures.fresh name e)
+                (c.requires.progress.labels.found name d.0 d.1);
+            shallow = shallow;
             braced = λ tests label e. subst (λ d. d ≤ 1) (omega (arith, c.len.ensures)) (c.in_ok-command.ensures.braced (ap is_braced e));
             few = omega (arith, c.in_ok-command.ensures.few, c.requires.progress.count);
           }) c.in_ok-note_command.ensures.opened
@@ -58,7 +51,7 @@ returns-clause-progress c =
             c.offset-last.ensures,
             unread_length c.in_ok-command.rest,
             ap (λ w. length w.now) c.in_ok-command.ensures.same,
-            behind_begins c.args.begins c.in_ok-command.rest c.in_ok-command.ensures.same c.in_ok-command.ensures.read,
+            behind_begins c.args.begins c.in_ok-command.rest c.in_ok-command.ensures.same read,
           )) (rw items at x));
     }
 

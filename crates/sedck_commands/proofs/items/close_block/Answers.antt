@@ -1,16 +1,11 @@
-use Rattle.sedck_commands.proofs.Common.{◌≡◌, ℕ, suc, length, map, refl, ap, ◌∙◌, subst, length-append, arith, map_push, All-push, ascii, StandsAt, item_of, IsItemAt, unread_length, unread}
-use Rattle.std.specs.Prelude.{All}
+use Rattle.sedck_commands.proofs.Common.{◌∷◌, [], item_patterns, ◌≡◌, ℕ, suc, length, map, refl, ap, ◌∙◌, length-append, arith, map_push, All-push, item_of, IsItemAt, unread_length, unread}
 use Rattle.sedck_commands.proofs.ResultLemmas.{if_err_along}
-use Rattle.sedck_commands.proofs.CursorPlaces.{stands_here}
 use Rattle.sedck_commands.proofs.ProgressLemmas.{front_closing, at_front}
-use Rattle.sedck_commands.proofs.StateLemmas.{among_closing, patterns_closing, locations_closing, opened_front, emptied_more}
-use Rattle.sedck_commands.proofs.LocationLemmas.{located_closing}
+use Rattle.sedck_commands.proofs.StateLemmas.{among_closing, patterns_closing, locations_closing, emptied_more}
+use Rattle.sedck_commands.specs.declared.items.WrittenItem.TheVariants as item
 use Rattle.sedck_commands.specs.FirstFaults as first
 use Rattle.sedck_commands.specs.FirstFaults.{EndFault}
 use Rattle.sedck_commands.proofs.items.close_block.Goals as goal
-
-pub returns-in_default-clause-placed : goal.returns-in_default-clause-placed
-returns-in_default-clause-placed c = rw c.offset.ensures (stands_here c.args.begins c.requires.begins)
 
 pub returns-clause-progress : goal.returns-clause-progress
 returns-clause-progress c =
@@ -18,17 +13,15 @@ returns-clause-progress c =
     let deep : length c.args.progress.now.open_blocks.items ≡ suc (length c.pop.new.self.items) =
     omega (arith, ap length c.in-Some.ensures.items, length-append {A = ℕ}) in
     record {
-      front = rw items (front_closing (rw deep at c.requires.progress.front) c.requires.begins refl c.in_ok-rest.ensures.read);
+      front = rw (items, c.in_ok-push.ensures.items, locations_closing)
+          (front_closing (rw deep at c.requires.progress.front) c.requires.begins refl c.in_ok-rest.ensures.read);
       labels = rw (items, among_closing) c.requires.progress.labels;
       count = rw (items, among_closing) c.requires.progress.count;
-      located = rw (c.in_ok-push.ensures.items, locations_closing)
-          (located_closing _ c.requires.progress.located c.requires.begins refl c.in_ok-rest.ensures.read);
       few = c.requires.progress.few;
       label_places = rw c.in_ok-push.ensures.items (All-push (IsItemAt c.args.begins.whole.now) _ _ c.requires.progress.label_places tt);
-      opened = opened_front c.args.begins.whole.now _ _ (subst
-          (λ xs. All (λ place. StandsAt c.args.begins.whole.now place (ascii "{")) xs) c.in-Some.ensures.items c.requires.progress.opened);
-      empty = rw (items, patterns_closing) c.requires.progress.empty;
-      emptied = rw c.in_ok-push.ensures.items (emptied_more c.args.begins.whole.now _ _ _ c.requires.progress.emptied);
+      empty = rw (items, patterns_closing, c.in_ok-push.ensures.items)
+          (emptied_more c.args.begins.whole.now (item_patterns (map item_of c.args.progress.now.items.items)) c.args.progress.now.items.items
+          (item.Closing ∷ []) c.args.progress.now.empty c.requires.progress.empty);
       faults = λ fault x. c.requires.progress.faults fault
           (first.closing c.in-Some.field-0 (at_front c.requires.begins refl) c.in-Some.ensures.items c.in_ok-rest.ensures.read (rw items at x));
     }

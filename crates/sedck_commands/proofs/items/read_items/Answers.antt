@@ -1,10 +1,7 @@
 use Rattle.sedck_commands.proofs.Common.{◌≡◌, length, ap, refl, subst, sym, ◌∙◌, arith, unread, IsProgress}
 use Rattle.std.proofs.Common.{rules}
 use Rattle.sedck_commands.proofs.ProgressLemmas.{progress_at, front_none, front_skip, front_done, front_closed}
-use Rattle.sedck_commands.proofs.LocationLemmas.{located_skip, located_done}
 use Rattle.sedck_commands.proofs.ItemFaults.{faults_back, last_of}
-use Rattle.sedck_commands.proofs.FaultRefuses.{fault_refuses}
-use Rattle.sedck_commands.proofs.ResultLemmas.{if_err_more}
 use Rattle.sedck_commands.specs.FirstFaults as first
 use Rattle.sedck_commands.proofs.items.read_items.Goals as goal
 
@@ -13,7 +10,7 @@ read_item-requires-clause-progress c =
     let old = c.loop-first.invariant.progress in
     let run = c.skip-begins.ensures.1 in
     subst (λ t. IsProgress t (unread c.skip-begins.result) c.loop-first.progress) (sym (ap (λ w. w.now) c.skip-begins.ensures.2.whole ∙ c.loop-first.invariant.same))
-    (progress_at old (front_skip old.front run) (located_skip _ old.located run) (λ fault x. faults_back run x))
+    (progress_at old (front_skip old.front run) (λ fault x. faults_back run x))
 
 pub loop-first-preserved : goal.loop-first-preserved
 loop-first-preserved c =
@@ -28,16 +25,16 @@ returns-clause-read c =
     let done = c.loop-first.invariant.progress in
     let run = c.skip-begins.ensures.1 in
     let end = ap length c.in_default.ensures.cut in
+    let all = front_done done.front run end in
     record {
-      spelled = front_done done.front run end;
-      located = λ all other. located_done _ done.located run end other;
+      spelled = all.0;
+      located = all.1;
       nests = front_closed done.front (omega (arith, c.in_default-last.ensures.item.3, ap length c.deref.ensures.value));
       labels = done.labels;
       count = done.count;
       few = done.few;
       label_places = done.label_places;
       empty = done.empty;
-      emptied = done.emptied;
     }
 
 pub loop-first-init : goal.loop-first-init
@@ -49,12 +46,9 @@ loop-first-init c =
         front = rw (c.new.ensures.items, c.new-3.ensures.items) front_none;
         labels = search rules;
         count = search rules;
-        located = rw c.new.ensures.items (λ all spelled. (all, spelled, refl));
         few = omega arith;
         label_places = search rules;
-        opened = search rules;
         empty = search rules;
-        emptied = tt;
         faults = rw (c.new.ensures.items, c.new-3.ensures.items) (λ fault x. x);
       });
       same = ap (λ w. w.now) c.new-rest.ensures.whole;
@@ -67,11 +61,5 @@ returns-in-Some-last-clause-first c = λ memory.
     done.faults _ (first.unclosed _ (rw c.in_default.ensures.cut at c.skip-begins.ensures.1)
     (sym c.deref.ensures.value ∙ last_of c.deref.result.now c.in-Some-last.place.now item.3.0 (item.3.1 0)))
 
-pub returns-in-Some-last-clause-refused : goal.returns-in-Some-last-clause-refused
-returns-in-Some-last-clause-refused c = λ memory. fault_refuses (returns-in-Some-last-clause-first c memory)
-
 pub returns-in_err-rest-clause-first : goal.returns-in_err-rest-clause-first
 returns-in_err-rest-clause-first c = search rules
-
-pub returns-in_err-rest-clause-refused : goal.returns-in_err-rest-clause-refused
-returns-in_err-rest-clause-refused c = if_err_more c.from_residual.result (λ fault x memory. fault_refuses (x memory)) (returns-in_err-rest-clause-first c)

@@ -1,11 +1,7 @@
 use Rattle.sedck_commands.proofs.Common.{◌∙◌, ap, sym, begins_braced_comment, unread_length}
 use Rattle.sedck_commands.proofs.ResultLemmas.{if_err_from}
-use Rattle.sedck_commands.proofs.LabelLemmas.{no_label_place}
 use Rattle.sedck_commands.specs.FirstFaults as fault
 use Rattle.sedck_commands.proofs.labels.end_of_jump.Goals as goal
-
-pub returns-then-begins_braced_comment-clause-placed : goal.returns-then-begins_braced_comment-clause-placed
-returns-then-begins_braced_comment-clause-placed c = rw c.offset.ensures (no_label_place c.requires)
 
 pub returns-in_err-rest-clause-first : goal.returns-in_err-rest-clause-first
 returns-in_err-rest-clause-first c = if_err_from _ c.from_residual.result _ c.from_residual.ensures.1

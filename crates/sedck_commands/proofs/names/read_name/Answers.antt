@@ -1,43 +1,15 @@
-use Rattle.sedck_commands.proofs.Common.{◌<◌, length, ◌∙◌, sym, arith, inl, inr, false≢true, is_skipped}
-use Rattle.sedck_commands.proofs.PartLemmas.{name_some, name_plain, name_over, first_passes}
-use Rattle.sedck_commands.proofs.LineBytes.{skipped_stands, continued_stands}
+use Rattle.sedck_commands.proofs.Common.{◌<◌, length, ◌∙◌, sym, arith, is_skipped}
 use Rattle.sedck_commands.proofs.FaultLemmas2.{begins_behind, no_line, skipped_fault, first_plain}
 use Rattle.sedck_commands.specs.FirstFaults as fault
 use Rattle.sedck_commands.proofs.names.read_name.Goals as goal
 
-pub returns-in_default-clause-refused : goal.returns-in_default-clause-refused
-returns-in_default-clause-refused c = λ name rest n.
-    let some = name_some c.skip-begins.ensures.1 c.split.ensures.run n in omega (arith, some, c.in_default.len_below)
-
 pub returns-in_default-clause-first : goal.returns-in_default-clause-first
 returns-in_default-clause-first c = fault.NameFault.missing c.skip-begins.ensures.1 (no_line c.split.ensures.run c.in_default.len_below)
-
-pub returns-then-is_skipped-clause-refused : goal.returns-then-is_skipped-clause-refused
-returns-then-is_skipped-clause-refused c = λ name rest n.
-    first_passes is_skipped _ c.in-len1-up.len_at_least (sym c.is_skipped.ensures ∙ c.if-is_skipped.true)
-    (name_plain c.skip-begins.ensures.1 c.split.ensures.run n)
-
-pub returns-then-is_skipped-clause-placed : goal.returns-then-is_skipped-clause-placed
-returns-then-is_skipped-clause-placed c =
-    inr (rw (c.offset.ensures, sym c.skip-begins.ensures.2.whole) (skipped_stands c.skip-begins.result c.split.result.0.now _
-    c.split.ensures.run.cut (omega (arith, c.in-len1-up.len_at_least)) (sym c.is_skipped.ensures ∙ c.if-is_skipped.true)))
 
 pub returns-then-is_skipped-clause-first : goal.returns-then-is_skipped-clause-first
 returns-then-is_skipped-clause-first c =
     skipped_fault c.skip-begins.result c.split.result.0.now _ c.skip-begins.ensures.2.whole c.skip-begins.ensures.1 c.split.ensures.run.cut
     c.in-len1-up.len_at_least (sym c.is_skipped.ensures ∙ c.if-is_skipped.true) c.offset.ensures
-
-pub returns-then-is_continued-clause-refused : goal.returns-then-is_continued-clause-refused
-returns-then-is_continued-clause-refused c = λ name rest n.
-    elim (name_over c.skip-begins.ensures.1 c.split.ensures.run n) [
-      | inl none ↦ grind (arith, c.is_empty.ensures, c.if-not-is_empty.true, c.unread.ensures, none)
-      | inr over ↦ false≢true (sym over ∙ (sym c.is_continued.ensures ∙ c.if-is_continued.true))
-    ]
-
-pub returns-then-is_continued-clause-placed : goal.returns-then-is_continued-clause-placed
-returns-then-is_continued-clause-placed c =
-    inr (rw (c.offset-then-is_continued.ensures, sym c.skip-begins.ensures.2.whole) (continued_stands c.skip-begins.result c.split.result.1
-    c.split.result.0.now c.split.ensures.run.cut c.split.ensures.ahead (sym c.is_continued.ensures ∙ c.if-is_continued.true)))
 
 pub returns-then-is_continued-clause-first : goal.returns-then-is_continued-clause-first
 returns-then-is_continued-clause-first c =

@@ -1,49 +1,35 @@
-use Rattle.sedck_commands.proofs.Common.{length, unread, unread_length, part_of}
+use Rattle.sedck_commands.proofs.Common.{unread_length, part_of}
 use Rattle.sedck_commands.specs.FirstFaults.{ReplacementFault}
-use Rattle.sedck_commands.proofs.ResultLemmas.{if_err_always, if_err_from}
-use Rattle.sedck_commands.proofs.CursorPlaces.{stands_here}
-use Rattle.sedck_commands.proofs.UniqueVerbs.{no_backslash}
-use Rattle.sedck_commands.proofs.ReplacementLemmas.{replacement_stuck, replacement_broken, first_whole, first_run, first_escaped, first_pair}
-use Rattle.sedck_commands.proofs.FaultLemmas1.{behind_whole, behind_run, group_within, part_within}
+use Rattle.sedck_commands.proofs.ResultLemmas.{if_err_from}
+use Rattle.sedck_commands.proofs.ReplacementLemmas.{first_whole, first_run, first_escaped, first_pair}
+use Rattle.sedck_commands.proofs.FaultLemmas1.{behind_whole, behind_run}
 use Rattle.sedck_commands.proofs.replacements.read_part.Goals as goal
 
-pub returns-in_err-piece-clause-refused : goal.returns-in_err-piece-clause-refused
-returns-in_err-piece-clause-refused c = if_err_always c.from_residual.result
-    (λ parts rest x w. replacement_stuck (no_backslash c.requires.delimiter) c.in_err-piece.ensures.refused x)
-
 pub returns-then-b-eq38-clause-read : goal.returns-then-b-eq38-clause-read
-returns-then-b-eq38-clause-read c = first_whole c.args.greatest (no_backslash c.requires.delimiter) (rw c.in-Byte.is at c.in_ok-piece.ensures.read) c.if-b-eq38.true
-
-pub returns-in_default-clause-refused : goal.returns-in_default-clause-refused
-returns-in_default-clause-refused c = λ parts rest x w.
-    replacement_broken (no_backslash c.requires.delimiter) (rw c.in-Pair.is at c.in_ok-piece.ensures.read) c.in_default.ensures.none x w
-
-pub returns-in_default-clause-placed : goal.returns-in_default-clause-placed
-returns-in_default-clause-placed c = rw c.offset.ensures (stands_here c.args.text (rw c.in-Pair.is at c.in_ok-piece.ensures.read).0)
+returns-then-b-eq38-clause-read c = first_whole c.args.greatest (rw c.in-Byte.is at c.in_ok-piece.ensures.read) c.if-b-eq38.true
 
 pub returns-else-b-eq38-clause-read : goal.returns-else-b-eq38-clause-read
-returns-else-b-eq38-clause-read c = first_run c.args.greatest (no_backslash c.requires.delimiter)
+returns-else-b-eq38-clause-read c = first_run c.args.greatest
     (rw c.in-Byte.is at c.in_ok-piece.ensures.read) c.if-b-eq38.false
     c.split.ensures.run
 
 pub returns-in-Escaped-clause-read : goal.returns-in-Escaped-clause-read
-returns-in-Escaped-clause-read c = rw c.unread.ensures (first_escaped c.args.greatest (no_backslash c.requires.delimiter)
+returns-in-Escaped-clause-read c = rw c.unread.ensures (first_escaped c.args.greatest
     (rw c.in-Escaped.is at c.in_ok-piece.ensures.read))
 
 pub returns-in-Some-clause-read : goal.returns-in-Some-clause-read
 returns-in-Some-clause-read c =
-    first_pair c.args.greatest (part_of c.in-Some.part) (no_backslash c.requires.delimiter) (rw c.in-Pair.is at c.in_ok-piece.ensures.read)
+    first_pair c.args.greatest (part_of c.in-Some.part) (rw c.in-Pair.is at c.in_ok-piece.ensures.read)
     c.in-Some.ensures.read.0 c.in-Some.ensures.read.1
 
 pub returns-in_err-piece-clause-first : goal.returns-in_err-piece-clause-first
 returns-in_err-piece-clause-first c =
-    if_err_from (ReplacementFault (length c.args.text.whole.now) c.args.opening c.args.delimiter c.args.greatest (unread c.args.text)) c.from_residual.result
-    _ c.from_residual.ensures.1 (ReplacementFault.piece c.in_err-piece.ensures.first)
+    if_err_from _ c.from_residual.result _ c.from_residual.ensures.1 (ReplacementFault.piece c.in_err-piece.ensures.first)
 
 pub returns-in_default-clause-first : goal.returns-in_default-clause-first
 returns-in_default-clause-first c =
     let piece = rw c.in-Pair.is at c.in_ok-piece.ensures.read in
-    ReplacementFault.meaningless piece.0 piece.1 (λ part meant within. c.in_default.ensures.none part meant (group_within c.args.greatest part within))
+    ReplacementFault.meaningless piece.0 piece.1 c.in_default.ensures.none
     (rw c.offset.ensures (unread_length c.args.text))
 
 pub returns-then-b-eq38-clause-next : goal.returns-then-b-eq38-clause-next
@@ -60,4 +46,4 @@ returns-in-Escaped-clause-next c = λ fault.
 pub returns-in-Some-clause-next : goal.returns-in-Some-clause-next
 returns-in-Some-clause-next c = λ fault.
     let piece = rw c.in-Pair.is at c.in_ok-piece.ensures.read in
-    ReplacementFault.part piece.0 piece.1 c.in-Some.ensures.read.0 (part_within c.args.greatest (part_of c.in-Some.part) c.in-Some.ensures.read.1)
+    ReplacementFault.part piece.0 piece.1 c.in-Some.ensures.read.0 c.in-Some.ensures.read.1

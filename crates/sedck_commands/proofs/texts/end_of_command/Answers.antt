@@ -1,12 +1,7 @@
 use Rattle.sedck_commands.proofs.Common.{◌∙◌, sym}
-use Rattle.sedck_commands.proofs.CommandEnds.{extra_stands}
 use Rattle.sedck_commands.proofs.FaultLemmas2.{begins_here}
 use Rattle.sedck_commands.specs.FirstFaults as fault
 use Rattle.sedck_commands.proofs.texts.end_of_command.Goals as goal
-
-pub returns-then-not-is_ending-clause-placed : goal.returns-then-not-is_ending-clause-placed
-returns-then-not-is_ending-clause-placed c = rw (c.offset.ensures, sym c.skip-rest.ensures.2.whole)
-    (extra_stands c.skip-rest.result c.skip-rest.ensures.1 c.in-Some.ensures.1 (sym c.is_ending.ensures ∙ c.if-not-is_ending.true))
 
 pub returns-then-not-is_ending-clause-first : goal.returns-then-not-is_ending-clause-first
 returns-then-not-is_ending-clause-first c = fault.EndFault.extra (rw c.in-Some.ensures.1 at c.skip-rest.ensures.1)

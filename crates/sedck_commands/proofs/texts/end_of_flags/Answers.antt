@@ -1,6 +1,6 @@
 use Rattle.sedck_commands.proofs.Common.{◌≡◌, ◌⊎◌, ◌∙◌, List, ℕ, [], Some, false, inl, inr, ap, sym, subst, arith, not, is_newline, is_continued, Longest, longest_one, unread, nil_from_length}
 use Rattle.sedck_commands.proofs.ResultLemmas.{if_err_from}
-use Rattle.sedck_commands.proofs.LineBytes.{continued_stands, begins_hash}
+use Rattle.sedck_commands.proofs.LineBytes.{begins_hash}
 use Rattle.sedck_commands.proofs.FaultLemmas2.{begins_behind}
 use Rattle.sedck_commands.specs.FirstFaults as fault
 use Rattle.sedck_commands.proofs.texts.end_of_flags.Goals as goal
@@ -11,11 +11,6 @@ same_line : {text line rest other more : List ℕ} → Longest (λ b. not (is_ne
     → (rest ≡ []) ⊎ (is_continued line ≡ false) → (more ≡ []) ⊎ (is_continued other ≡ false)
 same_line l m (inl none) = inl (sym (longest_one l m).1 ∙ none)
 same_line l m (inr over) = inr (subst (λ t. is_continued t ≡ false) (longest_one l m).0 over)
-
-pub returns-then-is_continued-clause-placed : goal.returns-then-is_continued-clause-placed
-returns-then-is_continued-clause-placed c = rw (c.offset.ensures, sym c.in_ok-rest.ensures.same)
-    (continued_stands c.in_ok-rest.rest c.split.result.1 c.split.result.0.now c.split.ensures.run.cut c.split.ensures.ahead
-    (sym c.is_continued.ensures ∙ c.if-is_continued.true))
 
 pub returns-clause-read : goal.returns-clause-read
 returns-clause-read c =

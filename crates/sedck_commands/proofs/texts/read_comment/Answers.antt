@@ -1,13 +1,8 @@
 use Rattle.sedck_commands.proofs.Common.{◌≡◌, arith}
-use Rattle.sedck_commands.proofs.CommentLemmas.{no_inner_return, return_stands}
+use Rattle.sedck_commands.proofs.CommentLemmas.{no_inner_return}
 use Rattle.sedck_commands.proofs.FaultLemmas2.{return_fault}
 use Rattle.sedck_commands.proofs.texts.read_comment.Goals as goal
 use Rattle.sedck_commands.proofs.texts.read_comment.Goals.{in-Some+else-at-line, in_default}
-
-pub returns-then-at-line-clause-placed : goal.returns-then-at-line-clause-placed
-returns-then-at-line-clause-placed c =
-    rw c.offset.ensures (return_stands c.args.text c.split.result.0.now _ c.in-Some.at c.split.ensures.run.cut c.in-Some.ensures.1
-    (omega (arith, c.if-at-line.true)))
 
 pub returns-clause-read : goal.returns-clause-read
 returns-clause-read c = (

@@ -1,16 +1,7 @@
 use Rattle.sedck_commands.proofs.Common.{ap, text_byte}
 use Rattle.sedck_commands.specs.Items.{append, change, insert}
-use Rattle.sedck_commands.proofs.FormLemmas.{text_known}
-use Rattle.sedck_commands.proofs.PlaceLemmas.{unread_before}
-use Rattle.sedck_commands.proofs.VerbCases.{no_text}
 use Rattle.sedck_commands.specs.FirstFaults as fault
 use Rattle.sedck_commands.proofs.verbs.read_text_verb.Goals as goal
-
-pub returns-in_default-clause-placed : goal.returns-in_default-clause-placed
-returns-in_default-clause-placed c =
-    let known = text_known c.args.verb in
-    unread_before c.args.text c.offset.result c.offset.ensures c.requires known.listed known.no_address
-    (no_text (text_byte c.args.verb) known.listed c.skip.ensures.1 c.in_default.ensures.none)
 
 pub returns-in-Append-clause-read : goal.returns-in-Append-clause-read
 returns-in-Append-clause-read c = append (ap text_byte c.in-Append.is) c.skip.ensures.1 c.in-Some.ensures.read

@@ -1,13 +1,9 @@
 use Rattle.sedck_commands.proofs.ResultLemmas.{if_ok_more, if_err_more}
-use Rattle.sedck_script.proofs.ProgramLemmas.{no_program}
 use Rattle.sedck_script.specs.FirstFault.{IsFirstFault}
 use Rattle.sedck_script.proofs.parsing.checked_items.Goals as goal
 
 pub returns-clause-allowed : goal.returns-clause-allowed
 returns-clause-allowed c = if_ok_more c.read_items.result (λ progress read. c.in_ok-check_text.ensures.allowed) c.read_items.ensures.read
-
-pub returns-clause-refused : goal.returns-clause-refused
-returns-clause-refused c = if_err_more c.read_items.result (λ fault none memory. no_program (none memory)) c.read_items.ensures.refused
 
 pub returns-clause-first : goal.returns-clause-first
 returns-clause-first c = if_err_more c.read_items.result

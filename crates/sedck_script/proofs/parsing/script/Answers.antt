@@ -4,7 +4,7 @@ use Rattle.sedck_script.specs.Spelling.{IsScriptText}
 use Rattle.sedck_commands.specs.declared.names.Access.TheVariants.{Read, Write}
 use Rattle.sedck_script.proofs.UniqueScripts.{whole_one}
 use Rattle.sedck_script.proofs.SpelledIsScript.{spelled_script}
-use Rattle.sedck_script.specs.FirstFault.{HasItems, IsFirstFault}
+use Rattle.sedck_script.specs.FirstFault.{IsFirstFault}
 use Rattle.sedck_script.proofs.ProgramLemmas.{once_among}
 use Rattle.sedck_script.proofs.parsing.script.Goals as goal
 
@@ -39,4 +39,4 @@ returns-in_err-commands-clause-first c = if_err_from _ c.from_residual.result _ 
       nests = c.requires.read.nests;
       once = once_among c.args.progress.labels c.requires.read.labels;
       few = omega (arith, c.requires.read.few, c.requires.read.count);
-    }) (c.in_err-commands.ensures.first memory c.requires.read.spelled))
+    }) (c.in_err-commands.ensures.first memory c.requires.read))

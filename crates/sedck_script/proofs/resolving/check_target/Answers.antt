@@ -2,15 +2,6 @@ use Rattle.sedck_script.proofs.Common.{refl, sym, ◌∙◌}
 use Rattle.sedck_commands.proofs.FlagLemmas.{none_of}
 use Rattle.sedck_script.proofs.resolving.check_target.Goals as goal
 
-pub returns-then-is_none-clause-placed : goal.returns-then-is_none-clause-placed
-returns-then-is_none-clause-placed c = λ text at. (
-  c.in-Some.offset,
-  c.in-Some.name.now,
-  refl,
-  c.in-Some.ensures.label text at,
-  sym c.place_of.ensures ∙ none_of _ c.if-is_none.ensures,
-)
-
 pub returns-then-is_none-clause-first : goal.returns-then-is_none-clause-first
 returns-then-is_none-clause-first c =
     let command = c.in-Some.ensures.command in (

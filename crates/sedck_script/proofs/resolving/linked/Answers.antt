@@ -1,26 +1,10 @@
-use Rattle.sedck_script.proofs.Common.{inl, inr, subst, Any, item_of, item_label, IsLostLabel, if_err_from, if_err_more}
+use Rattle.sedck_script.proofs.Common.{if_err_from, if_err_more}
 use Rattle.sedck_commands.proofs.ResultLemmas.{if_ok_more}
 use Rattle.sedck_script.proofs.ProgramLemmas.{lost_among}
 use Rattle.sedck_script.proofs.resolving.linked.Goals as goal
 
 pub resolve-requires-clause-known : goal.resolve-requires-clause-known
 resolve-requires-clause-known c = rw c.deref.ensures.value at c.in_ok-check_targets.ensures.known
-
-pub returns-in_err-check_targets-clause-lost : goal.returns-in_err-check_targets-clause-lost
-returns-in_err-check_targets-clause-lost c =
-    if_err_from _ c.from_residual.result _ c.from_residual.ensures.1
-    (λ memory. subst
-    (λ items. Any (λ item. IsLostLabel c.args.labels.now (item_label (item_of item))) items) c.deref.ensures.value c.in_err-check_targets.ensures.lost)
-
-pub returns-in_err-check_targets-clause-placed : goal.returns-in_err-check_targets-clause-placed
-returns-in_err-check_targets-clause-placed c = if_err_from _ c.from_residual.result _ c.from_residual.ensures.1
-    (λ text places. inr (c.in_err-check_targets.ensures.placed text (rw (← c.deref.ensures.value) at places)))
-
-pub returns-clause-lost : goal.returns-clause-lost
-returns-clause-lost c = if_err_more c.resolve.result (λ fault is memory. absurd (memory is)) c.resolve.ensures.memory
-
-pub returns-clause-placed : goal.returns-clause-placed
-returns-clause-placed c = if_err_more c.resolve.result (λ fault is text within. inl is) c.resolve.ensures.memory
 
 pub returns-in_err-check_targets-clause-first : goal.returns-in_err-check_targets-clause-first
 returns-in_err-check_targets-clause-first c = if_err_from _ c.from_residual.result _ c.from_residual.ensures.1
