@@ -163,6 +163,7 @@ REFUSED = [
     (b"p\n" * 4096, 4096, 1, "too-many-commands", "this is the 4,096th command, one more than a script may have", SPLIT),
     (b"p\np p\n", 2, 3, "extra-text", "unexpected text after a command", SEPARATED),
     (b"p\r\n", 1, 2, "extra-text", "unexpected carriage return", RETURN),
+    (b"#!/bin/sed\r\np\r\n", 2, 2, "extra-text", "unexpected carriage return", RETURN),
     (b"w out\\\np\n", 1, 6, "extra-text", "unexpected backslash at the end of the line",
      "BusyBox joins this line with the next one: end the name or the comment with another character"),
     (b"w \fout\n", 1, 3, "extra-text", "unexpected control character", "BusyBox skips this character: begin the name with another one"),

@@ -86,9 +86,10 @@ fn other_lines(first: &[u8], second: &[u8]) -> Option<Foreign> {
     })
 }
 
-/// Whether a word of the line ends in `sed`.
+/// Whether a word of the line ends in `sed`. A carriage return may end the line.
 fn names_sed(line: &[u8]) -> bool {
-    line.ends_with(b"sed") || has(line, "sed ") || has(line, "sed\t")
+    let is_last = line.ends_with(b"sed") || line.ends_with(b"sed\r");
+    is_last || has(line, "sed ") || has(line, "sed\t")
 }
 
 /// Whether the line is blank or a comment.
