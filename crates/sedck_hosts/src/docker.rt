@@ -1,7 +1,7 @@
 //! Dockerfiles: the commands of `RUN`, and those of `CMD`, `ENTRYPOINT` and `HEALTHCHECK`.
 
 use crate::host::Host;
-use crate::kind::{Kind, interpreter_kind, program_kind, without_path};
+use crate::kind::{Kind, interpreter_kind, is_zsh, program_kind, without_path};
 use crate::parts::{Part, is_in};
 use sedck_origin::{Result, Unit, begins_with};
 use std::alloc::Global;
@@ -206,12 +206,15 @@ impl<'a> Docker<'a> {
         Ok(false)
     }
 
-    /// Adds a command, unless another shell reads it.
+    /// Adds a command. A call of sed in one that another shell reads is noted.
     fn add(&mut self, command: &[Unit]) -> Result<()> {
-        if self.is_foreign {
-            return Ok(());
+        if !self.is_foreign {
+            return self.host.add(command.to_vec(self.alloc)?);
         }
-        self.host.add(command.to_vec(self.alloc)?)
+        let start = command.first().map_or(0, |unit| unit.start());
+        let end = command.last().map_or(0, |unit| unit.end());
+        self.host
+            .note(self.rest.between(start, end).mention_of_sed())
     }
 
     /// Reads a command that is a list of JSON's, and answers whether it is one: no shell reads that, so each of its strings is a word between
@@ -266,12 +269,12 @@ fn after_options(units: &[Unit]) -> &[Unit] {
     })
 }
 
-/// Whether the words of `SHELL` name another shell than one of POSIX's.
+/// Whether the words of `SHELL` name another shell than one of POSIX's, as zsh.
 fn is_foreign(words: Part) -> bool {
     let first = words.from_any("\"").skip(1);
     let behind = first.from_any("\"");
     let name = without_path(first.before(behind));
-    behind.len() == 0 || program_kind(name) != Some(Kind::Shell)
+    behind.len() == 0 || program_kind(name) != Some(Kind::Shell) || is_zsh(name)
 }
 
 /// Whether another interpreter than a shell is named at the beginning of a text.

@@ -19,6 +19,9 @@ const MODIFIERS: &str = "export override private";
 const DIRECTIVES: &str = "else vpath undefine unexport endef ifeq ifneq ifdef ifndef if endif \
     include -include sinclude load -load";
 
+/// What is in the names of shells that read otherwise than those of POSIX, and of variables for them.
+const OTHERS: &str = "zsh ZSH fish FISH csh CSH";
+
 /// The operators of assignments: `?=` sets the name if nothing else does, `+=` adds the value, and `!=` has the shell write it.
 const OPERATORS: &str = "= := ::= :::= ?= += !=";
 
@@ -99,7 +102,7 @@ fn has_foreign_shell(file: Part) -> bool {
     false
 }
 
-/// Whether the line sets SHELL so, perhaps for its targets alone. A value that is unknown as a whole may be a shell.
+/// Whether the line sets SHELL so, perhaps for its targets alone. A value that is unknown as a whole may be a shell, unless it names another.
 fn sets_foreign_shell(line: Part) -> bool {
     let statement = after_modifiers(after_conditionals(line));
     let behind = until(statement, ":#;").after_any(":");
@@ -108,12 +111,15 @@ fn sets_foreign_shell(line: Part) -> bool {
         return false;
     };
     let value = definition.value.to(definition.value.from_any("#").start);
-    !line.starts_with("\t")
-        && is(definition.name.bytes(), "SHELL")
-        && !is_word_of(definition.sign, "+= !=")
-        && value.from_any("$@").len() == 0
-        && !value.is_ended()
-        && !is_shell(value)
+    let is_whole = !is_word_of(definition.sign, "+= !=") && value.from_any("$@").len() == 0;
+    let is_other = is_whole && !value.is_ended() && !is_shell(value);
+    let is_set = !line.starts_with("\t") && is(definition.name.bytes(), "SHELL");
+    is_set && (is_other || names_other_shell(value))
+}
+
+/// Whether the words name a shell that reads otherwise than those of POSIX: zsh splits no values, and has other signs.
+fn names_other_shell(words: Part) -> bool {
+    (words.start..words.end).any(|offset| words.from(offset).length_of_any(OTHERS) > 0)
 }
 
 impl Make {
@@ -231,7 +237,9 @@ impl Make {
         if is(name, PREFIX) && !value.is_ended() && !self.is_prefixed {
             self.is_prefixed = true;
             let behind = line.between(line.end, line.file.len());
-            self.host.note(behind.mention_of_sed())?;
+            // A variable that is set before it may have a sed.
+            let before = line.between(0, line.start).name_of_sed();
+            self.host.note(behind.mention_of_sed().or(before))?;
         }
         if is(definition.sign, "+=") || !is_known(name) {
             return self.add_unknown(line, definition);

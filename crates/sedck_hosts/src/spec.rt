@@ -1,6 +1,7 @@
 //! Spec files of RPM: the sections that are shell text, where macros are holes.
 
 use crate::host::Host;
+use crate::kind::{Kind, is_zsh, program_kind, without_path};
 use crate::make_text::reference_end;
 use crate::parts::{Brackets, Part, QUOTES, is, is_word_of, named};
 use sedck_origin::{Result, Unit};
@@ -62,8 +63,9 @@ struct Spec {
     is_definition: bool,
     /// Whether the next one is left out with it.
     is_continued: bool,
-    /// Whether a directive in the section may leave out the line that begins it.
-    is_branched: bool,
+    /// Whether calls of sed are noted in a section that isn't shell text: a directive in it may leave out the line that begins it, or another
+    /// program runs it.
+    is_noted: bool,
     open: Option<Open>,
 }
 
@@ -77,7 +79,7 @@ pub(crate) fn host_of_spec(alloc: Global, file: &[u8]) -> Result<Host> {
         is_left_out: false,
         is_definition: false,
         is_continued: false,
-        is_branched: false,
+        is_noted: false,
         open: None,
     };
     let mut rest = Part::whole(file);
@@ -106,7 +108,11 @@ impl Spec {
                 self.is_definition = matches!(sort, Sort::Definition);
                 self.read_text(line, true)
             }
-            (_, Some(Sort::Script)) => self.end_section(line, has_shell(rest)),
+            (_, Some(Sort::Script)) => {
+                let is_shell = has_shell(rest);
+                self.end_section(line, is_shell)?;
+                Ok(self.is_noted = !is_shell)
+            }
             (_, Some(Sort::Section)) => self.end_section(line, false),
             _ => self.read_text(line, self.is_continued),
         }
@@ -120,14 +126,14 @@ impl Spec {
             line.push_newline(&mut self.units)?;
         }
         self.is_definition = false;
-        self.is_branched = true;
+        self.is_noted = true;
         self.read_text(line, true)
     }
 
     /// Reads a line of a section.
     fn read_text(&mut self, line: Part, is_left_out: bool) -> Result<()> {
         self.is_left_out = is_left_out;
-        if self.is_branched && self.is_shell == Some(false) && !is_left_out {
+        if self.is_noted && self.is_shell == Some(false) && !is_left_out {
             self.host.note(line.mention_of_sed())?;
         }
         let mut rest = line;
@@ -150,7 +156,7 @@ impl Spec {
             self.note_macro(line.between(open.start, line.start))?;
         }
         self.is_continued = false;
-        self.is_branched = false;
+        self.is_noted = false;
         self.open = None;
         self.is_shell = Some(is_shell);
         Ok(())
@@ -289,9 +295,10 @@ fn spec_unit(part: Part, byte: u8) -> Unit {
     Unit::made(part.start, end.start)
 }
 
-/// Whether a section with these options is run by a shell: with no option `-p`, or one with a shell's path.
+/// Whether a section with these options is run by a shell of POSIX's: with no option `-p`, or one with such a shell's path. Zsh is none.
 fn has_shell(options: Part) -> bool {
     let (option, rest) = options.after_words(7, |word| !is(word, "-p")).split_word();
     let (program, _) = rest.split_word();
-    !is(option, "-p") || (program.ends_with(b"sh") && !program.ends_with(b"csh"))
+    let name = without_path(program);
+    !is(option, "-p") || (program_kind(name) == Some(Kind::Shell) && !is_zsh(name))
 }
