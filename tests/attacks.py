@@ -247,7 +247,8 @@ OTHER_READINGS = [Row("read otherwise: " + name, text, run, harm, files=files, d
     ("a modifier of zsh", "zsh a.sh", LOOPS, '#!/bin/zsh\nx=a\nsed ":a;s,^$x:t*,a,;ta" f\n', {}),
     ("whether a name is set in zsh", "zsh a.sh", LOOPS, '#!/bin/zsh\nx=a\nsed ":a;s/$+x/1/;ta" f\n', {"f": "1\n"}),
 ]] + [Row("read otherwise: a name behind %s in zsh" % sign, '#!/bin/zsh\nsed "s/$%sx/b/" f\n' % sign, LOOP_VALUE + "zsh a.sh", LOOPS, due=FOUND, is_told=True)
-      for sign in "=~^"] + [Row("a pattern of zsh that vanishes in a makefile", "SHELL = zsh\nall:\n\t@sed p(N) 'w evil' f\n", "make", WRITES, "Makefile", due=FOUND, is_told=True)
+      for sign in "=~^"] + [Row("a pattern of zsh that vanishes in a makefile", "SHELL = zsh\nall:\n\t@sed p(N) 'w evil' f\n", "make", WRITES, "Makefile", due=FOUND, is_told=True),
+                           Row("a modifier of zsh in a makefile", "SHELL = zsh $(X)\nall:\n\t@x=a; sed \":a;s,^$$x:t*,a,;ta\" f\n", "make", LOOPS, "Makefile", due=FOUND, is_told=True)
 ] + [Row("read otherwise: " + name, "#!/bin/zsh\n" + text, "zsh a.sh", harm, files=files) for name, harm, text, files in [
     ("a here-document behind a pipe", WRITES, "cat es | sed -n -f - f <<'E'\np\nE\n", {}),
     ("a here-document behind a file", WRITES, "sed -n -f - f < es <<'E'\np\nE\n", {}),
@@ -364,7 +365,10 @@ VALUES = [Row("a value that is set " + how, before + 'sed "$s" f\n', run, WRITES
     ("by a number of the environment", "n=$((n+1))\n", "n=s=0 bash a.sh"),
     ("by another variable's text", "x='s=0'\n: $((x))\n", "bash a.sh"),
 ]] + [Row("a variable of the shell, %s" % name, '%s=p\nsed "$%s" f\n' % (name, name), "bash a.sh", REFUSED)
-      for name in ("BASH_VERSINFO", "BASHPID", "BASH_SUBSHELL")]
+      for name in ("BASH_VERSINFO", "BASHPID", "BASH_SUBSHELL")] + [
+    Row("a value that is a number, by %s" % how, 's=p\n%s\nsed "$s" f\n' % text, run, REFUSED, due={"unknown"}) for how, text, run in [
+        ("a redirection of bash", ": {s}>g", "bash a.sh"), ("a redirection of zsh", "exec {s}>g", "zsh a.sh"), ("a redirection of ksh", "exec {s}<f", "ksh a.sh"),
+        ("wait", "true &\nwait -n -p s", "bash a.sh"), ("letters of wait", "true &\nwait -np s", "bash a.sh")]]
 VALUES_OF_MAKE = [Row("a value of make that is set " + how, before + "all:\n\t@sed '$(X)' f\n", run, WRITES, "Makefile", {"conf.mk": "X = w evil\n"})
                   for how, before, run in [
     ("by ?=", "X ?= p\n", "X='w evil' make"),
@@ -481,6 +485,20 @@ TEXTS = [Row("told: " + name, text, run, WRITES, file, files, due=FOUND) for nam
     ("a value of a value of make", "Makefile", "make", "RUN = sed -n\nGO = $(RUN)\nall:\n\t@$(GO) 'w evil' f\n", {}),
     ("a name that a function of make gives", "Makefile", "make", "X = $(addprefix /bin/,sed)\nall:\n\t@$(X) wevil f\n", {}),
     ("a name that a command gives", "a.sh", "sh a.sh", "x=$(command -v sed 2>/dev/null)\n$x -n 'w evil' f\n", {}),
+    ("a name that join makes", "Makefile", "make", "all:\n\t@$(join se,d) wevil f\n", {}),
+    ("a name that addprefix makes", "Makefile", "make", "all:\n\t@$(addprefix s,ed) wevil f\n", {}),
+    ("a name that subst makes", "Makefile", "make", "all:\n\t@$(subst x,s,xed) wevil f\n", {}),
+    ("a call that addprefix makes", "Makefile", "make", "all:\n\t@$(addprefix sed -n ,wevil) f\n", {}),
+    ("a name that firstword chooses", "Makefile", "make", "all:\n\t@$(firstword sed x) wevil f\n", {}),
+    ("a name that if chooses", "Makefile", "make", "all:\n\t@$(if x,sed,y) wevil f\n", {}),
+    ("a name with a hyphen", "Makefile", "make", "do-x = sed -n\nall:\n\t@$(do-x) wevil f\n", {}),
+    ("words behind a name with a dot", "Makefile", "make", "do.x = sed -n -e p\nall:\n\t@$(do.x) -e wevil f\n", {}),
+    ("a value before .RECIPEPREFIX", "Makefile", "make", "X = sed -n\n.RECIPEPREFIX = >\nall:\n>@$(X) wevil f\n", {}),
+    ("a variable in a variable", "a.sh", "ksh a.sh", "#!/bin/ksh\nx=(s=sed)\n${x.s} wevil f\n", {}),
+    ("a variable with the name of another", "a.sh", "bash a.sh", "x=sed\ny=x\n${!y} wevil f\n", {}),
+    ("a text of a function", "a.sh", "zsh a.sh", "#!/bin/zsh\nzmodload zsh/parameter\nfunctions[foo]='sed wevil f'\nfoo\n", {}),
+    ("a text of an alias", "a.sh", "zsh a.sh", "#!/bin/zsh\nzmodload zsh/parameter\naliases[foo]=sed\neval 'foo wevil f'\n", {}),
+    ("a text of an alias of bash", "a.sh", "bash a.sh", "shopt -s expand_aliases\nBASH_ALIASES[foo]='sed wevil'\nfoo f\n", {}),
     ("$'sed'", "a.sh", "bash a.sh", "$'sed' wevil f\n", {}),
     ("a part of a name", "a.sh", "sh a.sh", "${CROSS}sed wevil f\n", {}),
     ("a quoted part of a name", "a.sh", "sh a.sh", "\"$CROSS\"sed wevil f\n", {}),

@@ -174,6 +174,8 @@ ROWS = [
     # What is before a sed, and its folder.
     ("Makefile", [], "all:\n\t$(Q)sed p f\n\t@cat f | $(V)$(SED) d\n", 5, [("2:6", IF, ["p", "f"]), ("3:15", IF, ["d"])]),
     ("Makefile", [], "Q = @\nall:\n\t$(Q)sed p f\n", 5, [("3:6", IF, ["p", "f"])]),
+    ("Makefile", [], "all:\n\t$(Q) sed p f\n\t@cat f | $(AT) $(SED) d\n", 5, [("2:7", IF, ["p", "f"]), ("3:17", IF, ["d"])]),
+    ("Makefile", ["--assume", "Q=@"], "all:\n\t$(Q) sed p f\n", 0, [("2:7", A, ["p", "f"])]),
     ("Makefile", ["--assume", "Q=@"], "all:\n\t$(Q)sed p f\n\t$(Q)if sed d f; then :; fi\n", 0, [("2:6", A, ["p", "f"]), ("3:9", A, ["d", "f"])]),
     ("a.sh", ["--assume", "SUDO="], "$SUDO sed p f\n", 0, [("1:7", A, ["p", "f"])]),
     ("a.sh", [], "$SUDO ${x}sed p f\n", 5, [("1:11", UNKNOWN, None)]),
@@ -246,7 +248,7 @@ ROWS = [
     ("Dockerfile", [], "FROM a\nRUN b && \\\n# escape=`\n  sed p f\n", 0, [("4:3", A, ["p", "f"])]),
     ("Dockerfile", [], "# syntax=a\n# escape=`\nFROM a\nRUN sed p f\n", 5, []),
     # What isn't a list is a line for a shell; a list needs none of the shells of POSIX.
-    ("Dockerfile", [], 'FROM a\nRUN ["sed", "p", "f",]\nSHELL ["cmd"]\nRUN ["sed", "p", "f"]\nRUN sed p f\n', 0, [("4:6", A, ["p", "f"])]),
+    ("Dockerfile", [], 'FROM a\nRUN ["sed", "p", "f",]\nSHELL ["cmd"]\nRUN ["sed", "p", "f"]\nRUN sed p f\n', 5, [("4:6", A, ["p", "f"])]),
     # A here-document's redirection is a whole word.
     ("Dockerfile", [], "FROM a\nRUN echo $((1<<2)) \"a <<b\" <<<c\nCOPY a<<b /x\nRUN sed ':x;bx' f\n", 1, [("4:5", LOOP, [":x;bx", "f"])]),
     ("Dockerfile", [], "FROM a\nRUN <<A.B\nsed ':x;bx' f\nA.B\nRUN sed p f\n", 1, [("3:1", LOOP, [":x;bx", "f"]), ("5:5", A, ["p", "f"])]),
@@ -639,6 +641,9 @@ UNREAD = [
     ("a.yml", "a: {run: sed p f}\n? run\n: sed p f\nmy key: {run: sed p f}\n", ["1:10", "3:3", "4:15"]),
     ("Makefile", "define T\nall:\n\tsed 's/x$$//' f\n\tx=$$(sed p f)\nendef\n$(eval $(T))\n", ["3:2", "4:7"]),
     ("Makefile", "all: export SHELL = /usr/bin/python3 # x\nall:\n\tsed p f\nX := $(shell sed d f)\n", ["3:2", "4:14"]),
+    ("Makefile", "SHELL != command -v zsh\nall:\n\tsed p f\n", ["3:2"]), ("Makefile", "SHELL := $(shell command -v bash)\nall:\n\tsed p f\n", []),
+    ("a.spec", "%post -p /usr/bin/zsh\nsed p f\n%pre -p /bin/bash\nsed p f\n%preun -p /usr/bin/fish\nsed p f\n%postun -p <lua>\nos.execute('sed p f')\n%posttrans -p /sbin/ldconfig\n", ["2:1", "6:1", "8:13"]),
+    ("Dockerfile", "FROM a\nSHELL [\"/bin/zsh\", \"-c\"]\nRUN sed p f\nFROM b\nRUN sed p f\n", ["3:5"]),
     ("Dockerfile", "FROM a\nRUN sh <<E\"O\"F\nsed ':x;bx' f\nEOF\nRUN sed p f\n", ["3:1"]),
     ("ci.yml", "a:\n  - run: \"sed\\x20p f\"\n  - run: \"s\\u0065d p f\"\n", ["2:14", "3:12"]),
     ("a.sh", "echo sed -n p; which sed; apt-get install sed\ngrep sed -n f\n", []), ("a.sh", "sed $'a\\'\n'\n", ["1:8"]),

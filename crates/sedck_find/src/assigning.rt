@@ -4,8 +4,8 @@ use crate::mentions::writes_sed;
 use crate::names::Names;
 use crate::programs::{LONGEST, is_sed_path, is_sed_variable};
 use crate::units::{
-    after, begins_open, has_hole, hole_of, is_one_in, is_option, is_word_in, known_bytes,
-    lone_hole, rest, variable_of, without,
+    after, begins_open, has_hole, has_letter, hole_of, is_one_in, is_option, is_word_in,
+    known_bytes, lone_hole, rest, variable_of, without,
 };
 use sedck_origin::{Result, Unit, begins_with, byte_at, hole_name, is_name_byte};
 use sedck_shell::{Pattern, ShellCommand, ShellWord};
@@ -33,6 +33,8 @@ enum Utility {
     Running,
     /// A variable after an option.
     Printing,
+    /// The same, where other options may stand before it.
+    Waiting,
 }
 
 static UTILITIES: &'static [(Utility, &'static str)] = &[
@@ -47,6 +49,7 @@ static UTILITIES: &'static [(Utility, &'static str)] = &[
     (Utility::Hashing, "hash enable"),
     (Utility::Running, "eval trap"),
     (Utility::Printing, "printf"),
+    (Utility::Waiting, "wait"),
 ];
 
 /// Utilities that may make a variable read-only.
@@ -146,14 +149,31 @@ impl Names<'_> {
                 Ok(self.note_open(name.start))
             }
             Utility::Running => Ok(()),
-            Utility::Printing => match operands {
-                [option, ..] if option.is("-v") => self.note_names(second),
-                [option, ..] if self.form.has_dollar_quotes && may_be(&option.units, "-v") => {
-                    Ok(self.note_open(name.start))
-                }
-                _ => Ok(()),
-            },
+            Utility::Printing => self.note_printed(name, operands),
+            Utility::Waiting => self.note_awaited(name, operands),
         }
+    }
+
+    /// Notes the variable that `printf -v` sets.
+    fn note_printed(&mut self, name: &ShellWord, operands: &[ShellWord]) -> Result<()> {
+        match operands {
+            [option, others @ ..] if option.is("-v") => {
+                self.note_names(others.get(..1).unwrap_or(&[]))
+            }
+            [option, ..] if self.form.has_dollar_quotes && may_be(&option.units, "-v") => {
+                Ok(self.note_open(name.start))
+            }
+            _ => Ok(()),
+        }
+    }
+
+    /// Notes the variable that `wait -p` sets, whose name may be in the word of the option.
+    fn note_awaited(&mut self, name: &ShellWord, operands: &[ShellWord]) -> Result<()> {
+        if !operands.iter().any(|word| has_letter(&word.units, "p")) {
+            return Ok(());
+        }
+        self.note_open(name.start);
+        self.note_names(operands)
     }
 
     /// Notes the assignment that the word is; its value is known only if it stands.
@@ -270,7 +290,7 @@ impl Names<'_> {
     }
 
     /// Notes the variables that `${NAME=..}`, `${NAME:=..}` and arithmetic may set (XCU 2.6.2 and 2.6.4). `${!NAME=..}` sets one whose name
-    /// is a value.
+    /// is a value, and `{NAME}>` sets one to a number.
     pub fn note_expansions(&mut self) -> Result<()> {
         let file = self.file;
         let mut from = 0usize;
@@ -284,6 +304,7 @@ impl Names<'_> {
             let sign = file.get(index..).unwrap_or(&[]);
             let is_set = begins_sign(sign) && !name.is_empty();
             let may_be_set = match before.last() {
+                Some(b'{') if !before.starts_with(b"$") => names_descriptor(sign),
                 Some(b'$' | b'{') => is_set && before.starts_with(b"${"),
                 _ => is_arithmetic && !name.is_empty(),
             };
@@ -306,6 +327,11 @@ impl Names<'_> {
 /// Whether the bytes begin with the sign of an assignment.
 fn begins_sign(bytes: &[u8]) -> bool {
     bytes.starts_with(b"=") || bytes.starts_with(b":=")
+}
+
+/// Whether a redirection is after the brace that begins the bytes, as in `{NAME}>`.
+fn names_descriptor(bytes: &[u8]) -> bool {
+    bytes.starts_with(b"}<") || bytes.starts_with(b"}>")
 }
 
 /// Whether these bytes are the sign of an assignment, and after it the path of a sed that ends at a brace.

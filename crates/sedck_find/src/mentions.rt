@@ -3,10 +3,10 @@
 use crate::assigning::is_assignment;
 use crate::names::Names;
 use crate::parts::{Part, Runner};
-use crate::programs::{LONGEST, Program, is_sed_word};
+use crate::programs::{LONGEST, Program, is_sed_path, is_sed_word};
 use crate::units::{
-    begins_name, has_any, has_hole, hole_of, is_letters, is_option, is_word_in, last_part,
-    lone_hole, rest, variable_of,
+    after, begins_name, has_any, has_hole, hole_of, is_letters, is_one_in, is_option, is_word_in,
+    last_part, lone_hole, rest, variable_of,
 };
 use crate::values::Value;
 use sedck_origin::{Result, Unit, begins_with, byte_at, hole_name, is_name_byte, is_text};
@@ -23,10 +23,14 @@ const PLAIN: &str = "echo printf test [ [[ : case return exit which type hash co
 const RUNNING: &str = "env ssh rsh watch parallel docker podman kubectl script nsenter git tmux \
     screen xterm entr adb alias systemd-run lxc-attach vagrant crontab";
 
-/// Variables whose values other programs run.
+/// Variables whose values other programs run, and those of shells that have the texts of functions and aliases.
 const EDITORS: &str = "EDITOR VISUAL FCEDIT PAGER BROWSER LESSOPEN GIT_EDITOR \
     GIT_SEQUENCE_EDITOR GIT_PAGER MANPAGER SUDO_EDITOR SYSTEMD_EDITOR KUBE_EDITOR SVN_EDITOR \
-    HGEDITOR PROMPT_COMMAND GIT_EXTERNAL_DIFF";
+    HGEDITOR PROMPT_COMMAND GIT_EXTERNAL_DIFF functions aliases galiases saliases BASH_ALIASES";
+
+/// Functions of make's that put texts together, or choose one.
+const JOINING: &str = "join addprefix addsuffix subst patsubst word wordlist firstword lastword \
+    filter sort value";
 
 /// The offset of what may call sed in this part of a command, where it is none of a sed. In prose, and in a value of make's, a word after
 /// the name of a sed must look like an option or a script.
@@ -103,11 +107,12 @@ fn open_words<'a>(names: &Names, name: &[Unit], words: &'a [ShellWord]) -> Resul
     Ok(rest(words, brace.unwrap_or(words.len())))
 }
 
-/// The offset of an assignment in these words to a variable whose value other programs run, where that has a call of sed.
+/// The offset of an assignment in these words to a variable whose value is run, where that has a call of sed or is one.
 pub(crate) fn editor_in(words: &[ShellWord]) -> Option<usize> {
     let is_editor = |units: &[Unit]| is_word_in(variable_of(units), EDITORS);
     let mut assignments = words.iter().filter(|word| is_assignment(&word.units));
-    let editor = assignments.find(|word| is_editor(&word.units) && has_call(&word.units));
+    let runs_sed = |units: &[Unit]| has_call(units) || after(units, b'=').is_some_and(is_sed_path);
+    let editor = assignments.find(|word| is_editor(&word.units) && runs_sed(&word.units));
     editor.map(|word| word.start)
 }
 
@@ -117,9 +122,30 @@ fn names_sed(names: &Names<'_>, units: &[Unit]) -> bool {
     let mut holes = units.iter().take(LONGEST).filter_map(hole_of);
     let is_in_hole = holes.any(|hole| {
         let written = names.written_hole(hole);
-        writes_sed(written.get(..LONGEST).unwrap_or(written))
+        let written = written.get(..LONGEST).unwrap_or(written);
+        writes_sed(written) || makes_sed(names, written)
     });
     is_in_hole || (has_hole(units) && begins_with(end, "sed"))
+}
+
+/// Whether the name of a sed may be made in place of what is written: by a function of make's that has its letters, or by a variable that has
+/// other bytes than letters in its name, as `$(do-subst)`; in ksh by a variable in a variable, and in bash by one that has another's name.
+fn makes_sed(names: &Names<'_>, written: &[u8]) -> bool {
+    let inner = rest(written, 2);
+    let name = hole_name(written).unwrap_or(&[]);
+    let others = rest(inner, name.len());
+    if !names.is_make() {
+        return written.starts_with(b"${") && (inner.starts_with(b"!") || others.starts_with(b"."));
+    }
+    let end = inner.iter().position(|byte| b": \t$)}".contains(byte));
+    let used = inner.get(..end.unwrap_or(0)).unwrap_or(&[]);
+    names.may_be_sed(used) || (is_one_in(name, JOINING) && has_letters_of_sed(others))
+}
+
+/// Whether a text without references has the letters of that name, or another one has it in one piece.
+fn has_letters_of_sed(text: &[u8]) -> bool {
+    let is_plain = !text.contains(&b'$') && b"sed".iter().all(|letter| text.contains(letter));
+    is_plain || text.windows(3).any(|part| part == b"sed".as_slice())
 }
 
 /// Whether the file sets a variable of these units to a value that has a call of sed.
@@ -140,7 +166,7 @@ pub(crate) fn writes_sed(written: &[u8]) -> bool {
     (0..written.len()).any(|index| match rest(written, index) {
         [b's', b'e', b'd', after @ ..] if begins_sed(written, index) => {
             let mut others = after.iter().filter(|byte| **byte != b' ');
-            let is_last = others.next().is_none_or(|next| b")`|;&<>2".contains(next));
+            let is_last = others.next().is_none_or(|next| b"),`|;&<>2".contains(next));
             !after.first().is_some_and(|byte| is_name_byte(*byte)) && (!is_command || is_last)
         }
         _ => false,

@@ -83,6 +83,9 @@ const SEDS: &str = "sed gsed ssed";
 /// The names of variables that have the path of a shell.
 const SHELL_VARIABLES: &str = "SHELL CONFIG_SHELL BASH POSIX_SHELL";
 
+/// The names of variables that run the words after them, or are nothing, or signs of make's.
+const PREFIXES: &str = "SUDO sudo Q AT";
+
 /// The longest text of a hole, and the longest path, that is looked at, so that the time stays linear.
 pub(crate) const LONGEST: usize = 256;
 
@@ -213,6 +216,9 @@ fn called_by(names: &Names<'_>, hole: Hole) -> Program {
     match words.find(|word| !word.is_empty()) {
         Some(first) if is_sed_path(first) => Program::Sed,
         None if is_split => Program::Wrapper(Wrapper::PREFIX),
+        Some([Unit::Byte(b'@' | b'-' | b'+', _)]) if is_split && names.is_make() => {
+            Program::Wrapper(Wrapper::PREFIX)
+        }
         _ => Program::Other,
     }
 }
@@ -228,7 +234,7 @@ fn called_by_name(written: &[u8], names: &Names<'_>) -> Program {
         _ if writes_sed(written) || is_one_in(written, "%{__sed} %__sed") => Program::Sed,
         Some(name) if is_sed_variable(name) || names.may_be_sed(name) => Program::Sed,
         Some(name) if is_one_in(name, SHELL_VARIABLES) => Program::Shell,
-        Some(name) if is_one_in(name, "SUDO sudo") => Program::Wrapper(Wrapper::PREFIX),
+        Some(name) if is_one_in(name, PREFIXES) => Program::Wrapper(Wrapper::PREFIX),
         _ => Program::Other,
     }
 }
