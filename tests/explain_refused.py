@@ -44,7 +44,8 @@ CLOSED = "a group is written `\\(` and `\\)`, and it is closed before a referenc
 QUOTED = "`'\\''` is how the shell writes one `'` in its quotes: write `'`"
 EACH = "for `/a\\|b/p` write `/a/b do`, `/b/b do`, `b on`, `:do`, `p` and `:on` on lines of their own"
 AGAIN = "a group may be repeated again, as in `\\(a\\{2\\}\\)*`"
-DELIMITED = "end each part with the delimiter, on the same line: `s/a/b/`; a newline, a backslash or a byte above 127 can't be the delimiter"
+DELIMITED = ("end each part with the delimiter, on the same line: `s/a/b/`, and write a newline as `\\n`; a newline, a backslash or a byte above 127 can't "
+             "be the delimiter")
 LETTERS = "to change whole lines write `y/abc../ABC../` with the whole alphabet"
 NAME = "write the name after a blank; it goes on to the end of the line"
 LABEL = "a label consists of letters, digits, `_`, `.` and `-`"
@@ -121,7 +122,8 @@ REFUSED = [
     (b"s/a/\\x41/\n", 1, 5, "bad-replacement", NO_PART, "write the byte itself, but a newline as `\\n`, `&` as `\\&`, a backslash as `\\\\`, "
      "and the delimiter after a backslash"),
     (b"s/a/\\q/\n", 1, 5, "bad-replacement", NO_PART, "write the character without the backslash"),
-    (b"s/a/b/I\n", 1, 7, "bad-flag", NO_FLAG, "for `s/hello/x/I` write `s/[hH][eE][lL][lL][oO]/x/`, if the expression has no reference"),
+    (b"s/a/b/I\n", 1, 7, "bad-flag", NO_FLAG,
+     "for `s/hello/x/I` write `s/[hH][eE][lL][lL][oO]/x/`, if the expression has no reference; in UTF-8 `I` also takes U+0131 for an `i` and U+017F for an `s`"),
     (b"s/a/b/e\n", 1, 7, "bad-flag", NO_FLAG, "POSIX sed can't run other programs: do it outside the script"),
     (b"s/a/b/gM\n", 1, 8, "bad-flag", NO_FLAG,
      SEVERAL),
@@ -146,6 +148,8 @@ REFUSED = [
      "`$a\\` adds a missing last newline, but only in GNU sed: add it before sed; for a text write `a\\` and the text on the next line"),
     (b"0rx\n", 1, 1, "bad-address", NO_ADDRESS, "`0r` is an extension of GNU sed: put the file before the output, as in `sed .. | cat FILE -`"),
     (b"1,2,3p\n", 1, 4, "unknown-command", NO_VERB, "a command has at most two addresses"),
+    (b"p;,3p\n", 1, 3, "unknown-command", NO_VERB, "write an address before the comma, as in `1,5p`"),
+    (b"2,/x/~3p\n", 1, 6, "unknown-command", NO_VERB, "GNU sed refuses this, too: only a line number comes before `~`, as in `0~3`"),
     (b"s/a/b/w\n", 1, 7, "missing-name", "the file name is missing", NAME),
     (b"p;r\n", 1, 3, "missing-name", "the file name is missing", NAME),
     (b":\n", 1, 2, "bad-label", "a label is missing, or has a byte that a label can't have", LABEL),

@@ -37,7 +37,8 @@ pub fn script_hint(fault: ScriptFault, spot: Spot) -> Option<&'static str> {
             Some("split the script into several that run one after another")
         }
         ScriptFault::Unterminated { .. } => Some(
-            "end each part with the delimiter, on the same line: `s/a/b/`; a newline, a backslash or a byte above 127 can't be the delimiter",
+            "end each part with the delimiter, on the same line: `s/a/b/`, and write a newline as `\\n`; a newline, a backslash or a byte above 127 can't \
+                be the delimiter",
         ),
         ScriptFault::MissingName { .. } => Some(
             "write the name after a blank; it goes on to the end of the line",
@@ -83,6 +84,8 @@ fn command_hint(spot: Spot) -> Option<&'static str> {
         b'$' if spot.follows("$") => Some(
             "in a makefile `$$` becomes one `$`: write one, or check the script that the shell passes on",
         ),
+        b',' if spot.follows("!") => Some("a `!` follows the last address: write `/x/,5!p`"),
+        b',' if has_no_address(spot) => Some("write an address before the comma, as in `1,5p`"),
         b'Q' => Some(quit_hint(spot)),
         b'T' if is_turned_test(spot) => Some("for `T end`, `b again` and `:end` write `t again`"),
         verb => verb_hint(verb),
@@ -148,7 +151,8 @@ fn verb_hint(verb: u8) -> Option<&'static str> {
                 after it, and in UTF-8 stops at a byte that is no character",
         ),
         b'I' => Some(
-            "for `/hello/I` write `/[hH][eE][lL][lL][oO]/`, if the expression has no reference",
+            "for `/hello/I` write `/[hH][eE][lL][lL][oO]/`, if the expression has no reference; in UTF-8 `I` also takes U+0131 for an `i` and U+017F for \
+                an `s`",
         ),
         b'M' => Some(LINES),
         b'e' => Some("POSIX sed can't run other programs: do it outside the script"),
@@ -424,7 +428,8 @@ fn replacement_hint(rest: &[u8]) -> &'static str {
 fn flag_hint(rest: &[u8]) -> &'static str {
     match byte_at(rest, 0) {
         b'I' | b'i' =>
-            "for `s/hello/x/I` write `s/[hH][eE][lL][lL][oO]/x/`, if the expression has no reference",
+            "for `s/hello/x/I` write `s/[hH][eE][lL][lL][oO]/x/`, if the expression has no reference; in UTF-8 `I` also takes U+0131 for an `i` and \
+                U+017F for an `s`",
         b'e' => "POSIX sed can't run other programs: do it outside the script",
         b'm' | b'M' => LINES,
         b'"' | b'\'' => QUOTES,

@@ -1,13 +1,17 @@
 //! What to write in place of `first~step`, an address of GNU sed: each `n` goes on by a line.
 
-use crate::bytes::{DIGITS, before_any, byte_at, from_verb, without_blanks};
+use crate::bytes::{DIGITS, before_any, byte_at, from_verb, is_among, without_blanks};
 use sedck_report::skipped;
 
-/// By what ends with the digits before the `~`, and by what follows it. Nothing for an end of a range, nor for a range that begins so.
+/// By what ends with the digits before the `~`, and by what follows it. Nothing for an end of a range, nor for a range or another step that
+/// begins so.
 pub(crate) fn multiples_hint(before: &[u8], behind: &[u8]) -> Option<&'static str> {
     let opening = before_any(before, DIGITS);
+    if opening.len() == before.len() {
+        return Some("GNU sed refuses this, too: only a line number comes before `~`, as in `0~3`");
+    }
     let verb = byte_at(from_verb(behind), 0);
-    if before_any(opening, " \t").ends_with(b",") || verb == b',' {
+    if before_any(opening, " \t").ends_with(b",") || is_among(verb, ",~") {
         return None;
     }
     let first = number_in(skipped(before, opening.len()));

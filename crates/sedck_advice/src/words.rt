@@ -116,7 +116,7 @@ pub(crate) fn inner_hint(spot: Spot) -> &'static str {
     }
     if !spot.is_replaced() {
         return "`\\B` wants a byte of a word on both sides, or on none: for `/\\BWORD/` write `/[[:alnum:]_]WORD/`, and so for `WORD\\B`, if each \
-            match of WORD has a letter, a digit or `_` on that side";
+            match of WORD has a letter, a digit or `_` on that side; in UTF-8 each byte must be of a character";
     }
     if spot.replacement() == b",&".as_slice() {
         return "for commas in numbers that stand alone write `s/\\(.*[0-9]\\)\\([0-9]\\{3\\}\\)/\\1,\\2/` as often as a line may need one, without a \
@@ -128,10 +128,12 @@ pub(crate) fn inner_hint(spot: Spot) -> &'static str {
         Copies::Groups => GROUPS,
         Copies::Nothing =>
             "`\\B` wants a byte of a word on both sides, or on none: for `s/\\BWORD/NEW/` write `s/\\([[:alnum:]_]\\)WORD/\\1NEW/`, and so for \
-                `WORD\\B`, if each match of WORD has a letter, a digit or `_` on that side",
+                `WORD\\B`, if each match of WORD has a letter, a digit or `_` on that side; in UTF-8 each byte \
+                must be of a character",
         Copies::Whole =>
             "`\\B` wants a byte of a word on both sides, or on none: for `s/\\BWORD/X&/` write `s/\\([[:alnum:]_]\\)\\(WORD\\)/\\1X\\2/`, and so for \
-                `WORD\\B`, if each match of WORD has a letter, a digit or `_` on that side",
+                `WORD\\B`, if each match of WORD has a letter, a digit or `_` on that side; in UTF-8 each byte \
+                must be of a character",
     }
 }
 
