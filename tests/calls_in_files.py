@@ -600,7 +600,7 @@ def folders():
         if status != 4 or b"not all of its names can be read" not in err:
             fail("a name that isn't UTF-8: %d %r" % (status, err))
         status, out, err = run(folder, "--format", "gcc", "--calls", b"b/\xff.sh")
-        if (status, err) != (4, b"sedck-explain: cannot read b/?.sh: its name is not UTF-8; give the file as standard input\n"):
+        if (status, err) != (4, b"sedck-explain: cannot read b/?FF.sh: its name is not UTF-8; give the file as standard input\n"):
             fail("a file whose name isn't UTF-8: %d %r" % (status, err))
         done = subprocess.run([PROGRAM, "--format", "json", "--calls", "-"], input=b"sed p\n", capture_output=True)
         if done.returncode != 0 or json.loads(done.stdout.splitlines()[0])["words"] != ["p"]:

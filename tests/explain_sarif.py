@@ -139,6 +139,7 @@ def check_columns(tools):
 def check_unreadable(tools):
     """A script that can't be read has a run without results, and a notification that says why."""
     for words, uri, message in ((["gone.sed"], "gone.sed", "cannot read gone.sed: no such file"),
+                                ([b"u\xe9\xff %.sed"], "u%E9%FF%20%25.sed", "cannot read u?E9?FF %.sed: its name is not UTF-8; give the file as standard input"),
                                 (["--cert", "gone.cert", "c.sed"], "c.sed", "cannot read gone.cert: no such file"),
                                 (["--sed", "--", "-f", "gone.sed"], "sed", "cannot read gone.sed: no such file")):
         status, text, errors = tools.explain("--format", "sarif", *words)

@@ -121,7 +121,7 @@ def check_scripts(tools):
     tools.same("control characters", tools.explain("a\x1b[31m\nb"), (4, b"", b"sedck-explain: cannot read a?[31m?b: no such file\n"))
     tools.same("a control character of two bytes", tools.explain("a\u009bb"), (4, b"", b"sedck-explain: cannot read a?b: no such file\n"))
     tools.same("a name that isn't UTF-8", tools.explain(b"u\xe9\xff.sed", "s.sed"),
-               (4, one + b"2 scripts: 1 accepted, 1 not readable\n", b"sedck-explain: cannot read u??.sed: its name is not UTF-8; give the file as standard input\n"))
+               (4, one + b"2 scripts: 1 accepted, 1 not readable\n", b"sedck-explain: cannot read u?E9?FF.sed: its name is not UTF-8; give the file as standard input\n"))
     tools.same("the same of a call", tools.explain("--sed", "--", "-f", b"u\xe9.sed"),
                (4, b"", b"sedck-explain: cannot read a file of -f: its name is not UTF-8; give the file as standard input\n"))
     tools.same("an empty name", tools.explain(""), (4, b"", b"sedck-explain: cannot read : no such file\n"))
@@ -168,7 +168,7 @@ def check_unreadable(tools):
     for path, words, shown, reason in (
             ("gone.sed", ["gone.sed"], "gone.sed", ": no such file"), ("folder", ["folder"], "folder", ": it is a directory"),
             ("s.sed", ["--cert", "gone.cert", "s.sed"], "gone.cert", ": no such file"), ("a\nb", ["a\nb"], "a?b", ": no such file"),
-            ("u\0.sed", [b"u\xe9.sed"], "u?.sed", ": its name is not UTF-8; give the file as standard input"), ("\u202ex", ["\u202ex"], "?x", ": no such file")):
+            ("u\0E9.sed", [b"u\xe9.sed"], "u?E9.sed", ": its name is not UTF-8; give the file as standard input"), ("\u202ex", ["\u202ex"], "?x", ": no such file")):
         message = "cannot read " + shown + reason
         status, report, errors = tools.explain("--format", "json", *words)
         tools.same("unreadable %r" % path, (status, errors), (4, ("sedck-explain: %s\n" % message).encode()))

@@ -57,7 +57,7 @@ pub fn ended<E: Sink>(err: &mut E, fault: Unexplained) -> Status
 /// Files are opened by names of text alone; what standard input is has no name.
 pub const NOT_UTF_8: &str = "its name is not UTF-8; give the file as standard input";
 
-/// Why the file at the path can't be read. A path has NUL where it isn't UTF-8.
+/// Why the file at the path can't be read. A path has NUL before the two digits of a byte where it isn't UTF-8.
 pub fn why_unread<O: Opener>(files: &O, path: &str) -> Option<&'static str> {
     if path.contains('\0') {
         Some(NOT_UTF_8)

@@ -8,8 +8,8 @@ use std::rt::Env;
 /// The words after the program's name.
 #[derive(Drop)]
 pub struct Words {
-    /// Those of the program itself. A byte that isn't a part of UTF-8 becomes NUL, which no word of a command line has: so a path with
-    /// such a byte is refused by itself, and the other scripts are explained.
+    /// Those of the program itself. A byte that isn't a part of UTF-8 becomes NUL, which no word of a command line has, and two digits: so
+    /// a path with such a byte is refused by itself, and the other scripts are explained.
     pub own: Vec<String>,
     /// Those of a call of sed: they follow the first `--` after `--sed`.
     pub call: Option<Vec<Vec<u8>>>,
@@ -54,13 +54,13 @@ fn argument<R: Env + AllocGlobal>(rt: &R, index: usize) -> Result<Option<Vec<u8>
     Err(AllocError)
 }
 
-/// The bytes as text, with NUL for each byte that isn't a part of UTF-8.
+/// The bytes as text, with NUL and two hexadecimal digits for each byte that isn't a part of UTF-8.
 fn decoded(alloc: Global, bytes: &[u8]) -> Result<String, AllocError> {
     let mut word = String::new(alloc);
     for chunk in bytes.utf8_chunks() {
         word.push_str(chunk.valid())?;
-        for _ in chunk.invalid() {
-            word.push('\0')?;
+        for byte in chunk.invalid() {
+            word.push_str(format!(in alloc; "\0{byte:02X}")?.as_str())?;
         }
     }
     Ok(word)

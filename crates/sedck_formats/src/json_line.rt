@@ -20,7 +20,8 @@ use std::alloc::{AllocError, Global};
 
 /// The object on a line, in ASCII, with the findings of at least this level.
 ///
-/// - `file`: the script's path, or the name of the call. A byte that isn't a part of UTF-8 is `\0`, which no path has.
+/// - `file`: the script's path, or the name of the call. A byte that isn't a part of UTF-8 is `\0`, which no path has, and its two
+///   digits.
 /// - `status`: the exit status for this script: 0 for accepted, 1 for rejected, a loop or denied, 2 for a refused text or a script
 ///   that isn't judged, 4 for a script that can't be read.
 /// - `answer`: `accepted`, `denied`, `rejected`, `loop`, `script-refused`, `certificate-refused`, `not-judged` or `unreadable`.

@@ -239,10 +239,16 @@ const ESCAPED: AsciiSet = ascii_set!(
         .remove(b'/')
 );
 
-/// The path as an address: relative, or of the scheme `file` where it begins with `/`.
+/// The path as an address: relative, or of the scheme `file` where it begins with `/`. A path has NUL before the two digits of each byte
+/// that isn't a part of UTF-8, and an address `%`.
 fn uri_of(alloc: Global, path: &str) -> Result<String, AllocError> {
     let scheme = if path.starts_with('/') { "file://" } else { "" };
     let mut uri = String::from_str(alloc, scheme)?;
-    utf8_percent_encode(path, ESCAPED).append_to(&mut uri)?;
+    for (index, part) in path.split('\0').enumerate() {
+        if index > 0 {
+            uri.push('%')?;
+        }
+        utf8_percent_encode(part, ESCAPED).append_to(&mut uri)?;
+    }
     Ok(uri)
 }
