@@ -361,6 +361,12 @@ PLACES = [
     ("{ cat <<E; } > f\n$(sed p f)\nE\n", ["1:16 writes-its-input"]),
     ("for x in $(sed p f); do :; done > f\n", ["1:35 writes-its-input"]),
     ("(( 1 )); { sed p f; } > f\n", ["1:25 writes-its-input"]),
+    ("(sed p f; cd x) > f\n", ["1:19 writes-its-input"]),
+    ("(cd x; sed p) < f > f\n", ["1:21 writes-its-input"]),
+    ("(cd x; sed p /f) > /f\n", ["1:20 writes-its-input"]),
+    ("{ cd x; cd ..; sed p f; } > f\n", ["1:29 writes-its-input"]),
+    ("(cd \"$d\" && sed p f) > f\n", ["1:24 writes-its-input"]),
+    ("(cd x; (sed p f) > f)\n", ["1:20 writes-its-input"]),
 ] + [(text + "\n", []) for text in (
     "sed p f 2>> f", "sed p f > f.new", "sed p f >&2", "sed p f | cat > f", "find . -exec sed p {} \\; >> {}", "sed p f >> f > g", "sed p f >> f >&2", "sed p < f < g >> f",
     "sed p f < g >> g", "xargs sed -e p -- < f >> f", "sed p \"d/$(a)\" > \"d/$(a)\"", "sed p F > f", "sed p f <<< f > g", "sed p f 3>> f", "sed p f 0<> f",
@@ -368,6 +374,7 @@ PLACES = [
     "{ sed p; } < f", "{ :; } > f; sed p f", "sed p f; { :; } > f", "{ sed p < g; } < f > f", "{ sed p f; } > g; { :; } > f",
     "sed 'r g' h >> f", "env -C x sed p f > f", "chroot /m sed p f > f", "find x -execdir sed p f \\; > f",
     "a | (b)\n> f\nsed p f", "{ sed p f; } >&2", "{ { sed p f; } | cat; } >> f", "run() { sed p f; }\n{ run; } > f",
+    "(cd x && sed p f) > f", "if CDPATH= cd a/b; then sed p < f; fi >> f",
 )]
 
 

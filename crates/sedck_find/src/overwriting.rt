@@ -132,13 +132,21 @@ fn is_read(
     }
 }
 
-/// The path that the word of a redirection is. What its variables have is no matter of the call's words.
+/// The path that the word of a redirection is. What its variables have is no matter of the call's words. A path from another folder has
+/// bytes 0 before it, so that it is none from the folder of the call.
 fn path_at(filler: &mut Filler<'_>, word: &ShellWord) -> Result<Option<Vec<u8>>> {
-    let (count, cases) = (filler.followed.len(), filler.cases);
+    let (count, cases, is_elsewhere) = (filler.followed.len(), filler.cases, word.is_elsewhere);
     let word = filler.word(word, &word.units)?;
     filler.followed.truncate(count);
     filler.cases = cases;
-    written_path(filler.names, &word.traced)
+    match written_path(filler.names, &word.traced)? {
+        Some(path) if is_elsewhere && !path.starts_with(b"/") => {
+            let mut marked = Vec::from_slice(filler.names.alloc, &[0, 0])?;
+            marked.extend_from_slice(&path)?;
+            Ok(Some(marked))
+        }
+        path => Ok(path),
+    }
 }
 
 /// The path that these bytes are, in which names of variables are between bytes 0; none where what is unknown may be something else at

@@ -12,6 +12,8 @@ pub struct ShellWord {
     /// Whether a part of it is quoted.
     pub is_quoted: bool,
     pub pattern: Pattern,
+    /// Whether it is a file's name, and the command runs in another folder than that for which it is meant.
+    pub is_elsewhere: bool,
 }
 
 /// Whether a word is a pattern, in whose place the names of files come that match it (XCU 2.6.6).
@@ -77,6 +79,16 @@ impl ShellCommand {
             made: Vec::new(alloc),
         }
     }
+
+    /// If it changes the folder: whether it surely goes to another one, which is below.
+    pub(crate) fn goes_below(&self) -> Option<bool> {
+        let mut words = self.words.iter();
+        let name = words.find(|word| !word.is("command") && !word.has_equals())?;
+        if name.is("cd") {
+            return Some(words.next().is_some_and(|folder| folder.is_below()));
+        }
+        (name.is("pushd") || name.is("popd")).then_some(false)
+    }
 }
 
 impl ShellWord {
@@ -87,8 +99,23 @@ impl ShellWord {
             start: 0,
             is_quoted: false,
             pattern: Pattern::None,
+            is_elsewhere: false,
         }
     }
+
+    /// Whether it may be an assignment.
+    fn has_equals(&self) -> bool {
+        self.units.iter().any(|unit| unit.byte() == Some(b'='))
+    }
+
+    /// Whether it is the path of a folder below.
+    fn is_below(&self) -> bool {
+        let mut bytes = self.units.iter().map(|unit| unit.byte());
+        let is_name = |byte: u8| byte.is_ascii_alphanumeric() || byte == b'_';
+        bytes.next().flatten().is_some_and(is_name)
+            && bytes.all(|byte| byte.is_some_and(|byte| is_name(byte) || b"-/".contains(&byte)))
+    }
+
     /// Whether it has these bytes.
     pub fn is(&self, text: &str) -> bool {
         is_text(&self.units, text)

@@ -97,6 +97,8 @@ pub(crate) struct Around {
     pub has_input: bool,
     /// The same of its standard output.
     pub has_output: bool,
+    /// Of a group, from where on its commands surely run in another folder; the greatest number where some change it and that isn't known.
+    pub moved: Option<usize>,
 }
 
 /// What is being read within what encloses it.

@@ -70,6 +70,8 @@ pub(crate) fn inherit(
 ) -> Result<usize> {
     let mut left = left;
     let mut around = draft.around.group;
+    let start = draft.command.words.first().map_or(0, |word| word.start);
+    let mut is_moved = false;
     for _ in 0..DEPTH {
         let Some(group) = around.and_then(|number| groups.get(number)) else {
             break;
@@ -81,34 +83,35 @@ pub(crate) fn inherit(
         if left == 0 {
             break;
         }
-        inherit_from(alloc, group, draft)?;
+        is_moved = is_moved || group.around.moved.is_some_and(|at| at < start);
+        inherit_from(alloc, group, draft, is_moved)?;
     }
     Ok(left)
 }
 
-/// Gives a command all files that a group opens, and its input and output where the command has no others.
-fn inherit_from(alloc: Global, group: &Draft, draft: &mut Draft) -> Result<()> {
+/// Gives a command, which may have moved to another folder, all files that a group opens, and its input and output where it has no others.
+fn inherit_from(alloc: Global, group: &Draft, draft: &mut Draft, is_moved: bool) -> Result<()> {
     let count = draft.command.targets.len();
     if !draft.around.has_output {
         draft.output = group.output.map(|number| number.saturating_add(count));
     }
     for target in &group.command.targets {
         draft.command.targets.push(Target {
-            word: copied(alloc, &target.word)?,
+            word: copied(alloc, &target.word, is_moved)?,
             is_emptied: target.is_emptied,
             is_output: false,
         })?;
     }
     if let (false, Some(word)) = (draft.around.has_input, &group.command.source) {
-        draft.command.source = Some(copied(alloc, word)?);
+        draft.command.source = Some(copied(alloc, word, is_moved)?);
     }
     draft.around.has_input |= group.around.has_input;
     draft.around.has_output |= group.around.has_output;
     Ok(())
 }
 
-/// The same word.
-fn copied(alloc: Global, word: &ShellWord) -> Result<ShellWord> {
+/// The same word, for a command that may have moved to another folder.
+fn copied(alloc: Global, word: &ShellWord, is_moved: bool) -> Result<ShellWord> {
     let mut units = Vec::new(alloc);
     units.extend_from_slice(&word.units)?;
     Ok(ShellWord {
@@ -116,5 +119,6 @@ fn copied(alloc: Global, word: &ShellWord) -> Result<ShellWord> {
         start: word.start,
         is_quoted: word.is_quoted,
         pattern: word.pattern,
+        is_elsewhere: is_moved,
     })
 }

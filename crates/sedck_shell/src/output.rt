@@ -111,6 +111,7 @@ fn finished(alloc: Global, output: Output) -> Result<ShellText> {
 impl Output {
     /// Gives the commands the redirections of the groups around them, and notes where that ends, and the texts that weren't read.
     fn end(&mut self, alloc: Global) -> Result<()> {
+        self.note_moves();
         let mut left = COPIED;
         for draft in &mut self.commands {
             let is_more = left > 0;
@@ -128,6 +129,21 @@ impl Output {
             }
         }
         Ok(())
+    }
+
+    /// Notes of each group from where on its commands surely run in another folder: after one `cd` alone.
+    fn note_moves(&mut self) {
+        let groups = &mut self.groups;
+        for draft in &self.commands {
+            if let Some(is_below) = draft.command.goes_below()
+                && let Some(first) = draft.command.words.first()
+                && let Some(number) = draft.around.group
+                && let Some(group) = groups.get_mut(number)
+            {
+                let is_known = is_below && group.around.moved.is_none();
+                group.around.moved = Some(if is_known { first.start } else { usize::MAX });
+            }
+        }
     }
 }
 
