@@ -22,6 +22,9 @@ const CASE: &str = "before it in the shell: case $value in '' | *[!A-Za-z0-9_]*)
 const DASHES: &str =
     "give the script with -e, and put -- before the operands: sed -e p -- \"$file\"";
 
+/// The same of a value that is there before a shell reads the text, as one of make.
+const MADE: &str = "make sure of it where it is set, or write the value in its place";
+
 /// How a call says which sed runs.
 const NAMED: &str = "write the name of the sed, or quote the variable that has it";
 
@@ -64,7 +67,7 @@ fn open_warning(
 {
     let Hole { start, end, .. } = hole.hole;
     let message = hole_words(alloc, file, hole)?;
-    let hint = Some(hint_of(hole.role));
+    let hint = Some(hint_of(hole));
     let mut finding = call_finding(alloc, Level::Warning, Code::OpenHole, message, hint);
     finding.position = Some(places.place_offset(start));
     finding.end = Some(places.place_offset(end));
@@ -295,14 +298,15 @@ fn words_of_way(way: Way, role: Role) -> &'static str {
 }
 
 /// How the call is mended.
-fn hint_of(role: Role) -> &'static str {
-    match role {
+fn hint_of(hole: OpenHole) -> &'static str {
+    match hole.role {
         Role::Word | Role::Pattern => "quote it",
         Role::Operand | Role::Names | Role::Added => DASHES,
         Role::Options => "write the options before the operands",
         Role::Sed => NAMED,
         Role::Runner => "write what runs the sed",
         Role::Delimiter { .. } => DELIMITER,
+        _ if hole.hole.way.is_made() => MADE,
         _ => CASE,
     }
 }
@@ -362,7 +366,7 @@ pub(crate) fn unread_warning(
 {
     let words = (
         "what begins here isn't understood, and calls of sed in it or after it may be missed",
-        "close what is open, or write the call where it can be read",
+        "close what is open, if anything is, or write the call where it can be read",
     );
     warning_at(alloc, file, position, Code::NotUnderstood, words)
 }
