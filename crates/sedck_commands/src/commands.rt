@@ -91,8 +91,8 @@ fn check_verb<'a>(
 /// Whether the verb may be where this many blocks are open: no `}` may be right after its label inside of two of them.
 fn check_brace(verb: &Written, depth: usize) -> Result<(), ScriptFault>
     ensures allowed { OnOk result (MayBeBraced (is_braced (written_verb verb.now)) depth) }
-    ensures first { IfErr result (λ fault. (tests : Bool) × (label : Option (List ℕ)) × (written_verb verb.now ≡ JumpTo tests label true) × (2 ≤ depth)
-        × ((offset : ℕ) → IsBracedAt offset verb.now → fault ≡ ScriptFault.BadLabel offset)) }
+    ensures first { IfErr result (λ fault. (tests : Bool) × (label : Option (List ℕ)) × (written_verb verb.now ≡ JumpTo tests label true)
+        × (2 ≤ depth) × ((offset : ℕ) → IsBracedAt offset verb.now → fault ≡ ScriptFault.BadLabel offset)) }
 {
     if let Written::JumpTo(jump) = verb {
         if let (Some(place), 2..) = (jump.brace, depth) {

@@ -98,7 +98,8 @@ fn read_expression<'a>(
     requires delimiter { IsTrue (is_delimiter delimiter) }
     ensures read { IfOk result (λ x. DelimitedExpression delimiter (unread text.entry) (cow_slice_items x.0) (unread x.2)) }
     ensures same { IfOk result (λ x. x.2.whole ≡ text.entry.whole) }
-    ensures escape { IfOk result (λ x. IsFirstEscape delimiter text.entry.whole.now (unread text.entry) (cow_slice_items x.0) (delimiter ∷ (unread x.2)) x.1) }
+    ensures escape { IfOk result (λ x.
+        IsFirstEscape delimiter text.entry.whole.now (unread text.entry) (cow_slice_items x.0) (delimiter ∷ (unread x.2)) x.1) }
     ensures first { IfErr result (λ fault. IsOfText fault → CutFault (length text.entry.whole.now) opening delimiter (unread text.entry) fault) }
 {
     let mut rest = text;
@@ -133,7 +134,8 @@ fn read_replaced<'a>(
     requires written { IsWrittenUpTo delimiter text behind_written }
     ensures read { IfOk result (λ x. DelimitedExpression delimiter (unread text.entry) (cow_slice_items x.0) (unread x.2)) }
     ensures same { IfOk result (λ x. x.2.whole ≡ text.entry.whole) }
-    ensures escape { IfOk result (λ x. IsFirstEscape delimiter text.entry.whole.now (unread text.entry) (cow_slice_items x.0) (delimiter ∷ (unread x.2)) x.1) }
+    ensures escape { IfOk result (λ x.
+        IsFirstEscape delimiter text.entry.whole.now (unread text.entry) (cow_slice_items x.0) (delimiter ∷ (unread x.2)) x.1) }
     ensures first { IfErr result (λ fault. IsOfText fault → CutFault (length text.entry.whole.now) opening delimiter (unread text.entry) fault) }
 {
     let written = &text.unread()[..behind_written.offset() - text.offset()];

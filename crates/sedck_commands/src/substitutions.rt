@@ -103,7 +103,8 @@ pub fn read_transliteration<'a>(
     ensures read { IfOk result (λ x. VerbText (ascii "y" ∷ unread text.entry) (written_verb x.0) (unread x.1)) }
     ensures same { IfOk result (λ x. x.1.whole ≡ text.entry.whole) }
     ensures no_label { IfOk result (λ x. (name : List ℕ) → written_verb x.0 ≢ Known (clean.Label name)) }
-    ensures first { IfErr result (λ fault. IsOfText fault → TransliterationFault (length text.entry.whole.now) (text.entry.at - 1) (unread text.entry) fault) }
+    ensures first { IfErr result (λ fault. IsOfText fault
+        → TransliterationFault (length text.entry.whole.now) (text.entry.at - 1) (unread text.entry) fault) }
     ensures brace { IfOk result (λ x. IsBracedAt x.1.at x.0) }
     ensures jump { IfOk result (λ x. IsJumpIn (length text.entry.whole.now) (unread text.entry) x.0) }
 {

@@ -102,8 +102,8 @@ pub(crate) fn read_single<'a>(
     requires going { at_end (unread cursor) ≡ false }
     requires other { begins_pair 40 (unread cursor) ≡ false }
     ensures value { (inner : List ℕ → Result (Trees × List ℕ) Stop) (deep opened : ℕ) (closed : List ℕ) → ClosedIs groups.now.closed closed
-        → Gives (λ x. (tree x.0, unread x.1)) (length cursor.entry.whole.now) result (atom full inner (level_of depth) (position_of position) deep opened closed
-        (unread cursor.entry)) }
+        → Gives (λ x. (tree x.0, unread x.1)) (length cursor.entry.whole.now) result
+        (atom full inner (level_of depth) (position_of position) deep opened closed (unread cursor.entry)) }
     ensures groups { IfOk result (λ x. groups_in (tree x.0) ≡ []) }
     ensures shorter { IfOk result (λ x. length (unread x.1) < length (unread cursor.entry)) }
     ensures same { IfOk result (λ x. x.1.whole ≡ cursor.entry.whole) }
@@ -155,8 +155,8 @@ fn read_escape<'a>(
 /// What a byte after a backslash stands for, where it opens no group.
 fn read_escaped(position: Position, start: usize, groups: &Groups, byte: u8) -> Result<Bre, ReFault>
     requires other { byte ≢ 40 }
-    ensures value { (inner : List ℕ → Result (Trees × List ℕ) Stop) (deep opened size : ℕ) (closed rest : List ℕ) → ClosedIs groups.now.closed closed
-        → start + 2 + length rest ≡ size
+    ensures value { (inner : List ℕ → Result (Trees × List ℕ) Stop) (deep opened size : ℕ) (closed rest : List ℕ)
+        → ClosedIs groups.now.closed closed → start + 2 + length rest ≡ size
         → Gives (λ x. (tree x, rest)) size result (escaped full inner (position_of position) deep opened closed byte rest) }
     ensures groups { IfOk result (λ x. groups_in (tree x) ≡ []) }
     ensures place { IfErr result (λ fault. (whole : List ℕ) → HasOneAt whole start "\\" → IsPlaced whole fault) }

@@ -60,7 +60,8 @@ fn opens_list(cursor: Cursor<'_>) -> bool
 /// The cursor after a bracket list.
 fn after_list<'a>(cursor: Cursor<'a>) -> Cursor<'a>
     ensures same { result.whole ≡ cursor.entry.whole }
-    ensures left { (bytes text after : List ℕ) → unread cursor.entry ≡ text ++ after → IsBracketList text bytes → bytes ≢ [] → unread result ≡ after }
+    ensures left { (bytes text after : List ℕ) → unread cursor.entry ≡ text ++ after → IsBracketList text bytes → bytes ≢ []
+        → unread result ≡ after }
 {
     if !opens_list(cursor) {
         return cursor;

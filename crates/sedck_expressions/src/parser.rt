@@ -93,7 +93,8 @@ fn read_item<'a>(
         (position_of position) depth groups.old.opened closed (unread cursor.entry)) }
     ensures few { groups.new.opened ≤ 99 }
     ensures opened { IfOk result (λ x. groups.new.opened ≡ groups.old.opened + length (groups_in (tree x.0))) }
-    ensures closed { (closed : List ℕ) → ClosedIs groups.old.closed closed → IfOk result (λ x. ClosedIs groups.new.closed (closed ++ groups_in (tree x.0))) }
+    ensures closed { (closed : List ℕ) → ClosedIs groups.old.closed closed
+        → IfOk result (λ x. ClosedIs groups.new.closed (closed ++ groups_in (tree x.0))) }
     ensures shorter { IfOk result (λ x. length (unread x.1) < length (unread cursor.entry)) }
     ensures same { IfOk result (λ x. x.1.whole ≡ cursor.entry.whole) }
     ensures place { IfErr result (λ fault. IsPlaced cursor.entry.whole.now fault) }
@@ -121,7 +122,8 @@ fn read_group<'a>(
         (drop 2 (unread cursor.entry))) }
     ensures few { groups.new.opened ≤ 99 }
     ensures opened { IfOk result (λ x. groups.new.opened ≡ groups.old.opened + length (groups_in (tree x.0))) }
-    ensures closed { (closed : List ℕ) → ClosedIs groups.old.closed closed → IfOk result (λ x. ClosedIs groups.new.closed (closed ++ groups_in (tree x.0))) }
+    ensures closed { (closed : List ℕ) → ClosedIs groups.old.closed closed
+        → IfOk result (λ x. ClosedIs groups.new.closed (closed ++ groups_in (tree x.0))) }
     ensures shorter { IfOk result (λ x. length (unread x.1) < length (unread cursor.entry)) }
     ensures same { IfOk result (λ x. x.1.whole ≡ cursor.entry.whole) }
     ensures place { IfErr result (λ fault. IsPlaced cursor.entry.whole.now fault) }

@@ -70,8 +70,8 @@ fn block_target(verb: &Written, targets: &mut Vec<usize>, end: usize) -> usize
 fn label_of<'a>(item: &WrittenItem<'a>) -> Option<(&'a [u8], usize)>
     ensures none { IfNone result (item_label (item_of item.now) ≡ None) }
     ensures some { IfSome result (λ x. item_label (item_of item.now) ≡ Some x.0.now) }
-    ensures command { IfSome result (λ x. (command : WrittenCommand) × (item.now ≡ WrittenItem.Command command) × ((text : List ℕ) → IsItemAt text item.now
-        → LabelBeginsAt (length text) (drop (command.location.verb + 1) text) x.0.now x.1)) }
+    ensures command { IfSome result (λ x. (command : WrittenCommand) × (item.now ≡ WrittenItem.Command command)
+        × ((text : List ℕ) → IsItemAt text item.now → LabelBeginsAt (length text) (drop (command.location.verb + 1) text) x.0.now x.1)) }
 {
     let WrittenItem::Command(command) = item else {
         return None;
