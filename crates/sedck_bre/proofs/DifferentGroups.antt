@@ -1,9 +1,6 @@
 -- Outside of different groups that are items of the expression, however many there are, a match has a least rest.
-use Rattle.sedck_bre.proofs.Common.{◌≡◌, min, ℕ, zero, suc, ◌+◌, ◌≤◌, Bool, true, false, List, [], ◌∷◌, filter, length, refl, sym, ◌∙◌, arith, bit_at, false≢true, nat_tests, Tree, Trees, Seq, groups_in_all, is_in, Groups, no_groups, WideMatch, IsWellFormed, cap, IsLeastSize, HasLength, is_top_group, names, texts_length, HasRest, IsLeastRest, no_bounds, outside, CountsFrom, are_numbered}
-use Rattle.std.proofs.Common.{IsTrue}
-use Rattle.std.specs.List.{range_with_len}
-use Rattle.std.proofs.lemmas.Nat.Bits.{bit_at-zero}
-use Rattle.sedck_bre.specs.Rests.{named, NamesTopGroups}
+use Rattle.sedck_bre.proofs.Common.{◌≡◌, min, ℕ, zero, suc, ◌+◌, ◌≤◌, Bool, true, false, List, [], ◌∷◌, filter, length, refl, sym, ◌∙◌, arith, bit_at, false≢true, nat_tests, Tree, Trees, Seq, groups_in_all, is_in, Groups, no_groups, WideMatch, IsWellFormed, cap, IsLeastSize, HasLength, is_top_group, names, texts_length, HasRest, IsLeastRest, no_bounds, outside, CountsFrom, are_numbered, IsTrue, range_with_len, bit_at-zero, NamesTopGroups}
+use Rattle.sedck_bre.specs.Rests.{named}
 use Rattle.sedck_expressions.proofs.BracketSets.{below_from, in_from}
 use Rattle.sedck_bre.proofs.NamedSums.{items_sum, without, items_sum-none, items_sum-same, items_sum-split, texts_sum, sum_of-none}
 use Rattle.sedck_bre.proofs.LeastRest.{HasWideFloor, lengths, items_rest, whole_rest, least-rest, least-size}

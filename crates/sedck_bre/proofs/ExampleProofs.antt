@@ -1,10 +1,6 @@
 -- The worked examples of expressions hold.
-use Rattle.sedck_bre.proofs.Common.{◌≡◌, ℕ, List, [], ◌∷◌, ◌++◌, refl, sym, arith, inl, inr, ◌⊎◌, Tree, Byte, Group, Ref, trees, Groups, no_groups, text_of, unset, Match, MatchAll, Language, with_text, Times}
+use Rattle.sedck_bre.proofs.Common.{◌≡◌, ℕ, List, [], ◌∷◌, ◌++◌, refl, sym, arith, inl, inr, ◌⊎◌, Tree, Byte, Group, Ref, trees, Groups, no_groups, text_of, unset, Match, MatchAll, Language, with_text, Times, Ok, codes, append-nil, All, shape_of, none_of}
 use Rattle.std.proofs.Common.{Some}
-use Rattle.std.specs.Prelude.{Ok}
-use Rattle.std.specs.Prelude.{codes}
-use Rattle.std.proofs.lemmas.List.{append-nil}
-use Rattle.std.specs.Prelude.{All}
 use Rattle.std.proofs.lemmas.List.Elements.{All-nil, All-cons}
 use Rattle.sedck_bre.specs.Examples.{sequence_of, text_tree, star, spelled_texts, refused_texts, two_or_three, any_number, nested, ExamplesHold}
 use Rattle.sedck_expressions.specs.Reading.{read, items}
@@ -12,7 +8,6 @@ use Rattle.sedck_expressions.specs.BracketReading.{bracket_at, elements_at, hold
 use Rattle.sedck_expressions.specs.IntervalReading.{interval_at}
 use Rattle.sedck_expressions.specs.FirstFault.{full, first_fault}
 use Rattle.sedck_bre.proofs.LeastFloor.{least-floor}
-use Rattle.sedck_expressions.proofs.WholeReading.{shape_of, none_of}
 
 -- a group with a text of two bytes
 group_ab : (k a b : ℕ) (e : Groups) → Match (Group k (text_tree (a ∷ b ∷ []))) e (a ∷ b ∷ []) (with_text e k (a ∷ b ∷ []))

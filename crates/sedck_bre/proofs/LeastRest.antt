@@ -1,9 +1,6 @@
 -- The least length outside of groups that are items: no match has less, and a shortest match has it.
-use Rattle.sedck_bre.proofs.Common.{◌≡◌, min, ℕ, ◌+◌, ◌<◌, ◌≤◌, Bool, List, [], length, inl, refl, ap, subst, ◌∙◌, arith, length-append, unwrap_or, nat_tests, Tree, Trees, Group, Seq, Nil, Then, groups_in, groups_in_all, Groups, no_groups, text_of, with_text, WideMatch, WideMatchAll, IsWellFormed, texts_length, HasRest, IsLeastRest, Bounds, no_bounds, least, after, least_all, after_all, CountsFrom, cap, IsLeastSize, CountsFrom-left, CountsFrom-right, beside_row, are_numbered}
-use Rattle.std.proofs.Common.{◌-◌}
-use Rattle.std.specs.Prelude.{Some}
+use Rattle.sedck_bre.proofs.Common.{◌≡◌, min, ℕ, ◌+◌, ◌<◌, ◌≤◌, Bool, List, [], length, inl, refl, ap, subst, ◌∙◌, arith, length-append, unwrap_or, nat_tests, Tree, Trees, Group, Seq, Nil, Then, groups_in, groups_in_all, Groups, no_groups, text_of, with_text, WideMatch, WideMatchAll, IsWellFormed, texts_length, HasRest, IsLeastRest, Bounds, no_bounds, least, after, least_all, after_all, CountsFrom, cap, IsLeastSize, CountsFrom-left, CountsFrom-right, beside_row, are_numbered, ◌-◌, Some, own_beside, outside_picked}
 use Rattle.sedck_bre.proofs.MatchIsWide.{widens}
-use Rattle.sedck_bre.specs.Private.Bounds.{own_beside, outside_picked}
 use Rattle.sedck_bre.proofs.LeastLemmas.{FreshFrom, after-fresh, after_all-below, with_bound-same}
 use Rattle.sedck_bre.proofs.LeastFloor.{Reaches, floor, floor_all, wide-floor}
 use Rattle.sedck_bre.proofs.LeastReached.{least-met}

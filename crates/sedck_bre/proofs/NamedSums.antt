@@ -1,6 +1,5 @@
 -- A sum over the groups that a test picks: by their numbers, and by the items of an expression.
-use Rattle.sedck_bre.proofs.Common.{◌≡◌, ℕ, ◌+◌, ◌<◌, ◌≤◌, Bool, true, false, List, [], ◌∷◌, length, filter, refl, arith, if◌then◌else◌, nat_tests, Tree, Trees, Group, Nil, Then, groups_in, groups_in_all, Groups, text_of, CountsFrom, is_group, is_item, texts_length, CountsFrom-left, CountsFrom-right, false≢true}
-use Rattle.std.specs.Prelude.{◌==◌}
+use Rattle.sedck_bre.proofs.Common.{◌≡◌, ℕ, ◌+◌, ◌<◌, ◌≤◌, Bool, true, false, List, [], ◌∷◌, length, filter, refl, arith, if◌then◌else◌, nat_tests, Tree, Trees, Group, Nil, Then, groups_in, groups_in_all, Groups, text_of, CountsFrom, is_group, is_item, texts_length, CountsFrom-left, CountsFrom-right, false≢true, ◌==◌}
 
 -- the sum over the numbers that are picked
 abbrev pub sum_of : (ℕ → Bool) → (ℕ → ℕ) → List ℕ → ℕ

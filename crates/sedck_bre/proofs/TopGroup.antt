@@ -1,12 +1,6 @@
 -- The items of an expression, and whether a group is one of them.
-use Rattle.sedck_bre.proofs.Common.{◌≡◌, ℕ, false, List, [], ◌∷◌, length, length-append, map, refl, sym, ap, ◌∙◌, arith, ◌||◌, list_any, Tree, Trees, Group, Nil, Then, trees, groups_in, groups_in_all, tree, is_group, is_item, is_top_group, Bre}
-use Rattle.std.proofs.Common.{Vec, Global}
-use Rattle.sedck_expressions.specs.Tree.{group_count}
+use Rattle.sedck_bre.proofs.Common.{◌≡◌, ℕ, false, List, [], ◌∷◌, length, length-append, map, refl, sym, ap, ◌∙◌, arith, ◌||◌, list_any, Tree, Trees, Group, Nil, Then, trees, groups_in, groups_in_all, tree, is_group, is_item, is_top_group, Bre, Vec, Global, group_count, node_tree, HasTopGroups, names_zero, Bre-F, roll-Bre, out-Bre, roll-out-Bre, fold-roll-Bre}
 use Rattle.sedck_expressions.specs.Tree as spec
-use Rattle.sedck_expressions.specs.View.{node_tree}
-use Rattle.sedck_bre.specs.Private.Bounds.{HasTopGroups}
-use Rattle.sedck_expressions.proofs.PartLemmas.{names_zero}
-use Rattle.sedck_expressions.specs.declared.tree.Bre.{Bre-F, roll-Bre, out-Bre, roll-out-Bre, fold-roll-Bre}
 use Rattle.sedck_expressions.specs.declared.tree.Bre.TheVariants.{Seq, rolls-Seq}
 
 pub item_any : (k : ℕ) (xs : List Bre) → list_any (λ b. is_group k (tree b)) xs ≡ is_item k (trees (map tree xs))

@@ -1,10 +1,6 @@
 -- The bound of a steady script: its numbers, its limit, and the edges that don't grow.
-use Rattle.sedck_cert.proofs.Common.{◌≡◌, ◌≢◌, ℕ, ◌+◌, ◌<◌, List, [], ◌∷◌, ◌++◌, length, take, get_or, refl, sym, ap, ◌∙◌, arith, is_some, MatchOption, AllByRecursion, nat_cmp, common_steps, take_more, Contains-append_right, AreWellFormed, Program, ListsEdges, Flow, FlowFrom, Node, Edge, Grow, WideRun, character_run_wide, Certificate, ranks_at, IsSteady, NeverGrows, IsFirstGrowth, BoundsRuns, BoundsAllRuns, BoundsEverywhere, Bound}
-use Rattle.std.specs.Prelude.{false, Option, Some, None, max}
-use Rattle.std.specs.Ordering.{ord_max}
-use Rattle.sedck_cert.specs.Ranked.{IsGrowth}
-use Rattle.sedck_cert.specs.StepLimit.{greatest}
-use Rattle.sedck_cert.specs.Bounds.{IsBoundOf}
+use Rattle.sedck_cert.proofs.Common.{◌≡◌, ◌≢◌, ℕ, ◌+◌, ◌<◌, List, [], ◌∷◌, ◌++◌, length, take, get_or, refl, sym, ap, ◌∙◌, arith, is_some, MatchOption, AllByRecursion, nat_cmp, common_steps, take_more, Contains-append_right, AreWellFormed, Program, ListsEdges, Flow, FlowFrom, Node, Edge, Grow, WideRun, character_run_wide, Certificate, ranks_at, IsSteady, NeverGrows, IsFirstGrowth, BoundsRuns, BoundsAllRuns, BoundsEverywhere, Bound, max, ord_max, IsGrowth, greatest, IsBoundOf}
+use Rattle.std.specs.Prelude.{false, Option, Some, None}
 use Rattle.sedck_cert.proofs.SteadyRunsCounted.{steady_counted, wide_steady_counted}
 
 -- the edges are these, of which none so far grows

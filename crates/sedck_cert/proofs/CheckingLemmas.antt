@@ -1,13 +1,9 @@
 -- Edges in their order, and the first that the ranks don't meet.
-use Rattle.sedck_cert.proofs.Common.{◌≡◌, ◌≢◌, Bool, ◌<◌, ◌≤◌, List, [], ◌∷◌, ◌++◌, Contains, refl, sym, ap, ◌∙◌, subst, inl, inr, arith, is_some, MatchOption, slice_get, AllByRecursion, All-from_recursion, All-contains, Contains-append_cases, Contains-append_right, Command, Program, start, node_index, node_count, Flow, FlowFrom, ListsEdges, Node, Edge, Certificate, ranks_at, MeetsEdge, IsRanked, IsRejection, Rejection, LeavesRanked, NotLowered}
+use Rattle.sedck_cert.proofs.Common.{◌≡◌, ◌≢◌, Bool, ◌<◌, ◌≤◌, List, [], ◌∷◌, ◌++◌, Contains, refl, sym, ap, ◌∙◌, subst, inl, inr, arith, is_some, MatchOption, slice_get, AllByRecursion, All-from_recursion, All-contains, Contains-append_cases, Contains-append_right, Command, Program, start, node_index, node_count, Flow, FlowFrom, ListsEdges, Node, Edge, Certificate, ranks_at, MeetsEdge, IsRanked, IsRejection, Rejection, LeavesRanked, NotLowered, Contains-cons_cases, slice_get_within, ReadsLine, CommandEdge, IsEarlier, AreInOrder, IsStarted, IsFirstUnmet}
 use Rattle.std.specs.Prelude.{Option, Some, None, true, length}
-use Rattle.sedck_script.proofs.SortedNames.{Contains-cons_cases}
-use Rattle.std.proofs.lemmas.Option.{slice_get_within}
-use Rattle.sedck_flow.specs.Flow.{ReadsLine, CommandEdge, IsEarlier, AreInOrder}
 use Rattle.sedck_flow.proofs.NodeLemmas.{before-index, index_below}
 use Rattle.sedck_flow.proofs.EdgeOrder.{never_earlier, earlier-trans}
 use Rattle.sedck_cert.specs.Private.Checking.{IsUnmetBy, IsFirstUnmetOf, MeetsAll, JudgesEdges}
-use Rattle.sedck_cert.specs.Rejections.{IsStarted, IsFirstUnmet}
 
 -- the edges are these, in order, of which the first are met
 pub record IsUpTo (c : Certificate) (IsEdge : Edge → Type 0) (done coming : List Edge) : Type 0 where

@@ -1,10 +1,7 @@
 -- A text is cut at its first such byte in one way only, and what a decimal and such a byte begin is cut there.
-use Rattle.sedck_cert.proofs.Common.{◌≡◌, ℕ, zero, suc, ◌^◌, ◌<◌, ◌≤◌, List, [], ◌∷◌, ◌++◌, Contains, Option, Some, None, codes, append_assoc, refl, sym, ◌∙◌, ap, arith, IsInRange, All-contains, Bor, append_cancel_left, AreWithin, ranks_text, IsCut}
+use Rattle.sedck_cert.proofs.Common.{◌≡◌, ℕ, zero, suc, ◌^◌, ◌<◌, ◌≤◌, List, [], ◌∷◌, ◌++◌, Contains, Option, Some, None, codes, append_assoc, refl, sym, ◌∙◌, ap, arith, IsInRange, All-contains, Bor, append_cancel_left, AreWithin, ranks_text, IsCut, All-from_get_or, Contains-cons_more, IsBehind}
 use Rattle.std.proofs.Common.{MatchOption}
 use Rattle.std.specs.Fmt.{decimal}
-use Rattle.std.proofs.lemmas.List.Elements.{All-from_get_or}
-use Rattle.sedck_script.proofs.SortedNames.{Contains-cons_more}
-use Rattle.sedck_cert.specs.Private.Cuts.{IsBehind}
 use Rattle.sedck_cert.proofs.Decimals.{decimal-digit}
 
 -- two cuts of one text at one byte

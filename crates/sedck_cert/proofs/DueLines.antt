@@ -1,8 +1,7 @@
 -- The lines of the nodes and of the names, one more at a time.
-use Rattle.sedck_cert.proofs.Common.{◌≡◌, ℕ, suc, ◌+◌, List, [], ◌∷◌, ◌++◌, length, Option, sym, ◌∙◌, ap, subst, subst₂, arith, ◌≤◌, decimal, Vec, AreWithin, IsCut, node_text, node_texts, Version, Due, nodes_due, IsWrong, Name, list_word, ComesAfter, after_list, names_due, Leads, list_texts, Lines, Global, length-map, IsName, names_of}
+use Rattle.sedck_cert.proofs.Common.{◌≡◌, ℕ, suc, ◌+◌, List, [], ◌∷◌, ◌++◌, length, Option, sym, ◌∙◌, ap, subst, subst₂, arith, ◌≤◌, decimal, Vec, AreWithin, IsCut, node_text, node_texts, Version, Due, nodes_due, IsWrong, Name, list_word, ComesAfter, after_list, names_due, Leads, list_texts, Lines, Global, length-map, IsName, names_of, map_push}
 use Rattle.sedck_cert.specs.Faults.{Node}
 use Rattle.sedck_cert.proofs.LineLemmas.{leads_on, wrong_cuts, wrong_line}
-use Rattle.std.proofs.lemmas.List.{map_push}
 use Rattle.sedck_cert.specs.declared.reading.names.Files.{Files}
 
 -- ---- Nodes

@@ -1,8 +1,5 @@
 -- Texts of either version: one certificate at most, and none where the version that the text names has none.
-use Rattle.sedck_cert.proofs.Common.{◌≡◌, ◌⊎◌, inl, inr, ℕ, List, get_or, Bool, true, false, Result, Ok, Err, IfErr, arith, sym, ◌∙◌, ap, refl, Certificate, header, IsTextOf, upgraded, SpellsCertificate, IsFaultIn, OnFalse, ◌↔◌, IsCut, IsNext, Lines, One, Two, CertFault, OutOfMemory}
-use Rattle.std.proofs.Common.{IfOk}
-use Rattle.sedck_cert.specs.Versions.{SaysVersionOne}
-use Rattle.std.specs.Bool.{OnTrue}
+use Rattle.sedck_cert.proofs.Common.{◌≡◌, ◌⊎◌, inl, inr, ℕ, List, get_or, Bool, true, false, Result, Ok, Err, IfErr, arith, sym, ◌∙◌, ap, refl, Certificate, header, IsTextOf, upgraded, SpellsCertificate, IsFaultIn, OnFalse, ◌↔◌, IsCut, IsNext, Lines, One, Two, CertFault, OutOfMemory, IfOk, SaysVersionOne, OnTrue}
 use Rattle.std.specs.Prelude.{IsTrue}
 use Rattle.sedck_cert.proofs.LineLemmas.{line-behind}
 use Rattle.sedck_cert.proofs.LinesAreText.{header-one_line}

@@ -1,8 +1,6 @@
 -- A certificate's text ends with its lists of files, and with no others.
-use Rattle.sedck_cert.proofs.Common.{◌≡◌, inl, inr, ℕ, suc, ◌+◌, ◌<◌, ◌≤◌, ◌^◌, List, [], ◌∷◌, ◌++◌, length, Contains, decimal, codes, Option, length-append, refl, sym, ◌∙◌, ap, subst, arith, true, false, ◌/◌, flat_map, AllByRecursion, false≢true, All-from_recursion, recursion_from_All, decimal_injective, append_cancel_left, newline, AreNames, IsName, all_append, Certificate, AreWithin, header, words_in, node_text, node_texts, joined_lines, IsOneLine, IsTextOf, FileLists, file_lists, SpellsCertificate, Version, One, Two}
+use Rattle.sedck_cert.proofs.Common.{◌≡◌, inl, inr, ℕ, suc, ◌+◌, ◌<◌, ◌≤◌, ◌^◌, List, [], ◌∷◌, ◌++◌, length, Contains, decimal, codes, Option, length-append, refl, sym, ◌∙◌, ap, subst, arith, true, false, ◌/◌, flat_map, AllByRecursion, false≢true, All-from_recursion, recursion_from_All, decimal_injective, append_cancel_left, newline, AreNames, IsName, all_append, Certificate, AreWithin, header, words_in, node_text, node_texts, joined_lines, IsOneLine, IsTextOf, FileLists, file_lists, SpellsCertificate, Version, One, Two, all_weaker, last_lines, EndsWithLists}
 use Rattle.sedck_text.specs.Text.{one_of, begins}
-use Rattle.sedck_script.proofs.SortedNames.{all_weaker}
-use Rattle.sedck_cert.specs.Text.{last_lines, EndsWithLists}
 use Rattle.sedck_cert.proofs.CutLemmas.{decimal-in_range}
 use Rattle.sedck_cert.proofs.LinesAreText.{above-one_line, decimal-one_line, node_text-one_line, header-one_line, nodes_in-small, certificate_lines-joined}
 use Rattle.sedck_cert.proofs.UniqueTexts.{lines_one, no_line, append_split}

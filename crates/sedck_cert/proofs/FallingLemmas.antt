@@ -1,7 +1,6 @@
 -- The limit of a falling script: its numbers, and the edges that lower the first rank.
-use Rattle.sedck_cert.proofs.Common.{◌≡◌, ℕ, List, [], ◌∷◌, ◌++◌, Contains, refl, arith, append_assoc, All-from_recursion, All-contains, Contains-append_right, AllByRecursion, all_append, AreWellFormed, Program, ListsEdges, Edge, WideRun, character_run_wide, Certificate, LowersFirst, AllLowerFirst, IsFalling, BoundsRuns, BoundsAllRuns, BoundsEverywhere, Bound}
+use Rattle.sedck_cert.proofs.Common.{◌≡◌, ℕ, List, [], ◌∷◌, ◌++◌, Contains, refl, arith, append_assoc, All-from_recursion, All-contains, Contains-append_right, AllByRecursion, all_append, AreWellFormed, Program, ListsEdges, Edge, WideRun, character_run_wide, Certificate, LowersFirst, AllLowerFirst, IsFalling, BoundsRuns, BoundsAllRuns, BoundsEverywhere, Bound, IsBoundByLines}
 use Rattle.std.proofs.lemmas.List.{append-nil}
-use Rattle.sedck_cert.specs.Bounds.{IsBoundByLines}
 use Rattle.sedck_cert.proofs.FallingRunsCounted.{falling_counted, wide_falling_counted}
 
 -- the edges are these, of which those so far lower the first rank

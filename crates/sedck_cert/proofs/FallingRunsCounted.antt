@@ -1,6 +1,5 @@
 -- The steps of a falling script: each line that is read allows one more step than the greatest first rank.
-use Rattle.sedck_cert.proofs.Common.{◌≡◌, ◌≢◌, ℕ, suc, ◌+◌, ◌*◌, ◌<◌, ◌≤◌, List, [], ◌∷◌, length, ap, ◌∙◌, inl, inr, arith, AreWellFormed, Program, Files, Machine, State, Start, At, Done, Event, StepIn, StepsIn, Run, any_locale, all_lines, newline, lines_left, start, node_index, is_last, node_of, IsTruthful, Kind, Consume, Shorten, Keep, Grow, wide_follows, run_is_wide, step_begun, done_ends, Certificate, IsFalling, greatest_first, greatest_second, file_begins, next_file_begins}
-use Rattle.sedck_cert.specs.Laws.{falling_limit}
+use Rattle.sedck_cert.proofs.Common.{◌≡◌, ◌≢◌, ℕ, suc, ◌+◌, ◌*◌, ◌<◌, ◌≤◌, List, [], ◌∷◌, length, ap, ◌∙◌, inl, inr, arith, AreWellFormed, Program, Files, Machine, State, Start, At, Done, Event, StepIn, StepsIn, Run, any_locale, all_lines, newline, lines_left, start, node_index, is_last, node_of, IsTruthful, Kind, Consume, Shorten, Keep, Grow, wide_follows, run_is_wide, step_begun, done_ends, Certificate, IsFalling, greatest_first, greatest_second, file_begins, next_file_begins, falling_limit}
 use Rattle.sedck_cert.proofs.RanksBoundRuns.{AtMost, HasRanks, greatest_at, same_left, fewer_left, starts_ranked, one_file}
 
 -- the steps that a machine has left: its first rank, and for each line one more than the greatest

@@ -1,9 +1,7 @@
 -- A step of a script without `H` leaves the hold space within a length that both spaces had.
-use Rattle.sedck_cert.proofs.Common.{◌≡◌, ◌≢◌, ℕ, suc, ◌≤◌, Bool, true, false, List, [], ◌∷◌, ◌++◌, length, refl, ap, inl, inr, arith, MatchOption, slice_get, if◌then◌else◌, Address, Substitution, Verb, HoldAppend, Substitute, Command, Program, Machine, At, Event, StepIn, any_locale, all_lines, at_inj, at-done, BeginsWith, AppendsToHold, AreSpacesWithin}
+use Rattle.sedck_cert.proofs.Common.{◌≡◌, ◌≢◌, ℕ, suc, ◌≤◌, Bool, true, false, List, [], ◌∷◌, ◌++◌, length, refl, ap, inl, inr, arith, MatchOption, slice_get, if◌then◌else◌, Address, Substitution, Verb, HoldAppend, Substitute, Command, Program, Machine, At, Event, StepIn, any_locale, all_lines, at_inj, at-done, BeginsWith, AppendsToHold, AreSpacesWithin, Block, Branch, Change, Delete, DeleteFirstLine, Exchange, Get, GetAppend, Hold, Next, NextAppend, Quit, Test, Transliterate, NextCycle, onward, skip, TakesLine, after_end, DropsFirstLine, ChangesText, SubstituteStep, Does, StepPast, StepAt, next_begins, cycle_begins}
 use Rattle.std.specs.Prelude.{Option, Some, None}
-use Rattle.sedck_commands.specs.Program.{Two, Block, Branch, Change, Delete, DeleteFirstLine, Exchange, Get, GetAppend, Hold, Next, NextAppend, Quit, Test, Transliterate}
-use Rattle.sedck_flow.specs.Run.{NextCycle, onward, skip, TakesLine, after_end, DropsFirstLine, ChangesText, SubstituteStep, Does, StepPast, StepAt}
-use Rattle.sedck_flow.proofs.States.{next_begins, cycle_begins}
+use Rattle.sedck_commands.specs.Program.{Two}
 
 module _ (p : Program) (d size : ℕ) (m : Machine) (fits : AreSpacesWithin size m) where
   abbrev Within : Machine → Type 0

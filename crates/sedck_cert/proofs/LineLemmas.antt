@@ -1,7 +1,6 @@
 -- How one line is read or refused, and lines after lines.
-use Rattle.sedck_cert.proofs.Common.{◌≡◌, ℕ, ◌+◌, List, [], ◌∷◌, ◌++◌, Contains, ◌≤◌, decimal, Option, Some, None, IfErr, append_assoc, append-nil, refl, sym, ◌∙◌, ap, subst, arith, length-append, line, joined_lines, Version, Due, IsDue, AreDue, IsWrong, IsRefused, fault_at, IsCut, IsNext, Leads, Stops, Lines, CertFault}
+use Rattle.sedck_cert.proofs.Common.{◌≡◌, ℕ, ◌+◌, List, [], ◌∷◌, ◌++◌, Contains, ◌≤◌, decimal, Option, Some, None, IfErr, append_assoc, append-nil, refl, sym, ◌∙◌, ap, subst, arith, length-append, line, joined_lines, Version, Due, IsDue, AreDue, IsWrong, IsRefused, fault_at, IsCut, IsNext, Leads, Stops, Lines, CertFault, ok_or}
 use Rattle.std.proofs.Common.{MatchOption}
-use Rattle.std.specs.Option.{ok_or}
 use Rattle.sedck_cert.proofs.CutLemmas.{cut_one, has_byte}
 
 pub line-behind : (text rest : List ℕ) → line text ++ rest ≡ text ++ 10 ∷ rest

@@ -1,8 +1,6 @@
 -- The lines of a certificate are its text, and are what is due.
-use Rattle.sedck_cert.proofs.Common.{◌≡◌, ℕ, zero, suc, ◌+◌, ◌<◌, ◌≤◌, ◌^◌, List, [], ◌∷◌, ◌++◌, length, decimal, codes, Option, append_assoc, append-nil, refl, sym, ◌∙◌, ap, subst, inl, inr, arith, true, ◌%◌, Some, None, AllByRecursion, recursion_from_All, Contains-append_cases, decimal_injective, append_cancel_left, AreNames, names_size, Certificate, IsCertificate, nodes_in, AreWithin, line, header, node_texts, joined_lines, IsOneLine, words_in, node_text, ranks_text, Due, Header, Count, Names, Last, Nothing, AreDue, list_word, after_list, names_due, nodes_due, list_texts, certificate_lines, AreNext, Version, One, Two, Reads, Writes}
-use Rattle.std.proofs.Common.{nat_lt, ◌/◌}
-use Rattle.std.specs.List.{list_all}
-use Rattle.std.proofs.lemmas.Bool.{and_parts, ltb-true}
+use Rattle.sedck_cert.proofs.Common.{◌≡◌, ℕ, zero, suc, ◌+◌, ◌<◌, ◌≤◌, ◌^◌, List, [], ◌∷◌, ◌++◌, length, decimal, codes, Option, append_assoc, append-nil, refl, sym, ◌∙◌, ap, subst, inl, inr, arith, true, ◌%◌, Some, None, AllByRecursion, recursion_from_All, Contains-append_cases, decimal_injective, append_cancel_left, AreNames, names_size, Certificate, IsCertificate, nodes_in, AreWithin, line, header, node_texts, joined_lines, IsOneLine, words_in, node_text, ranks_text, Due, Header, Count, Names, Last, Nothing, AreDue, list_word, after_list, names_due, nodes_due, list_texts, certificate_lines, AreNext, Version, One, Two, Reads, Writes, nat_lt, list_all, and_parts, ltb-true}
+use Rattle.std.proofs.Common.{◌/◌}
 use Rattle.sedck_cert.specs.Text.{text_in}
 use Rattle.sedck_cert.specs.declared.reading.names.Files.{Files}
 use Rattle.sedck_cert.proofs.CutLemmas.{decimal-lacks}

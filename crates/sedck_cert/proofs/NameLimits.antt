@@ -1,9 +1,7 @@
 -- Names are within their limits where each may be after those before it.
-use Rattle.sedck_cert.proofs.Common.{◌≡◌, ℕ, suc, ◌+◌, ◌<◌, ◌≤◌, List, [], ◌∷◌, length, get_or, drop, Vec, sym, ap, arith, drop-cons, Global, AllByRecursion, length-map, All-from_recursion, recursion_from_All, sum_by-cons, IsName, AreIncreasing, AreNames, names_size, names_of, AreNext, ComesAfter}
-use Rattle.std.proofs.Common.{map, add-one}
+use Rattle.sedck_cert.proofs.Common.{◌≡◌, ℕ, suc, ◌+◌, ◌<◌, ◌≤◌, List, [], ◌∷◌, length, get_or, drop, Vec, sym, ap, arith, drop-cons, Global, AllByRecursion, length-map, All-from_recursion, recursion_from_All, sum_by-cons, IsName, AreIncreasing, AreNames, names_size, names_of, AreNext, ComesAfter, add-one, IsBefore, all_later}
+use Rattle.std.proofs.Common.{map}
 use Rattle.std.proofs.lemmas.List.Kept.{AllPairs-cons}
-use Rattle.sedck_script.specs.Names.{IsBefore}
-use Rattle.sedck_script.proofs.SortedNames.{all_later}
 
 -- the one before, if there is one, is before all of these
 abbrev IsBeforeAll : List (List ℕ) → List (List ℕ) → Type 0

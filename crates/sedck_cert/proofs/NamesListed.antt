@@ -1,17 +1,12 @@
 -- The names of a script, sorted, are the only sorted list of just the names that its commands name.
-use Rattle.sedck_cert.proofs.Common.{◌≡◌, ℕ, ◌+◌, List, [], Contains, Bool, true, false, refl, sym, arith, zero, suc, ◌∷◌, subst, inl, inr, IsTrue, nat_cmp, AreIncreasing, slice_get, flat_map, Contains-append_right, Contains-append_cases, Verb, Command, Program, NamesForReading, NamesForWriting, none-some}
+use Rattle.sedck_cert.proofs.Common.{◌≡◌, ℕ, ◌+◌, List, [], Contains, Bool, true, false, refl, sym, arith, zero, suc, ◌∷◌, subst, inl, inr, IsTrue, nat_cmp, AreIncreasing, slice_get, flat_map, Contains-append_right, Contains-append_cases, Verb, Command, Program, NamesForReading, NamesForWriting, none-some, slice_cmp, read_names, write_names, sorted_names, reads, writes, Contains-append_left, sorted_names-rise, sorted_names-same, ListsNames}
 use Rattle.std.proofs.Common.{◌↔◌}
 use Rattle.std.specs.BTreeSet.{BTreeSet, IsOrdered, contains}
-use Rattle.std.specs.Cmp.Lexicographic.{slice_cmp}
 use Rattle.std.proofs.lemmas.Cmp.{nat_list_cmp_total}
 use Rattle.std.proofs.lemmas.Map.Keys.{sorted_from_all_adjacent}
 use Rattle.std.proofs.lemmas.Map.Lookups.{exact_bytes, btree_set_from_contains}
 use Rattle.std.proofs.lemmas.Map.Views.{btree_set_contains_iff}
-use Rattle.sedck_script.specs.Names.{read_names, write_names, sorted_names, reads, writes}
 use Rattle.std.specs.Prelude.{Some}
-use Rattle.std.proofs.lemmas.List.Elements.{Contains-append_left}
-use Rattle.sedck_script.proofs.SortedNames.{sorted_names-rise, sorted_names-same}
-use Rattle.sedck_cert.specs.Ranked.{ListsNames}
 
 -- ---- Two sorted lists of the same names are one list, as two ordered sets of the library are
 

@@ -1,9 +1,8 @@
 -- The pieces of a certificate's text, in the order in which they are written.
-use Rattle.sedck_cert.proofs.Common.{◌≡◌, ℕ, suc, ◌+◌, ◌<◌, List, [], ◌∷◌, ◌++◌, length, get_or, take, drop, decimal, codes, Option, Some, append_assoc, append-nil, refl, sym, ◌∙◌, ap, arith, ◌/◌, drop-cons, take_more, length-map, Certificate, line, header, ranks_text, node_text, node_texts, joined_lines, files_text, Version, Two}
+use Rattle.sedck_cert.proofs.Common.{◌≡◌, ℕ, suc, ◌+◌, ◌<◌, List, [], ◌∷◌, ◌++◌, length, get_or, take, drop, decimal, codes, Option, Some, append_assoc, append-nil, refl, sym, ◌∙◌, ap, arith, ◌/◌, drop-cons, take_more, length-map, Certificate, line, header, ranks_text, node_text, node_texts, joined_lines, files_text, Version, Two, take-append-drop, map-append, length-take-le, certificate_text}
 use Rattle.std.proofs.Common.{map}
 use Rattle.std.specs.Prelude.{◌%◌}
-use Rattle.std.proofs.lemmas.List.{take-append-drop, map-append, length-take-le}
-use Rattle.sedck_cert.specs.Text.{text_in, certificate_text}
+use Rattle.sedck_cert.specs.Text.{text_in}
 use Rattle.sedck_cert.proofs.NameLimits.{left_cons}
 use Rattle.sedck_cert.proofs.DueLines.{node_texts-append}
 use Rattle.sedck_cert.proofs.LineLemmas.{joined_lines-append}

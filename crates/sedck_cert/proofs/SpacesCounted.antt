@@ -1,7 +1,5 @@
 -- The spaces of a compact script: the pattern space and what is left to read are never longer than the input, and the hold space only takes the pattern space.
-use Rattle.sedck_cert.proofs.Common.{◌≡◌, ◌≢◌, ℕ, suc, ◌+◌, ◌≤◌, List, [], ◌∷◌, length, refl, sym, ap, ◌∙◌, inl, inr, arith, AreWellFormed, Program, Files, Machine, State, Start, At, Done, Event, StepIn, StepsIn, Run, any_locale, WideRun, all_lines, character_run_wide, newline, lines_left, bytes_of, node_of, IsTruthful, Kind, Consume, Shorten, Keep, Grow, wide_follows, run_is_wide, step_begun, AddsLine, step_adds, at_inj, at-done, file_begins, next_file_begins, Certificate, IsCompact, IsInputSize, AreSpacesWithin, Bound, none-some}
-use Rattle.sedck_flow.specs.Run.{state_after}
-use Rattle.sedck_cert.specs.SpaceLimit.{BoundsSpaces, BoundsAllSpaces, BoundsSpacesEverywhere}
+use Rattle.sedck_cert.proofs.Common.{◌≡◌, ◌≢◌, ℕ, suc, ◌+◌, ◌≤◌, List, [], ◌∷◌, length, refl, sym, ap, ◌∙◌, inl, inr, arith, AreWellFormed, Program, Files, Machine, State, Start, At, Done, Event, StepIn, StepsIn, Run, any_locale, WideRun, all_lines, character_run_wide, newline, lines_left, bytes_of, node_of, IsTruthful, Kind, Consume, Shorten, Keep, Grow, wide_follows, run_is_wide, step_begun, AddsLine, step_adds, at_inj, at-done, file_begins, next_file_begins, Certificate, IsCompact, IsInputSize, AreSpacesWithin, Bound, none-some, state_after, BoundsSpaces, BoundsAllSpaces, BoundsSpacesEverywhere}
 use Rattle.sedck_cert.proofs.RanksBoundRuns.{HasRanks, same_left, fewer_left, starts_ranked, one_file}
 use Rattle.sedck_cert.proofs.HoldKept.{hold_within}
 

@@ -1,9 +1,7 @@
 -- How long the text of a certificate can be, line by line.
-use Rattle.sedck_cert.proofs.Common.{◌≡◌, ℕ, suc, ◌+◌, ◌-◌, ◌*◌, ◌%◌, ◌<◌, ◌≤◌, List, [], ◌∷◌, ◌++◌, length, take, take_all, decimal, codes, Option, Some, None, refl, ◌∙◌, ap, inl, inr, arith, length-append, AllByRecursion, length-decimal-le, recursion_from_All, sum_by-cons, names_size, Certificate, IsCertificate, nodes_in, AreWithin, line, header, ranks_text, words_in, node_text, node_texts, joined_lines, files_text, SpellsCertificate, Version, One, Two}
+use Rattle.sedck_cert.proofs.Common.{◌≡◌, ℕ, suc, ◌+◌, ◌-◌, ◌*◌, ◌%◌, ◌<◌, ◌≤◌, List, [], ◌∷◌, ◌++◌, length, take, take_all, decimal, codes, Option, Some, None, refl, ◌∙◌, ap, inl, inr, arith, length-append, AllByRecursion, length-decimal-le, recursion_from_All, sum_by-cons, names_size, Certificate, IsCertificate, nodes_in, AreWithin, line, header, ranks_text, words_in, node_text, node_texts, joined_lines, files_text, SpellsCertificate, Version, One, Two, length-take, text_limit}
 use Rattle.std.proofs.Common.{◌/◌}
-use Rattle.std.proofs.lemmas.List.{length-take}
 use Rattle.sedck_cert.specs.Text.{text_in}
-use Rattle.sedck_cert.specs.Laws.{text_limit}
 
 length-append_two : (a b c : List ℕ) → length (a ++ b ++ c) ≡ length a + length b + length c
 length-append_two a b c = length-append (a ++ b) c ∙ ap (λ n. n + length c) (length-append a b)

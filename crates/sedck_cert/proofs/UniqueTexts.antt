@@ -1,6 +1,5 @@
 -- A text is one certificate's at most, and none's where a line of it isn't what is due.
-use Rattle.sedck_cert.proofs.Common.{◌≡◌, ℕ, suc, ◌<◌, ◌≤◌, ◌^◌, List, [], ◌∷◌, ◌++◌, length, take, drop, decimal, codes, Option, Some, None, append_assoc, refl, sym, ◌∙◌, ap, subst, subst₂, arith, AllByRecursion, recursion_from_All, decimal_injective, append_cancel_left, Certificate, IsCertificate, nodes_in, AreWithin, line, IsOneLine, IsTextOf, words_in, node_text, node_texts, joined_lines, ranks_text, Version, Due, Header, Count, Names, Name, Last, Nothing, IsDue, AreDue, IsRefused, IsFaultOf, list_word, names_due, nodes_due, list_texts, certificate_lines, Reads, Writes, CertFault}
-use Rattle.std.proofs.Math.Seq.{take-append_seam, drop-append_seam}
+use Rattle.sedck_cert.proofs.Common.{◌≡◌, ℕ, suc, ◌<◌, ◌≤◌, ◌^◌, List, [], ◌∷◌, ◌++◌, length, take, drop, decimal, codes, Option, Some, None, append_assoc, refl, sym, ◌∙◌, ap, subst, subst₂, arith, AllByRecursion, recursion_from_All, decimal_injective, append_cancel_left, Certificate, IsCertificate, nodes_in, AreWithin, line, IsOneLine, IsTextOf, words_in, node_text, node_texts, joined_lines, ranks_text, Version, Due, Header, Count, Names, Name, Last, Nothing, IsDue, AreDue, IsRefused, IsFaultOf, list_word, names_due, nodes_due, list_texts, certificate_lines, Reads, Writes, CertFault, take-append_seam, drop-append_seam}
 use Rattle.sedck_cert.specs.Faults.{Node}
 use Rattle.sedck_cert.specs.declared.reading.names.Files.{Files}
 use Rattle.sedck_cert.proofs.CutLemmas.{parts_one, has_byte, dash_lacks, decimal-lacks}

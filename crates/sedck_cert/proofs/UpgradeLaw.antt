@@ -1,12 +1,10 @@
 -- An upgraded certificate is accepted where the certificate of version 1 was.
-use Rattle.sedck_cert.proofs.Common.{◌≡◌, ℕ, zero, suc, ◌+◌, ◌*◌, ◌<◌, Bool, true, false, List, [], ◌∷◌, length, refl, sym, ap, ◌∙◌, inl, inr, arith, MatchOption, slice_get, if◌then◌else◌, option_flatten, false≢true, Address, Substitution, Verb, Substitute, Command, Program, start, node_index, Node, Kind, Consume, Shorten, Keep, Grow, Certificate, ranks_at, Lowers, Accepts, doubled, upgraded}
+use Rattle.sedck_cert.proofs.Common.{◌≡◌, ℕ, zero, suc, ◌+◌, ◌*◌, ◌<◌, Bool, true, false, List, [], ◌∷◌, length, refl, sym, ap, ◌∙◌, inl, inr, arith, MatchOption, slice_get, if◌then◌else◌, option_flatten, false≢true, Address, Substitution, Verb, Substitute, Command, Program, start, node_index, Node, Kind, Consume, Shorten, Keep, Grow, Certificate, ranks_at, Lowers, Accepts, doubled, upgraded, HasKind, ranks_at_one, AcceptsOne}
 use Rattle.std.specs.Prelude.{Option, Some, None}
-use Rattle.sedck_flow.specs.Flow.{HasKind}
 use Rattle.sedck_flow.specs.LiteralKinds.{is_literal, HasLiteralKind}
 use Rattle.sedck_flow.specs.VersionOne.{NodeOne, plain_node, plain_edge, start_one, node_index_one, VerbEdgeOne, CommandEdgeOne}
 use Rattle.sedck_flow.proofs.KindsAgree.{literal_kinds_stay}
 use Rattle.sedck_flow.proofs.PlainEdges.{plain}
-use Rattle.sedck_cert.specs.VersionOne.{ranks_at_one, AcceptsOne}
 
 -- ---- The ranks of a node are those of the node without the last line
 

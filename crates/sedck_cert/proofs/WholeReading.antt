@@ -1,10 +1,7 @@
 -- The parts of a certificate, read one after another.
-use Rattle.sedck_cert.proofs.Common.{◌≡◌, ◌⊎◌, inl, inr, ℕ, suc, ◌+◌, ◌≤◌, List, [], ◌∷◌, ◌++◌, length, decimal, codes, Option, Some, All, append_assoc, append-nil, refl, sym, ◌∙◌, ap, arith, if_err_from, names_size, Certificate, nodes_in, AreWithin, line, header, node_texts, joined_lines, IsTextOf, Version, Due, Header, Count, Names, Last, Nothing, IsFaultOf, fault_at, nodes_due, Leads, Stops, list_texts, certificate_lines, Lines, Reads, Writes, CertFault, OutOfMemory}
-use Rattle.std.proofs.Common.{cond, count_by, IfSome, ◌==◌}
+use Rattle.sedck_cert.proofs.Common.{◌≡◌, ◌⊎◌, inl, inr, ℕ, suc, ◌+◌, ◌≤◌, List, [], ◌∷◌, ◌++◌, length, decimal, codes, Option, Some, All, append_assoc, append-nil, refl, sym, ◌∙◌, ap, arith, if_err_from, names_size, Certificate, nodes_in, AreWithin, line, header, node_texts, joined_lines, IsTextOf, Version, Due, Header, Count, Names, Last, Nothing, IsFaultOf, fault_at, nodes_due, Leads, Stops, list_texts, certificate_lines, Lines, Reads, Writes, CertFault, OutOfMemory, cond, count_by, IfSome, ◌==◌, sum_by-append, IsLineOf, line_of}
 use Rattle.std.specs.Prelude.{Result, IfErr}
 use Rattle.std.specs.Result.{IsErrAnd}
-use Rattle.std.proofs.lemmas.List.Sums.{sum_by-append}
-use Rattle.sedck_cert.specs.Faults.{IsLineOf, line_of}
 use Rattle.sedck_cert.proofs.LineLemmas.{leads_on, leads_stops}
 use Rattle.sedck_cert.proofs.UniqueTexts.{fault_of_none}
 use Rattle.sedck_cert.proofs.LinesAreText.{list_law, certificate_lines-joined}

@@ -1,8 +1,7 @@
 -- What is taken, piece after piece.
-use Rattle.sedck_cert.proofs.Common.{◌≡◌, ℕ, List, ◌++◌, Option, Result, Ok, Err, OnErr, append_assoc, sym, ◌∙◌, ap, subst, length, take, drop, ◌-◌, Appends, AppendsPrefix}
-use Rattle.std.proofs.Common.{OnOk, take-append-drop}
+use Rattle.sedck_cert.proofs.Common.{◌≡◌, ℕ, List, ◌++◌, Option, Result, Ok, Err, OnErr, append_assoc, sym, ◌∙◌, ap, subst, length, take, drop, ◌-◌, Appends, AppendsPrefix, OnOk, take_rest}
+use Rattle.std.proofs.Common.{take-append-drop}
 use Rattle.std.proofs.KnownBytes.{Appends-trans}
-use Rattle.std.proofs.lemmas.List.{take_rest}
 
 pub on_err : {A E : Type 0} (r : Result A E) (P : Type 0) → P → OnErr r P
 on_err (Ok x) P h = tt

@@ -1,10 +1,7 @@
 -- What an address is, by its first byte, and the addresses of a command.
-use Rattle.sedck_commands.proofs.Common.{◌≡◌, ◌≢◌, ℕ, ◌<◌, true, false, List, [], ◌∷◌, ◌++◌, length, Option, Some, None, option_or, ap, arith, length-append, IsTrue, Pattern, Previous, Expression, Place, Two, PlaceText, place_patterns, is_digit, begins_address, has_previous, EndsIn, unread, Cursor, unread_length}
-use Rattle.sedck_commands.specs.Program.{Last, address_patterns}
+use Rattle.sedck_commands.proofs.Common.{◌≡◌, ◌≢◌, ℕ, ◌<◌, true, false, List, [], ◌∷◌, ◌++◌, length, Option, Some, None, option_or, ap, arith, length-append, IsTrue, Pattern, Previous, Expression, Place, Two, PlaceText, place_patterns, is_digit, begins_address, has_previous, EndsIn, unread, Cursor, unread_length, Last, address_patterns, IsAfterComma, EmptyPlace, IsFirstEmpty, AddressEmpty}
 use Rattle.sedck_commands.specs.Parts as p
-use Rattle.sedck_commands.specs.FirstFaults.{IsAfterComma, EmptyPlace}
 use Rattle.sedck_commands.specs.Private.AddressReading.{ContextText, CustomText}
-use Rattle.sedck_commands.specs.ReadItems.{IsFirstEmpty, AddressEmpty}
 use Rattle.sedck_commands.specs.ReadItems as r
 use Rattle.sedck_commands.proofs.OffsetLemmas.{tail_cut, tail_tail, tail_cons, tail_length, expression_tail}
 

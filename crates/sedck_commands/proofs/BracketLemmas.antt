@@ -1,7 +1,5 @@
 -- How far the bracket lists of a text are closed.
-use Rattle.sedck_commands.proofs.Common.{◌≡◌, ◌≢◌, ℕ, ◌<◌, ◌-◌, List, [], ◌∷◌, ◌++◌, length, take, refl, ap, sym, ◌∙◌, subst, length-append, arith, nil_from_length, Longest, DelimitedList, FirstList, EndsIn, longest_one, unread, Cursor, unread_length}
-use Rattle.std.proofs.lemmas.List.{append_cancel_right}
-use Rattle.sedck_commands.specs.BracketLists.{BracketBegins, BracketList, BracketsClose}
+use Rattle.sedck_commands.proofs.Common.{◌≡◌, ◌≢◌, ℕ, ◌<◌, ◌-◌, List, [], ◌∷◌, ◌++◌, length, take, refl, ap, sym, ◌∙◌, subst, length-append, arith, nil_from_length, Longest, DelimitedList, FirstList, EndsIn, longest_one, unread, Cursor, unread_length, append_cancel_right, BracketBegins, BracketList, BracketsClose}
 use Rattle.sedck_commands.specs.BracketLists as b
 use Rattle.sedck_commands.proofs.FirstBytes.{tails}
 use Rattle.sedck_commands.proofs.OffsetLemmas.{tail_cut, tail_tail, tail_behind, tail_cons, list_cut, take_front}

@@ -1,9 +1,6 @@
 -- A command is its addresses, its marks and its verb.
-use Rattle.sedck_commands.proofs.Common.{◌≡◌, ℕ, Bool, List, [], ◌++◌, Option, Some, None, length, refl, ap, arith, option_or, Longest, Pattern, Address, AddressText, WrittenVerb, CommandText, EndsIn, is_mark, location_of, Location, unread, Cursor, unread_length}
+use Rattle.sedck_commands.proofs.Common.{◌≡◌, ℕ, Bool, List, [], ◌++◌, Option, Some, None, length, refl, ap, arith, option_or, Longest, Pattern, Address, AddressText, WrittenVerb, CommandText, EndsIn, is_mark, location_of, Location, unread, Cursor, unread_length, address_patterns, AreAddresses, EmptyVerb, IsFirstEmpty, AddressEmpty, CommandEmpty}
 use Rattle.sedck_commands.specs.Parts as p
-use Rattle.sedck_commands.specs.Program.{address_patterns}
-use Rattle.sedck_commands.specs.FirstFaults.{AreAddresses, EmptyVerb}
-use Rattle.sedck_commands.specs.ReadItems.{IsFirstEmpty, AddressEmpty, CommandEmpty}
 use Rattle.sedck_commands.specs.ReadItems as r
 use Rattle.sedck_commands.proofs.OffsetLemmas.{tail_cut, tail_tail, tail_cons}
 use Rattle.sedck_commands.proofs.UniqueAddresses.{place_tail}

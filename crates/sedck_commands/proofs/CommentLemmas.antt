@@ -1,7 +1,5 @@
 -- Where carriage returns are in a comment.
-use Rattle.sedck_commands.proofs.Common.{◌≡◌, ℕ, suc, ◌+◌, ◌<◌, ◌≤◌, true, inl, inr, Option, Some, None, List, [], ◌∷◌, ◌++◌, length, take, drop, get_or, refl, ap, ◌∙◌, length-append, arith, split_at, get_or-append_seam, nil_from_length, eqb-true, eq-eqb, HasNoInnerReturn}
-use Rattle.std.proofs.lemmas.Bool.{cases_order}
-use Rattle.memchr.specs.Find.{IsFirstByte, is_byte}
+use Rattle.sedck_commands.proofs.Common.{◌≡◌, ℕ, suc, ◌+◌, ◌<◌, ◌≤◌, true, inl, inr, Option, Some, None, List, [], ◌∷◌, ◌++◌, length, take, drop, get_or, refl, ap, ◌∙◌, length-append, arith, split_at, get_or-append_seam, nil_from_length, eqb-true, eq-eqb, HasNoInnerReturn, cases_order, IsFirstByte, is_byte}
 
 -- where the first one, if there is one, is the last byte
 pub no_inner_return : (line : List ℕ) (first : Option ℕ) → IsFirstByte (is_byte 13) line first → ((at : ℕ) → first ≡ Some at → length line ≤ suc at)

@@ -1,9 +1,7 @@
 -- Where an empty expression ends.
-use Rattle.sedck_commands.proofs.Common.{◌≡◌, ℕ, suc, inl, inr, ◌+◌, true, List, [], ◌∷◌, length, refl, ap, sym, ◌∙◌, arith, false≢true, Place, Pattern, Previous, Expression, Verb, place_patterns, DelimitedExpression, PlaceText, IsPattern, WrittenVerb, Simple, VerbText, has_previous, written_patterns}
-use Rattle.sedck_commands.specs.Program.{verb_patterns}
+use Rattle.sedck_commands.proofs.Common.{◌≡◌, ℕ, suc, inl, inr, ◌+◌, true, List, [], ◌∷◌, length, refl, ap, sym, ◌∙◌, arith, false≢true, Place, Pattern, Previous, Expression, Verb, place_patterns, DelimitedExpression, PlaceText, IsPattern, WrittenVerb, Simple, VerbText, has_previous, written_patterns, verb_patterns, EmptyPlace, EmptyVerb}
 use Rattle.sedck_commands.specs.Parts as p
 use Rattle.sedck_commands.specs.Items as w
-use Rattle.sedck_commands.specs.FirstFaults.{EmptyPlace, EmptyVerb}
 use Rattle.sedck_commands.proofs.ReplacementParts.{flags_leave}
 
 empty_end : {d : ℕ} {text e rest : List ℕ} → e ≡ [] → DelimitedExpression d text e rest → text ≡ d ∷ rest

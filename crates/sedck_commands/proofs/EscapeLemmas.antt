@@ -1,6 +1,5 @@
 -- The escaped delimiters of an expression.
-use Rattle.sedck_commands.proofs.Common.{◌≡◌, ℕ, Some, Option, List, [], ◌∷◌, ◌++◌, drop, refl, ap, sym, ◌∙◌, append_assoc, IsTrue, option_or, DelimitedExpression, ExpressionText, is_misread, Bor, unread, Cursor, IsFirstEscape, as_written}
-use Rattle.sedck_commands.specs.Private.PieceReading.{escaped}
+use Rattle.sedck_commands.proofs.Common.{◌≡◌, ℕ, Some, Option, List, [], ◌∷◌, ◌++◌, drop, refl, ap, sym, ◌∙◌, append_assoc, IsTrue, option_or, DelimitedExpression, ExpressionText, is_misread, Bor, unread, Cursor, IsFirstEscape, as_written, escaped}
 
 -- more bytes that are in the text as they are in the expression
 pub escape_more : {d : ℕ} {whole text bytes rest behind : List ℕ} {escape : Option ℕ} (front all : List ℕ) → all ≡ bytes ++ front → rest ≡ front ++ behind

@@ -1,10 +1,6 @@
 -- What is wrong with a part between delimiters, as its readers meet it.
-use Rattle.sedck_commands.proofs.Common.{◌≡◌, ◌≢◌, ℕ, ◌⊎◌, Option, Some, None, ◌-◌, List, ◌∷◌, ◌++◌, length, length-append, subst, ap, ◌∙◌, arith, nat_tests, length-drop, IsTrue, Bor, ScriptFault, DelimitedExpression, DelimitedList, is_misread, unread, unread_length, Cursor, IsFirstEscape, as_written, list_escape, IsPiece, Longest, is_plain}
-use Rattle.sedck_commands.specs.BracketLists.{BracketList, BracketsClose}
-use Rattle.sedck_commands.specs.FirstFaults.{PieceFault, ExpressionTextFault, FirstListFault, ReplacementFault}
-use Rattle.sedck_commands.specs.Private.PieceReading.{escaped}
+use Rattle.sedck_commands.proofs.Common.{◌≡◌, ◌≢◌, ℕ, ◌⊎◌, Option, Some, None, ◌-◌, List, ◌∷◌, ◌++◌, length, length-append, subst, ap, ◌∙◌, arith, nat_tests, length-drop, IsTrue, Bor, ScriptFault, DelimitedExpression, DelimitedList, is_misread, unread, unread_length, Cursor, IsFirstEscape, as_written, list_escape, IsPiece, Longest, is_plain, BracketList, BracketsClose, PieceFault, ExpressionTextFault, FirstListFault, ReplacementFault, escaped, EscapedDelimiter, BadTransliteration}
 use Rattle.sedck_commands.specs.declared.delimited.Piece.TheVariants as piece
-use Rattle.sedck_commands.specs.declared.fault.ScriptFault.TheVariants.{EscapedDelimiter, BadTransliteration}
 use Rattle.sedck_commands.proofs.BracketLemmas.{open_shorter}
 use Rattle.sedck_commands.proofs.ReplacementLemmas.{run_of}
 

@@ -1,13 +1,9 @@
 -- Where a text begins of which it is said what is wrong with it.
-use Rattle.sedck_commands.proofs.Common.{◌≡◌, ◌≢◌, ◌∙◌, ℕ, suc, ◌+◌, ◌-◌, ◌<◌, ◌≤◌, Bool, true, false, not, List, [], ◌∷◌, ◌++◌, Some, length, get_or, take, drop, refl, ap, sym, arith, length-append, length-drop, eq-eqb, nil_from_length, not_from_false, is_blank, is_digit, is_ending, is_continued, is_newline, is_skipped, IsEmptyOr, Longest, unread, unread_length, IsAhead, Bor, Cursor}
-use Rattle.std.proofs.lemmas.List.{get_or-take, length-take-le}
+use Rattle.sedck_commands.proofs.Common.{◌≡◌, ◌≢◌, ◌∙◌, ℕ, suc, ◌+◌, ◌-◌, ◌<◌, ◌≤◌, Bool, true, false, not, List, [], ◌∷◌, ◌++◌, Some, length, get_or, take, drop, refl, ap, sym, arith, length-append, length-drop, eq-eqb, nil_from_length, not_from_false, is_blank, is_digit, is_ending, is_continued, is_newline, is_skipped, IsEmptyOr, Longest, unread, unread_length, IsAhead, Bor, Cursor, get_or-take, length-take-le, IsFirstByte, is_byte, BeginsAt, CommentFault, NameFault, begins_flag, ExtraText}
 use Rattle.std.proofs.lemmas.Grind.{get_or_default_zero}
-use Rattle.memchr.specs.Find.{IsFirstByte, is_byte}
 use Rattle.sedck_commands.proofs.LineBytes.{continued_last}
 use Rattle.sedck_commands.proofs.CommentLemmas.{return_cut}
-use Rattle.sedck_commands.specs.FirstFaults.{BeginsAt, CommentFault, NameFault, begins_flag}
 use Rattle.sedck_commands.specs.FirstFaults as fault
-use Rattle.sedck_commands.specs.declared.fault.ScriptFault.TheVariants.{ExtraText}
 
 -- what hasn't been read begins at the cursor's offset
 pub begins_here : (cursor : Cursor) {whole : Bor (List ℕ)} {cut : List ℕ} {offset : ℕ} → cursor.whole ≡ whole → unread cursor ≡ cut → offset ≡ cursor.at

@@ -1,15 +1,9 @@
 -- What is wrong with labels, verbs and commands.
-use Rattle.sedck_commands.proofs.Common.{◌≡◌, ℕ, ◌+◌, ◌-◌, ◌<◌, Bool, List, [], ◌∷◌, ◌++◌, length, drop, drop-drop, length-append, Option, Some, None, is_some, IfSome, true, false, refl, subst, sym, ap, ◌∙◌, arith, nil_from_length, unread, unread_length, Cursor, is_blank, Longest, longest_one, Ends, not, false≢true, one_of, begins, jump_byte, is_in, verb_bytes, IsEmptyOr, false_from_ne_true, both_ways, codes, Address, ScriptFault}
-use Rattle.std.specs.Prelude.{if◌then◌else◌}
-use Rattle.std.proofs.lemmas.Bool.{cond_both}
+use Rattle.sedck_commands.proofs.Common.{◌≡◌, ℕ, ◌+◌, ◌-◌, ◌<◌, Bool, List, [], ◌∷◌, ◌++◌, length, drop, drop-drop, length-append, Option, Some, None, is_some, IfSome, true, false, refl, subst, sym, ap, ◌∙◌, arith, nil_from_length, unread, unread_length, Cursor, is_blank, Longest, longest_one, Ends, not, false≢true, one_of, begins, jump_byte, is_in, verb_bytes, IsEmptyOr, false_from_ne_true, both_ways, codes, Address, ScriptFault, if◌then◌else◌, cond_both, BeginsAt, VerbFault, CheckFault, IsJumpIn, WrittenCode, TooManyAddresses, UnknownCommand}
 use Rattle.sedck_commands.proofs.VerbBytes.{misplaced}
 use Rattle.sedck_commands.proofs.VerbCases.{of_all}
 use Rattle.sedck_commands.specs.Private.Reading.{IsLabelAt}
-use Rattle.sedck_commands.specs.FirstFaults.{BeginsAt, VerbFault, CheckFault}
 use Rattle.sedck_commands.specs.FirstFaults as fault
-use Rattle.sedck_commands.specs.ReadItems.{IsJumpIn}
-use Rattle.sedck_commands.specs.declared.items.Written.{Written as WrittenCode}
-use Rattle.sedck_commands.specs.declared.fault.ScriptFault.TheVariants.{TooManyAddresses, UnknownCommand}
 
 -- what a cursor further on hasn't read begins at its offset in the whole of the one before it
 pub begins_there : (text behind : Cursor) → behind.whole ≡ text.whole → BeginsAt (length text.whole.now) (unread behind) behind.at

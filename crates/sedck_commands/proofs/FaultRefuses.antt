@@ -1,9 +1,6 @@
 -- A text with a first fault has no items.
-use Rattle.sedck_commands.proofs.Common.{◌≡◌, ℕ, suc, ◌<◌, ◌≤◌, Bool, true, List, [], ◌∷◌, ◌++◌, length, Option, refl, ap, sym, ◌∙◌, subst, inl, inr, append_assoc, length-append, arith, Address, WrittenVerb, Known, JumpTo, Opening, CommandText, Item, Written, Closing, Items, verb_turn, commands_among, ScriptFault, longest_one}
+use Rattle.sedck_commands.proofs.Common.{◌≡◌, ℕ, suc, ◌<◌, ◌≤◌, Bool, true, List, [], ◌∷◌, ◌++◌, length, Option, refl, ap, sym, ◌∙◌, subst, inl, inr, append_assoc, length-append, arith, Address, WrittenVerb, Known, JumpTo, Opening, CommandText, Item, Written, Closing, Items, verb_turn, commands_among, ScriptFault, longest_one, Nests, AreLabelsOnce, Defines, NotesBlock, ItemsFault}
 use Rattle.sedck_commands.specs.Items as w
-use Rattle.sedck_commands.specs.Blocks.{Nests}
-use Rattle.sedck_commands.specs.Labels.{AreLabelsOnce}
-use Rattle.sedck_commands.specs.FirstFaults.{Defines, NotesBlock, ItemsFault}
 use Rattle.sedck_commands.specs.FirstFaults as o
 use Rattle.sedck_commands.proofs.FirstBytes.{tails}
 use Rattle.sedck_commands.proofs.UniqueParts.{ends_one}

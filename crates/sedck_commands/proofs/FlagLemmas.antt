@@ -1,6 +1,5 @@
 -- How far the flags of a substitution have been read.
-use Rattle.sedck_commands.proofs.Common.{◌≡◌, ◌≢◌, ℕ, Bool, true, false, ◌||◌, List, ◌∷◌, Option, Some, None, is_some, refl, ap, sym, ◌∙◌, arith, or-false, false≢true, both_ways, or_from, is_blank, is_digit, is_ending, Pattern, Part, Substitution, Number, Name, Flags}
-use Rattle.sedck_commands.specs.Private.Reading.{EndsFlags}
+use Rattle.sedck_commands.proofs.Common.{◌≡◌, ◌≢◌, ℕ, Bool, true, false, ◌||◌, List, ◌∷◌, Option, Some, None, is_some, refl, ap, sym, ◌∙◌, arith, or-false, false≢true, both_ways, or_from, is_blank, is_digit, is_ending, Pattern, Part, Substitution, Number, Name, Flags, EndsFlags}
 use Rattle.sedck_commands.specs.Parts as p
 use Rattle.sedck_commands.proofs.UniqueParts.{ends_first, number_no_byte, with_file, flag_class, head_flag, flags_begin}
 use Rattle.sedck_commands.proofs.FirstBytes.{heads, tails}

@@ -1,7 +1,6 @@
 -- How the first fault of what is left is that of the whole text.
-use Rattle.sedck_commands.proofs.Common.{◌≡◌, ℕ, suc, ◌<◌, ◌-◌, List, [], ◌∷◌, ◌++◌, length, take, drop, get_or, sym, subst, subst₂, arith, split_at, nil_from_length, length-drop, is_separator, Longest, Item, BeginsCommand, ScriptFault}
+use Rattle.sedck_commands.proofs.Common.{◌≡◌, ℕ, suc, ◌<◌, ◌-◌, List, [], ◌∷◌, ◌++◌, length, take, drop, get_or, sym, subst, subst₂, arith, split_at, nil_from_length, length-drop, is_separator, Longest, Item, BeginsCommand, ScriptFault, LabelFault, VerbFault, CommandFault, ItemsFault}
 use Rattle.sedck_commands.proofs.ProgressLemmas.{skipped, at_front}
-use Rattle.sedck_commands.specs.FirstFaults.{LabelFault, VerbFault, CommandFault, ItemsFault}
 use Rattle.sedck_commands.specs.FirstFaults as f
 
 -- separators before the rest change nothing

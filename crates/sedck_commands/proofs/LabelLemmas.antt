@@ -1,8 +1,6 @@
 -- Labels of branches, and what may be after a label.
-use Rattle.sedck_commands.proofs.Common.{◌≡◌, ℕ, Bool, true, false, not, ◌||◌, ◌≢◌, ◌<◌, List, ◌∷◌, ◌++◌, length, Option, Some, None, ap, sym, ◌∙◌, subst, arith, nil_from_length, ◌==◌, is_blank, is_separator, is_ending, is_label_byte, IsEmptyOr, Longest, Ends, LabelText, IsNoBrace, begins_braced_comment, BranchText, longest_one}
+use Rattle.sedck_commands.proofs.Common.{◌≡◌, ℕ, Bool, true, false, not, ◌||◌, ◌≢◌, ◌<◌, List, ◌∷◌, ◌++◌, length, Option, Some, None, ap, sym, ◌∙◌, subst, arith, nil_from_length, ◌==◌, is_blank, is_separator, is_ending, is_label_byte, IsEmptyOr, Longest, Ends, LabelText, IsNoBrace, begins_braced_comment, BranchText, longest_one, IsNoComment, EndsJump}
 use Rattle.sedck_commands.proofs.UniqueParts.{ends_first}
-use Rattle.sedck_commands.specs.Items.{IsNoComment}
-use Rattle.sedck_commands.specs.Private.Alike.{EndsJump}
 use Rattle.sedck_commands.specs.Private.Reading.{IsLabelAt}
 use Rattle.sedck_commands.proofs.UniqueVerbs.{label_or_end}
 

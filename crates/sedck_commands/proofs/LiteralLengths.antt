@@ -1,6 +1,5 @@
 -- The length of the literal parts of a replacement, part after part.
-use Rattle.sedck_commands.proofs.Common.{◌≡◌, ℕ, zero, suc, ◌+◌, ◌<◌, ◌≤◌, List, [], ◌∷◌, map, length, get_or, take, ap, ◌∙◌, arith, get_or-map, length-map, Part, part_length, literal_length, part_of}
-use Rattle.sedck_commands.specs.declared.types.Part.{Part as Coded}
+use Rattle.sedck_commands.proofs.Common.{◌≡◌, ℕ, zero, suc, ◌+◌, ◌<◌, ◌≤◌, List, [], ◌∷◌, map, length, get_or, take, ap, ◌∙◌, arith, get_or-map, length-map, Part, part_length, literal_length, part_of, Coded}
 use Rattle.sedck_commands.specs.declared.types.Part.TheVariants.{Text as PartText}
 
 pub length_more : (ps : List Part) (i : ℕ) (z : Part) → i < length ps

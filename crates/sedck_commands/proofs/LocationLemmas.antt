@@ -1,7 +1,6 @@
 -- The locations of the commands of a text are as many as these, and in order.
-use Rattle.sedck_commands.proofs.Common.{◌≡◌, ℕ, suc, ◌≤◌, ◌-◌, List, length, refl, ap, arith, Item, Items, locations_of, commands_among}
+use Rattle.sedck_commands.proofs.Common.{◌≡◌, ℕ, suc, ◌≤◌, ◌-◌, List, length, refl, ap, arith, Item, Items, locations_of, commands_among, AreInOrder}
 use Rattle.sedck_commands.specs.Items as w
-use Rattle.sedck_commands.specs.Locations.{AreInOrder}
 use Rattle.sedck_commands.proofs.OffsetLemmas.{tail_cut, tail_length, ends_tail, verb_text_shorter}
 use Rattle.sedck_commands.proofs.CommandLemmas.{address_tail}
 

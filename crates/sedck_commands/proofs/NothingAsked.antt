@@ -1,6 +1,5 @@
 -- What is read with something asked besides the grammar is read so with nothing asked.
-use Rattle.sedck_commands.proofs.Common.{ℕ, Bool, List, Narrowings, Pattern, Place, Address, Part, Substitution, ExpressionTextIn, IsPatternIn, NameIn, FlagsIn, PlaceTextIn, AddressTextIn, WrittenVerb, Item, VerbTextIn, CommandTextIn, ItemsIn}
-use Rattle.sedck_commands.specs.Narrowings.{nothing_asked}
+use Rattle.sedck_commands.proofs.Common.{ℕ, Bool, List, Narrowings, Pattern, Place, Address, Part, Substitution, ExpressionTextIn, IsPatternIn, NameIn, FlagsIn, PlaceTextIn, AddressTextIn, WrittenVerb, Item, VerbTextIn, CommandTextIn, ItemsIn, nothing_asked}
 use Rattle.sedck_commands.specs.Parts as p
 use Rattle.sedck_commands.specs.Items as w
 

@@ -1,9 +1,7 @@
 -- The addresses of a command have one fault at most, and can't be read where they have one.
-use Rattle.sedck_commands.proofs.Common.{◌≡◌, ◌≢◌, ℕ, true, List, [], ◌∷◌, refl, ap, sym, ◌∙◌, subst, arith, both_ways, not-true, not_from_false, false_from_ne_true, IsTrue, is_digit, is_delimiter, Longest, Place, Address, One, PlaceText, AddressText, WrittenVerb, VerbText, is_mark, begins_address, ScriptFault, longest_one}
+use Rattle.sedck_commands.proofs.Common.{◌≡◌, ◌≢◌, ℕ, true, List, [], ◌∷◌, refl, ap, sym, ◌∙◌, subst, arith, both_ways, not-true, not_from_false, false_from_ne_true, IsTrue, is_digit, is_delimiter, Longest, Place, Address, One, PlaceText, AddressText, WrittenVerb, VerbText, is_mark, begins_address, ScriptFault, longest_one, HasNoDelimiter, PlaceFault, IsAfterComma, BeginsNoAddress, AddressFault, AreAddresses, BadAddress, Unterminated}
 use Rattle.sedck_commands.specs.Parts as p
-use Rattle.sedck_commands.specs.FirstFaults.{HasNoDelimiter, PlaceFault, IsAfterComma, BeginsNoAddress, AddressFault, AreAddresses}
 use Rattle.sedck_commands.specs.FirstFaults as o
-use Rattle.sedck_commands.specs.declared.fault.ScriptFault.TheVariants.{BadAddress, Unterminated}
 use Rattle.sedck_commands.proofs.FirstBytes.{heads, tails}
 use Rattle.sedck_commands.proofs.UniqueVerbs.{no_backslash}
 use Rattle.sedck_commands.proofs.UniqueItems.{place_class, place_begins, place_one, place_no_mark, place_other, no_verb_here, no_comma_here, longest_along}

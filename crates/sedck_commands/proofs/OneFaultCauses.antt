@@ -1,12 +1,8 @@
 -- An expression is misjudged for one cause, so that a text has one first fault at most.
-use Rattle.sedck_commands.proofs.Common.{◌≡◌, ℕ, List, subst, Item, ScriptFault}
-use Rattle.sedck_expressions.specs.Tree.{Tree}
+use Rattle.sedck_commands.proofs.Common.{◌≡◌, ℕ, List, subst, Item, ScriptFault, Tree, ReFault, one_tree, ItemsFault}
 use Rattle.sedck_expressions.specs.Misjudged.{IsMisjudgedAt, IsFirstMisjudged}
-use Rattle.sedck_expressions.specs.declared.fault.ReFault.{ReFault}
 use Rattle.sedck_expressions.specs.declared.fault.ReFault.TheVariants.{BadReference, NothingToRepeat}
-use Rattle.sedck_expressions.proofs.WholeReading.{one_tree}
 use Rattle.sedck_expressions.proofs.FirstSought.{one_first_sought}
-use Rattle.sedck_commands.specs.FirstFaults.{ItemsFault}
 use Rattle.sedck_commands.proofs.OneFaultParts.{OneCause}
 use Rattle.sedck_commands.proofs.OneFaultItems.{faults_are_one}
 

@@ -1,12 +1,7 @@
 -- Ends of commands, comments, texts and names have one fault at most, and can't be read where they have one.
-use Rattle.sedck_commands.proofs.Common.{◌≡◌, ℕ, ◌<◌, true, not, List, [], ◌∷◌, ◌++◌, length, refl, ap, sym, ◌∙◌, inl, inr, arith, false≢true, both_ways, not-true, is_newline, is_continued, IsEmptyOr, Longest, Ends, Name, HasNoInnerReturn, ScriptFault, longest_one}
-use Rattle.std.specs.List.{Contains}
-use Rattle.std.proofs.lemmas.List.Elements.{Contains-append_right}
+use Rattle.sedck_commands.proofs.Common.{◌≡◌, ℕ, ◌<◌, true, not, List, [], ◌∷◌, ◌++◌, length, refl, ap, sym, ◌∙◌, inl, inr, arith, false≢true, both_ways, not-true, is_newline, is_continued, IsEmptyOr, Longest, Ends, Name, HasNoInnerReturn, ScriptFault, longest_one, Contains, Contains-append_right, EndsFlags, BeginsAt, EndFault, EndFlagsFault, CommentFault, TextFault, NameFault, ExtraText}
 use Rattle.sedck_bre.specs.Brackets.{is_from}
-use Rattle.sedck_commands.specs.Private.Reading.{EndsFlags}
-use Rattle.sedck_commands.specs.FirstFaults.{BeginsAt, EndFault, EndFlagsFault, CommentFault, TextFault, NameFault}
 use Rattle.sedck_commands.specs.FirstFaults as o
-use Rattle.sedck_commands.specs.declared.fault.ScriptFault.TheVariants.{ExtraText}
 use Rattle.sedck_commands.proofs.CommandEnds.{no_end}
 use Rattle.sedck_commands.proofs.FirstBytes.{heads, tails}
 use Rattle.sedck_commands.proofs.UniqueParts.{ends_one}

@@ -1,10 +1,7 @@
 -- What a substitution takes has one fault at most, and can't be read where it has one.
-use Rattle.sedck_commands.proofs.Common.{◌≡◌, ◌≢◌, ℕ, Bool, true, false, ◌||◌, cond, List, [], ◌∷◌, None, refl, ap, sym, ◌∙◌, subst, arith, false≢true, false_from_ne_true, one_of, is_digit, is_blank, is_ending, Number, Pattern, Part, Substitution, ExpressionText, Flags, IsPattern, WrittenVerb, VerbText, ScriptFault}
-use Rattle.sedck_commands.specs.Parts.{greatest_group}
+use Rattle.sedck_commands.proofs.Common.{◌≡◌, ◌≢◌, ℕ, Bool, true, false, ◌||◌, cond, List, [], ◌∷◌, None, refl, ap, sym, ◌∙◌, subst, arith, false≢true, false_from_ne_true, one_of, is_digit, is_blank, is_ending, Number, Pattern, Part, Substitution, ExpressionText, Flags, IsPattern, WrittenVerb, VerbText, ScriptFault, greatest_group, begins_flag, FlagsFault, SubstitutionFault, BadFlag}
 use Rattle.sedck_commands.specs.Parts as p
-use Rattle.sedck_commands.specs.FirstFaults.{begins_flag, FlagsFault, SubstitutionFault}
 use Rattle.sedck_commands.specs.FirstFaults as o
-use Rattle.sedck_commands.specs.declared.fault.ScriptFault.TheVariants.{BadFlag}
 use Rattle.sedck_commands.proofs.FirstBytes.{heads, tails}
 use Rattle.sedck_commands.proofs.UniqueParts.{number_one, number_first, digit_no_end, expression_one, pattern_one, replacement_one, head_flag, number_flag, flags_begin}
 use Rattle.sedck_commands.proofs.UniqueVerbs.{no_backslash}

@@ -1,10 +1,6 @@
 -- A text has one first fault at most.
-use Rattle.sedck_commands.proofs.Common.{◌≡◌, ◌≢◌, ℕ, ◌<◌, ◌≤◌, Bool, true, false, not, List, [], ◌∷◌, ◌++◌, length, Option, refl, ap, sym, ◌∙◌, subst, subst₂, ◌||◌, cond, arith, eqb, list_any, false≢true, both_ways, not-true, length-append, is_in, verb_bytes, is_separator, IsEmptyOr, Longest, Address, WrittenVerb, JumpTo, Opening, Takes, VerbText, CommandText, Item, is_mark, Turn, Opens, Closes, Stays, Jumps, verb_turn, BeginsCommand, ScriptFault, longest_one}
-use Rattle.std.proofs.lemmas.Bool.{ne_eqb}
-use Rattle.sedck_commands.specs.Blocks.{turn_of}
-use Rattle.sedck_commands.specs.FirstFaults.{AreAddresses, takes, CheckFault, MayGoOn, CommandFault, NotesBlock, ItemsFault}
+use Rattle.sedck_commands.proofs.Common.{◌≡◌, ◌≢◌, ℕ, ◌<◌, ◌≤◌, Bool, true, false, not, List, [], ◌∷◌, ◌++◌, length, Option, refl, ap, sym, ◌∙◌, subst, subst₂, ◌||◌, cond, arith, eqb, list_any, false≢true, both_ways, not-true, length-append, is_in, verb_bytes, is_separator, IsEmptyOr, Longest, Address, WrittenVerb, JumpTo, Opening, Takes, VerbText, CommandText, Item, is_mark, Turn, Opens, Closes, Stays, Jumps, verb_turn, BeginsCommand, ScriptFault, longest_one, ne_eqb, turn_of, AreAddresses, takes, CheckFault, MayGoOn, CommandFault, NotesBlock, ItemsFault, UnknownCommand, TooManyAddresses, TooDeep, TooManyCommands, BadLabel, UnopenedBlock, UnclosedBlock}
 use Rattle.sedck_commands.specs.FirstFaults as o
-use Rattle.sedck_commands.specs.declared.fault.ScriptFault.TheVariants.{UnknownCommand, TooManyAddresses, TooDeep, TooManyCommands, BadLabel, UnopenedBlock, UnclosedBlock}
 use Rattle.sedck_commands.proofs.FirstBytes.{heads, tails}
 use Rattle.sedck_commands.proofs.UniqueParts.{ends_one}
 use Rattle.sedck_commands.proofs.UniqueVerbs.{verb_one}

@@ -1,9 +1,7 @@
 -- A label has one fault at most, and can't be read where it has one.
-use Rattle.sedck_commands.proofs.Common.{◌≡◌, ◌≢◌, ℕ, ◌<◌, Bool, false, List, [], ◌∷◌, ◌++◌, length, Option, refl, ap, sym, ◌∙◌, subst, arith, false≢true, both_ways, is_separator, IsEmptyOr, Label, Ends, LabelText, BranchText, WrittenVerb, Known, VerbText, begins_braced_comment, ScriptFault, longest_one}
+use Rattle.sedck_commands.proofs.Common.{◌≡◌, ◌≢◌, ℕ, ◌<◌, Bool, false, List, [], ◌∷◌, ◌++◌, length, Option, refl, ap, sym, ◌∙◌, subst, arith, false≢true, both_ways, is_separator, IsEmptyOr, Label, Ends, LabelText, BranchText, WrittenVerb, Known, VerbText, begins_braced_comment, ScriptFault, longest_one, IsLabelAt, DefinitionFault, LabelFault, ends_label, JumpFault, BadLabel, DuplicateLabel}
 use Rattle.sedck_commands.specs.Items as w
-use Rattle.sedck_commands.specs.FirstFaults.{IsLabelAt, DefinitionFault, LabelFault, ends_label, JumpFault}
 use Rattle.sedck_commands.specs.FirstFaults as o
-use Rattle.sedck_commands.specs.declared.fault.ScriptFault.TheVariants.{BadLabel, DuplicateLabel}
 use Rattle.sedck_commands.proofs.UniqueParts.{ends_one}
 use Rattle.sedck_commands.proofs.UniqueVerbs.{class_of, begins, differ}
 use Rattle.sedck_commands.proofs.UniqueItems.{longest_along}

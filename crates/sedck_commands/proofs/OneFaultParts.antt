@@ -1,16 +1,8 @@
 -- Parts between delimiters have one fault at most, and can't be read where they have one.
-use Rattle.sedck_commands.proofs.Common.{◌≡◌, ◌≢◌, ℕ, List, [], ◌∷◌, ◌++◌, length, None, refl, ap, sym, ◌∙◌, subst, append_assoc, inl, inr, ◌⊎◌, arith, false≢true, IsTrue, Pattern, DelimitedExpression, ExpressionText, DelimitedList, FirstList, is_misread, IsExpression, PatternText, Piece, IsPiece, list_escape, ScriptFault}
-use Rattle.std.proofs.lemmas.List.{append_cancel_left, append_cancel_right}
-use Rattle.sedck_expressions.specs.Tree.{Tree}
-use Rattle.sedck_expressions.specs.declared.fault.ReFault.{ReFault}
-use Rattle.sedck_expressions.proofs.WholeReading.{one_tree}
-use Rattle.sedck_commands.specs.BracketLists.{BracketList, BracketsClose}
+use Rattle.sedck_commands.proofs.Common.{◌≡◌, ◌≢◌, ℕ, List, [], ◌∷◌, ◌++◌, length, None, refl, ap, sym, ◌∙◌, subst, append_assoc, inl, inr, ◌⊎◌, arith, false≢true, IsTrue, Pattern, DelimitedExpression, ExpressionText, DelimitedList, FirstList, is_misread, IsExpression, PatternText, Piece, IsPiece, list_escape, ScriptFault, append_cancel_left, append_cancel_right, Tree, ReFault, one_tree, BracketList, BracketsClose, IsNoExpression, IsMisjudged, BeginsAt, PieceFault, CutFault, ExpressionTextFault, PatternFault, ListFault, FirstListFault, Unterminated, EscapedDelimiter, BadExpression, BadTransliteration}
 use Rattle.sedck_commands.specs.BracketLists as b
-use Rattle.sedck_commands.specs.Faults.{IsNoExpression, IsMisjudged}
-use Rattle.sedck_commands.specs.FirstFaults.{BeginsAt, PieceFault, CutFault, ExpressionTextFault, PatternFault, ListFault, FirstListFault}
 use Rattle.sedck_commands.specs.FirstFaults as o
 use Rattle.sedck_commands.specs.declared.delimited.Piece.TheVariants as piece
-use Rattle.sedck_commands.specs.declared.fault.ScriptFault.TheVariants.{Unterminated, EscapedDelimiter, BadExpression, BadTransliteration}
 use Rattle.sedck_commands.proofs.FirstBytes.{heads, tails}
 use Rattle.sedck_commands.proofs.UniqueParts.{FirstPiece, at_piece, expression_first, expression_one, list_first, list_one}
 use Rattle.sedck_commands.proofs.PieceLemmas.{no_pattern}

@@ -1,10 +1,7 @@
 -- A replacement has one fault at most, and can't be read where it has one.
-use Rattle.sedck_commands.proofs.Common.{◌≡◌, ◌≢◌, ℕ, List, [], ◌∷◌, ◌++◌, refl, ap, sym, ◌∙◌, subst, inl, inr, ◌⊎◌, arith, Longest, Part, Group, EscapedPart, Replacement, is_plain, Piece, IsPiece, HasGroupsUpTo, ScriptFault, longest_one}
-use Rattle.std.proofs.lemmas.List.Elements.{Contains-append_right}
-use Rattle.sedck_commands.specs.FirstFaults.{BeginsAt, IsPartWithin, ReplacementFault}
+use Rattle.sedck_commands.proofs.Common.{◌≡◌, ◌≢◌, ℕ, List, [], ◌∷◌, ◌++◌, refl, ap, sym, ◌∙◌, subst, inl, inr, ◌⊎◌, arith, Longest, Part, Group, EscapedPart, Replacement, is_plain, Piece, IsPiece, HasGroupsUpTo, ScriptFault, longest_one, Contains-append_right, BeginsAt, IsPartWithin, ReplacementFault, BadReplacement}
 use Rattle.sedck_commands.specs.FirstFaults as o
 use Rattle.sedck_commands.specs.declared.delimited.Piece.TheVariants as piece
-use Rattle.sedck_commands.specs.declared.fault.ScriptFault.TheVariants.{BadReplacement}
 use Rattle.sedck_commands.proofs.UniqueParts.{at_piece, replacement_first, whole_behind, run_behind, plain_run}
 use Rattle.sedck_commands.proofs.OneFaultEnds.{at_one}
 use Rattle.sedck_commands.proofs.OneFaultParts.{PartView, piece_not, missing_piece, there_piece}

@@ -1,7 +1,6 @@
 -- A verb has one fault at most in what it takes, and can't be read where it has one.
-use Rattle.sedck_commands.proofs.Common.{◌≡◌, ◌≢◌, ℕ, true, false, eqb, eqb-true, codes, cond, List, [], ◌∷◌, length, refl, ap, sym, ◌∙◌, inl, inr, ◌⊎◌, arith, IsTrue, one_of, is_delimiter, DelimitedList, FirstList, WrittenVerb, VerbText, Simple, jump_byte, ScriptFault}
+use Rattle.sedck_commands.proofs.Common.{◌≡◌, ◌≢◌, ℕ, true, false, eqb, eqb-true, codes, cond, List, [], ◌∷◌, length, refl, ap, sym, ◌∙◌, inl, inr, ◌⊎◌, arith, IsTrue, one_of, is_delimiter, DelimitedList, FirstList, WrittenVerb, VerbText, Simple, jump_byte, ScriptFault, FirstListFault, ListFault, TransliterationFault, VerbFault}
 use Rattle.sedck_commands.specs.Items as w
-use Rattle.sedck_commands.specs.FirstFaults.{FirstListFault, ListFault, TransliterationFault, VerbFault}
 use Rattle.sedck_commands.specs.FirstFaults as o
 use Rattle.sedck_commands.proofs.FirstBytes.{heads, tails}
 use Rattle.sedck_commands.proofs.UniqueParts.{list_one}

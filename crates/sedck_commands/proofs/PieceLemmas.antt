@@ -1,11 +1,8 @@
 -- How far a delimited part has been read.
-use Rattle.sedck_commands.proofs.Common.{◌≡◌, ◌≢◌, ℕ, ◌-◌, ◌<◌, ◌≤◌, take, length-append, Some, inl, inr, ◌⊎◌, List, [], ◌∷◌, ◌++◌, length, refl, ap, sym, ◌∙◌, subst, append_assoc, append-nil, arith, DelimitedExpression, ExpressionText, DelimitedList, previous, expression, IsExpression, IsPattern, nat_tests, Tree, Pattern, Previous, Expression, IsPiece, IsReadUpTo, IsWrittenUpTo, list_escape, PatternText, unread, Cursor, unread_length, nil_from_length, ScriptFault}
-use Rattle.sedck_commands.specs.FirstFaults.{CutFault}
+use Rattle.sedck_commands.proofs.Common.{◌≡◌, ◌≢◌, ℕ, ◌-◌, ◌<◌, ◌≤◌, take, length-append, Some, inl, inr, ◌⊎◌, List, [], ◌∷◌, ◌++◌, length, refl, ap, sym, ◌∙◌, subst, append_assoc, append-nil, arith, DelimitedExpression, ExpressionText, DelimitedList, previous, expression, IsExpression, IsPattern, nat_tests, Tree, Pattern, Previous, Expression, IsPiece, IsReadUpTo, IsWrittenUpTo, list_escape, PatternText, unread, Cursor, unread_length, nil_from_length, ScriptFault, CutFault, Matched, read_alike}
 use Rattle.sedck_commands.specs.Parts as p
 use Rattle.sedck_commands.specs.declared.delimited.Piece.TheVariants as piece
 use Rattle.sedck_expressions.specs.Shape.{SpellsTree}
-use Rattle.sedck_commands.specs.Narrowings.{Matched}
-use Rattle.sedck_commands.specs.ReadAlike.{read_alike}
 use Rattle.sedck_commands.proofs.OffsetLemmas.{take_front}
 use Rattle.sedck_commands.proofs.UniqueParts.{expression_one}
 

@@ -1,7 +1,6 @@
 -- What is at the offset of a fault of an address.
-use Rattle.sedck_commands.proofs.Common.{◌≡◌, ℕ, true, false, List, [], ◌∷◌, length, refl, sym, ◌∙◌, inl, inr, false≢true, is_in, ScriptFault, verb_bytes, IsPlaced, EndsIn}
-use Rattle.sedck_commands.specs.Faults.{begins_part, IsUnread}
-use Rattle.sedck_commands.specs.FirstFaults.{BeginsAt, PlaceFault, AddressFault}
+use Rattle.sedck_commands.proofs.Common.{◌≡◌, ℕ, true, false, List, [], ◌∷◌, length, refl, sym, ◌∙◌, inl, inr, false≢true, is_in, ScriptFault, verb_bytes, IsPlaced, EndsIn, begins_part, BeginsAt, PlaceFault, AddressFault}
+use Rattle.sedck_commands.specs.Faults.{IsUnread}
 use Rattle.sedck_commands.specs.FirstFaults as o
 use Rattle.sedck_commands.specs.declared.fault.ScriptFault.TheVariants as fault
 use Rattle.sedck_commands.proofs.OffsetLemmas.{tail_cut, tail_tail, tail_behind}

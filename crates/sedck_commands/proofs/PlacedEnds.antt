@@ -1,6 +1,5 @@
 -- What is at the offset of a fault of an end, a comment, a text or a name.
-use Rattle.sedck_commands.proofs.Common.{◌≡◌, ℕ, ◌+◌, Bool, true, false, List, [], ◌∷◌, ◌++◌, length, refl, ap, ◌∙◌, append_assoc, arith, not-true, one_of, is_blank, is_continued, begins_address, StandsWhere, is_extra, IsPlaced, EndsIn, ScriptFault, drop, subst, sym, false≢true, VerbText}
-use Rattle.sedck_commands.specs.FirstFaults.{BeginsAt, EndFault, EndFlagsFault, CommentFault, TextFault, NameFault}
+use Rattle.sedck_commands.proofs.Common.{◌≡◌, ℕ, ◌+◌, Bool, true, false, List, [], ◌∷◌, ◌++◌, length, refl, ap, ◌∙◌, append_assoc, arith, not-true, one_of, is_blank, is_continued, begins_address, StandsWhere, is_extra, IsPlaced, EndsIn, ScriptFault, drop, subst, sym, false≢true, VerbText, BeginsAt, EndFault, EndFlagsFault, CommentFault, TextFault, NameFault}
 use Rattle.sedck_commands.specs.FirstFaults as o
 use Rattle.sedck_commands.specs.Faults.{IsUnread}
 use Rattle.sedck_commands.proofs.UniqueVerbs.{NoVerb}

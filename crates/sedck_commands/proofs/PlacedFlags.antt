@@ -1,7 +1,5 @@
 -- What is at the offset of a fault of what `s` and `y` take.
-use Rattle.sedck_commands.proofs.Common.{◌≡◌, ℕ, Bool, List, ◌∷◌, length, refl, inl, arith, ScriptFault, IsPlaced, EndsIn, is_digit, is_extra, true, not_from_false, false_from_ne_true}
-use Rattle.sedck_commands.specs.Faults.{begins_part}
-use Rattle.sedck_commands.specs.FirstFaults.{BeginsAt, FlagsFault, SubstitutionFault, TransliterationFault}
+use Rattle.sedck_commands.proofs.Common.{◌≡◌, ℕ, Bool, List, ◌∷◌, length, refl, inl, arith, ScriptFault, IsPlaced, EndsIn, is_digit, is_extra, true, not_from_false, false_from_ne_true, begins_part, BeginsAt, FlagsFault, SubstitutionFault, TransliterationFault}
 use Rattle.sedck_commands.specs.FirstFaults as o
 use Rattle.sedck_commands.specs.declared.fault.ScriptFault.TheVariants as fault
 use Rattle.sedck_commands.proofs.OffsetLemmas.{tail_tail, tail_behind, number_tail, expression_tail, list_tail, replacement_tail}

@@ -1,10 +1,8 @@
 -- What is at the offset of a fault of a verb, a command or items.
-use Rattle.sedck_commands.proofs.Common.{All, ascii, ◌≡◌, ℕ, ◌+◌, Bool, true, not, List, [], ◌∷◌, ◌++◌, Option, Some, length, refl, ap, sym, subst, length-append, arith, All-push, begins, is_label_byte, IsEmptyOr, Longest, Address, AddressText, WrittenVerb, Known, JumpTo, Opening, VerbText, Item, is_mark, verb_turn, BeginsCommand, StandsAt, EndsOrFails, IsPlaced, EndsIn, ScriptFault}
-use Rattle.std.proofs.lemmas.List.Elements.{All-pop, All-nil}
+use Rattle.sedck_commands.proofs.Common.{All, ascii, ◌≡◌, ℕ, ◌+◌, Bool, true, not, List, [], ◌∷◌, ◌++◌, Option, Some, length, refl, ap, sym, subst, length-append, arith, All-push, begins, is_label_byte, IsEmptyOr, Longest, Address, AddressText, WrittenVerb, Known, JumpTo, Opening, VerbText, Item, is_mark, verb_turn, BeginsCommand, StandsAt, EndsOrFails, IsPlaced, EndsIn, ScriptFault, All-pop, All-nil, FollowsLabel, BeginsAt, IsLabelAt, AreAddresses, VerbFault, CheckFault, CommandFault, NotesBlock, ItemsFault}
 use Rattle.sedck_commands.specs.Parts as p
 use Rattle.sedck_commands.specs.Items as w
-use Rattle.sedck_commands.specs.Faults.{IsVerbDue, FollowsLabel}
-use Rattle.sedck_commands.specs.FirstFaults.{BeginsAt, IsLabelAt, AreAddresses, VerbFault, CheckFault, CommandFault, NotesBlock, ItemsFault}
+use Rattle.sedck_commands.specs.Faults.{IsVerbDue}
 use Rattle.sedck_commands.specs.FirstFaults as o
 use Rattle.sedck_commands.proofs.OffsetLemmas.{tail_cut, tail_tail, tail_behind, ends_tail, verb_text_tail}
 use Rattle.sedck_commands.proofs.TextEnds.{whole_from, byte_at, fails_at}

@@ -1,8 +1,6 @@
 -- What is at the offset of a fault of a label.
-use Rattle.sedck_commands.proofs.Common.{◌≡◌, ℕ, true, List, ◌∷◌, ◌++◌, length, refl, ap, sym, ◌∙◌, append_assoc, arith, one_of, is_label_byte, EndsOrFails, IsPlaced, EndsIn, ScriptFault}
-use Rattle.sedck_commands.specs.FirstFaults.{BeginsAt, IsLabelAt, DefinitionFault, LabelFault, JumpFault}
+use Rattle.sedck_commands.proofs.Common.{◌≡◌, ℕ, true, List, ◌∷◌, ◌++◌, length, refl, ap, sym, ◌∙◌, append_assoc, arith, one_of, is_label_byte, EndsOrFails, IsPlaced, EndsIn, ScriptFault, BeginsAt, IsLabelAt, DefinitionFault, LabelFault, JumpFault, FollowsLabel}
 use Rattle.sedck_commands.specs.FirstFaults as o
-use Rattle.sedck_commands.specs.Faults.{FollowsLabel}
 use Rattle.sedck_commands.proofs.OffsetLemmas.{tail_cut, tail_tail, tail_behind}
 use Rattle.sedck_commands.proofs.TextEnds.{whole_from, whole_to, fails_at, follows_byte}
 use Rattle.sedck_commands.proofs.UniqueItems.{longest_along}

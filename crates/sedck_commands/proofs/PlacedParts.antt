@@ -1,6 +1,5 @@
 -- What is at the offset of a fault of a part between delimiters.
-use Rattle.sedck_commands.proofs.Common.{◌≡◌, ℕ, ◌-◌, ◌<◌, true, List, ◌∷◌, ◌++◌, length, refl, ap, sym, ◌∙◌, subst, append_assoc, length-append, inl, inr, arith, and_from, IsTrue, is_delimiter, ScriptFault, StandsAt, IsPlaced, EndsIn}
-use Rattle.sedck_commands.specs.FirstFaults.{BeginsAt, PieceFault, CutFault, ExpressionTextFault, PatternFault, ListFault, FirstListFault, ReplacementFault}
+use Rattle.sedck_commands.proofs.Common.{◌≡◌, ℕ, ◌-◌, ◌<◌, true, List, ◌∷◌, ◌++◌, length, refl, ap, sym, ◌∙◌, subst, append_assoc, length-append, inl, inr, arith, and_from, IsTrue, is_delimiter, ScriptFault, StandsAt, IsPlaced, EndsIn, BeginsAt, PieceFault, CutFault, ExpressionTextFault, PatternFault, ListFault, FirstListFault, ReplacementFault}
 use Rattle.sedck_commands.specs.FirstFaults as o
 use Rattle.sedck_commands.specs.declared.fault.ScriptFault.TheVariants as fault
 use Rattle.sedck_commands.proofs.OffsetLemmas.{tail_cut, tail_tail, tail_behind}

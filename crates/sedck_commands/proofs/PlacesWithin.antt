@@ -1,6 +1,5 @@
 -- The place of a fault is within the text.
-use Rattle.sedck_commands.proofs.Common.{ℕ, ◌<◌, ◌≤◌, List, length, drop, ap, length-append, inl, inr, arith, IfSome, length-drop, slice_get_within, is_label_byte, Longest, StandsAt, IsPlaced, ScriptFault}
-use Rattle.sedck_commands.specs.FaultWords.{fault_place}
+use Rattle.sedck_commands.proofs.Common.{ℕ, ◌<◌, ◌≤◌, List, length, drop, ap, length-append, inl, inr, arith, IfSome, length-drop, slice_get_within, is_label_byte, Longest, StandsAt, IsPlaced, ScriptFault, fault_place}
 use Rattle.sedck_commands.specs.declared.fault.ScriptFault.TheVariants as fault
 
 within : (text : List ℕ) (place b : ℕ) → StandsAt text place b → place ≤ length text

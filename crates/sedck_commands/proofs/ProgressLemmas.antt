@@ -1,12 +1,7 @@
 -- How the items of a script go on.
-use Rattle.sedck_commands.proofs.Common.{◌≡◌, ℕ, suc, ◌<◌, Bool, false, List, [], ◌∷◌, ◌++◌, length, map, refl, ap, sym, ◌∙◌, subst, append_assoc, append-nil, arith, is_separator, Longest, slice_get_within, nil_from_length, Address, NoAddress, Label, Ends, WrittenVerb, Known, Takes, CommandText, Item, Written, Closing, Items, item_of, locations_in, Turn, Opens, Closes, Stays, Jumps, verb_turn, location_of, locations_of, Location, IsProgress, BeginsCommand, longest_one, unread, Cursor, unread_length}
+use Rattle.sedck_commands.proofs.Common.{◌≡◌, ℕ, suc, ◌<◌, Bool, false, List, [], ◌∷◌, ◌++◌, length, map, refl, ap, sym, ◌∙◌, subst, append_assoc, append-nil, arith, is_separator, Longest, slice_get_within, nil_from_length, Address, NoAddress, Label, Ends, WrittenVerb, Known, Takes, CommandText, Item, Written, Closing, Items, item_of, locations_in, Turn, Opens, Closes, Stays, Jumps, verb_turn, location_of, locations_of, Location, IsProgress, BeginsCommand, longest_one, unread, Cursor, unread_length, IsLabelOf, AreLabelsOnce, Turned, Nests, IsFront, ItemsFault, ScriptFault}
 use Rattle.sedck_commands.specs.Items as w
-use Rattle.sedck_commands.specs.Labels.{IsLabelOf, AreLabelsOnce}
 use Rattle.sedck_commands.specs.Private.CommentReading.{CommentText}
-use Rattle.sedck_commands.specs.Blocks.{Turned, Nests}
-use Rattle.sedck_commands.specs.Private.Progress.{IsFront}
-use Rattle.sedck_commands.specs.FirstFaults.{ItemsFault}
-use Rattle.sedck_commands.specs.declared.fault.ScriptFault.{ScriptFault}
 use Rattle.sedck_commands.specs.declared.items.Progress.{Progress}
 use Rattle.sedck_commands.proofs.OffsetLemmas.{tail_cut, tail_length, verb_text_shorter}
 use Rattle.sedck_commands.proofs.LabelPlaces.{get_front, get_seam}

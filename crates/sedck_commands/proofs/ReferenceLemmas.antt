@@ -1,22 +1,15 @@
 -- The groups that a replacement keeps, read part after part, are those that it names; outside of them the rest is the same.
-use Rattle.sedck_commands.proofs.Common.{◌≡◌, ◌≢◌, ℕ, ◌+◌, ◌<◌, ◌≤◌, ◌^◌, Bool, true, false, not, ◌||◌, List, [], ◌∷◌, map, get_or, drop, length, Option, Some, None, refl, sym, ap, subst, ◌∙◌, inl, inr, arith, All, AllByRecursion, get_or-map, length-map, or-false, false≢true, and_parts, not-true, nat_tests, eqb_tells, is_in, Tree, Pattern, Previous, Expression, Part, Whole, Group, part_of, IsPart, kept_from, named_groups, KeepsGroups}
+use Rattle.sedck_commands.proofs.Common.{◌≡◌, ◌≢◌, ℕ, ◌+◌, ◌<◌, ◌≤◌, ◌^◌, Bool, true, false, not, ◌||◌, List, [], ◌∷◌, map, get_or, drop, length, Option, Some, None, refl, sym, ap, subst, ◌∙◌, inl, inr, arith, All, AllByRecursion, get_or-map, length-map, or-false, false≢true, and_parts, not-true, nat_tests, eqb_tells, is_in, Tree, Pattern, Previous, Expression, Part, Whole, Group, part_of, IsPart, kept_from, named_groups, KeepsGroups, unwrap_or, drop_more, All-get_or, or-true, or_assoc, or_parts, Coded, may_keep, kept_with, HasNoWhole, IsNotIn, AreDistinct, AreTopGroups}
 use Rattle.std.proofs.Common.{◌==◌, IsTrue}
-use Rattle.std.specs.Prelude.{is_some, unwrap_or}
+use Rattle.std.specs.Prelude.{is_some}
 use Rattle.std.specs.Int.{bit_at}
 use Rattle.std.specs.Int.RustNames.{bit_or}
-use Rattle.std.proofs.lemmas.List.{drop_more}
-use Rattle.std.proofs.lemmas.List.Elements.{All-get_or}
-use Rattle.std.proofs.Math.Bool.{or-true, or_assoc}
-use Rattle.std.proofs.lemmas.Bool.{or_parts}
 use Rattle.std.proofs.lemmas.Nat.Bits.{bit_at_or, bit_at-pow_same, bit_at-pow_other, bit_at-zero}
 use Rattle.sedck_bre.specs.Match.{Groups}
 use Rattle.sedck_bre.specs.Lengths.{IsLeastSize}
 use Rattle.sedck_bre.specs.Rests.{names, named, is_top_group, NamesTopGroups, texts_length, HasRest}
 use Rattle.sedck_bre.proofs.NamedSums.{sum_of, without, texts_sum, sum_of-none, sum_of-split}
 use Rattle.sedck_bre.proofs.LeastRest.{lengths}
-use Rattle.sedck_commands.specs.declared.types.Part.{Part as Coded}
-use Rattle.sedck_commands.specs.Private.Keeping.{may_keep, kept_with}
-use Rattle.sedck_commands.specs.References.{HasNoWhole, IsNotIn, AreDistinct, AreTopGroups}
 
 -- ---- One group more
 

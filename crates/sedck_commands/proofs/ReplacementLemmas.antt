@@ -1,11 +1,7 @@
 -- How far a replacement has been read.
-use Rattle.sedck_commands.proofs.Common.{◌≡◌, ◌≢◌, ℕ, ◌≤◌, true, List, [], ◌∷◌, ◌++◌, length, take, drop, zero, suc, refl, ap, sym, ◌∙◌, subst, append_assoc, append-nil, length-append, arith, inl, inr, both_ways, not_from_false, or_from, not-true, is_digit, Longest, Part, Text, Whole, Group, EscapedPart, Replacement, is_plain, IsPiece, HasGroupsUpTo}
-use Rattle.std.proofs.lemmas.List.Elements.{Contains-append_cases}
-use Rattle.std.proofs.lemmas.Bool.{ne_eqb}
+use Rattle.sedck_commands.proofs.Common.{◌≡◌, ◌≢◌, ℕ, ◌≤◌, true, List, [], ◌∷◌, ◌++◌, length, take, drop, zero, suc, refl, ap, sym, ◌∙◌, subst, append_assoc, append-nil, length-append, arith, inl, inr, both_ways, not_from_false, or_from, not-true, is_digit, Longest, Part, Text, Whole, Group, EscapedPart, Replacement, is_plain, IsPiece, HasGroupsUpTo, Contains-append_cases, ne_eqb, IsPartWithin, IsFirstPart}
 use Rattle.sedck_commands.specs.Parts as p
 use Rattle.sedck_commands.specs.declared.delimited.Piece.TheVariants as piece
-use Rattle.sedck_commands.specs.FirstFaults.{IsPartWithin}
-use Rattle.sedck_commands.specs.Private.ReplacementReading.{IsFirstPart}
 use Rattle.sedck_commands.proofs.FirstBytes.{heads}
 
 plain_from : (d b : ℕ) → b ≢ d → b ≢ 92 → b ≢ 10 → b ≢ 38 → is_plain d b ≡ true

@@ -1,7 +1,5 @@
 -- What holds of a result where more is known of it.
-use Rattle.sedck_commands.proofs.Common.{◌≡◌, ℕ, List, Option, Some, None, subst, sym, Bor, IfSome}
-use Rattle.std.proofs.Common.{Result, Ok, Err}
-use Rattle.std.specs.Prelude.{IfOk, IfErr, IfNone, IsErrAnd}
+use Rattle.sedck_commands.proofs.Common.{◌≡◌, ℕ, List, Option, Some, None, subst, sym, Bor, IfSome, Result, Ok, Err, IfOk, IfErr, IfNone, IsErrAnd}
 
 pub if_ok_more : {A E : Type 0} {P Q : A → Type 0} (r : Result A E) → ((x : A) → P x → Q x) → IfOk r P → IfOk r Q
 if_ok_more (Ok x) f h = f x h

@@ -1,16 +1,10 @@
 -- What is known of the items read so far, when one more is read.
-use Rattle.sedck_commands.proofs.Common.{◌≡◌, ℕ, suc, ◌<◌, Bool, List, [], ◌∷◌, ◌++◌, length, drop, map, option_or, append_assoc, item_of, Option, Some, None, refl, ap, ◌∙◌, subst, append-nil, length-append, arith, Address, WrittenVerb, Known, JumpTo, Opening, Takes, Item, Written, Closing, Turn, Opens, Closes, Stays, Jumps, verb_turn, commands_among, HasLabels, label_place, locations_in, written_verb, patterns_of, item_patterns, NotesLabel, Bor, HashMap, is_braced, Label}
-use Rattle.sedck_commands.specs.Program.{Pattern}
-use Rattle.sedck_commands.specs.Private.VerbReading.{IsFreshIn}
+use Rattle.sedck_commands.proofs.Common.{◌≡◌, ℕ, suc, ◌<◌, Bool, List, [], ◌∷◌, ◌++◌, length, drop, map, option_or, append_assoc, item_of, Option, Some, None, refl, ap, ◌∙◌, subst, append-nil, length-append, arith, Address, WrittenVerb, Known, JumpTo, Opening, Takes, Item, Written, Closing, Turn, Opens, Closes, Stays, Jumps, verb_turn, commands_among, HasLabels, label_place, locations_in, written_verb, patterns_of, item_patterns, NotesLabel, Bor, HashMap, is_braced, Label, Pattern, IsFreshIn, MayBeBraced, IsFirstEmpty, CommandEmpty, EmptyOf, NotesBlock, WrittenCode}
 use Rattle.sedck_commands.proofs.AddressLemmas.{none_of_both}
-use Rattle.sedck_commands.specs.ReadAlike.{MayBeBraced}
-use Rattle.sedck_commands.specs.ReadItems.{IsFirstEmpty, CommandEmpty, EmptyOf}
-use Rattle.sedck_commands.specs.FirstFaults.{NotesBlock}
 use Rattle.std.proofs.lemmas.List.Concat.{flat_map-append}
 use Rattle.sedck_commands.specs.declared.items.WrittenCommand.{WrittenCommand}
 use Rattle.sedck_commands.specs.declared.items.WrittenItem.{WrittenItem}
 use Rattle.sedck_commands.specs.declared.items.WrittenItem.TheVariants as item
-use Rattle.sedck_commands.specs.declared.items.Written.{Written as WrittenCode}
 use Rattle.sedck_commands.specs.declared.items.Written.TheVariants as code
 use Rattle.sedck_commands.proofs.LabelPlaces.{labels_label, labels_other}
 

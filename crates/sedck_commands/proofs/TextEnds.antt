@@ -1,7 +1,5 @@
 -- A text that ends the whole one, and what is at its offset there.
-use Rattle.sedck_commands.proofs.Common.{◌≡◌, ℕ, Bool, false, not, List, [], ◌∷◌, ◌++◌, length, take, drop, refl, ap, sym, ◌∙◌, subst, append_assoc, length-append, arith, not-true, slice_get_within, first_there, IsTrue, is_blank, IsEmptyOr, Longest, StandsAt, EndsOrFails, EndsIn}
-use Rattle.sedck_commands.specs.Faults.{FollowsByte}
-use Rattle.sedck_commands.specs.FirstFaults.{BeginsAt}
+use Rattle.sedck_commands.proofs.Common.{◌≡◌, ℕ, Bool, false, not, List, [], ◌∷◌, ◌++◌, length, take, drop, refl, ap, sym, ◌∙◌, subst, append_assoc, length-append, arith, not-true, slice_get_within, first_there, IsTrue, is_blank, IsEmptyOr, Longest, StandsAt, EndsOrFails, EndsIn, FollowsByte, BeginsAt}
 use Rattle.sedck_commands.proofs.OffsetLemmas.{take_front}
 
 -- from its offset on the whole is the text

@@ -1,7 +1,6 @@
 -- Where an address is, and where there is none.
-use Rattle.sedck_commands.proofs.Common.{◌≡◌, ℕ, true, List, [], ◌∷◌, refl, subst, both_ways, not-true, Place, PlaceText, begins_address, EndsIn}
+use Rattle.sedck_commands.proofs.Common.{◌≡◌, ℕ, true, List, [], ◌∷◌, refl, subst, both_ways, not-true, Place, PlaceText, begins_address, EndsIn, BeginsNoAddress}
 use Rattle.sedck_commands.specs.Parts as p
-use Rattle.sedck_commands.specs.FirstFaults.{BeginsNoAddress}
 use Rattle.sedck_commands.proofs.UniqueItems.{place_first}
 use Rattle.sedck_commands.proofs.OffsetLemmas.{tail_cons, number_tail, expression_tail}
 

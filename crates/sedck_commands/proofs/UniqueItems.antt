@@ -1,9 +1,7 @@
 -- A text has one list of items at most.
-use Rattle.sedck_commands.proofs.Common.{◌≡◌, ◌≢◌, ℕ, Bool, true, false, not, ◌||◌, eqb, cond, List, [], ◌∷◌, refl, ap, sym, ◌∙◌, subst, inl, inr, ◌⊎◌, arith, list_any, list_all, false≢true, or_left, and_parts, and_from, one_of, is_blank, is_digit, Longest, Pattern, Place, Address, One, Verb, ExpressionTextIn, IsPatternIn, PlaceTextIn, AddressTextIn, WrittenVerb, Simple, Item, Written, VerbTextIn, CommandTextIn, ItemsIn, is_mark, longest_one, Narrowings}
-use Rattle.sedck_commands.specs.Program.{Line, Context}
+use Rattle.sedck_commands.proofs.Common.{◌≡◌, ◌≢◌, ℕ, Bool, true, false, not, ◌||◌, eqb, cond, List, [], ◌∷◌, refl, ap, sym, ◌∙◌, subst, inl, inr, ◌⊎◌, arith, list_any, list_all, false≢true, or_left, and_parts, and_from, one_of, is_blank, is_digit, Longest, Pattern, Place, Address, One, Verb, ExpressionTextIn, IsPatternIn, PlaceTextIn, AddressTextIn, WrittenVerb, Simple, Item, Written, VerbTextIn, CommandTextIn, ItemsIn, is_mark, longest_one, Narrowings, Line, Context, begins_address}
 use Rattle.sedck_commands.specs.Parts as p
 use Rattle.sedck_commands.specs.Items as w
-use Rattle.sedck_commands.specs.Faults.{begins_address}
 use Rattle.sedck_commands.proofs.FirstBytes.{heads, tails}
 use Rattle.sedck_commands.proofs.UniqueParts.{ends_one, number_one, number_first, expression_one, pattern_one}
 use Rattle.sedck_commands.proofs.UniqueVerbs.{verb_one, no_backslash}

@@ -1,8 +1,5 @@
 -- Each part of a command is cut in one way at most, and means one thing.
-use Rattle.sedck_commands.proofs.Common.{◌≡◌, ◌≢◌, ℕ, ◌<◌, Bool, cond, true, false, not, ◌||◌, List, [], ◌∷◌, ◌++◌, length, Some, None, refl, ap, sym, ◌∙◌, subst, subst₂, inl, inr, ◌⊎◌, arith, list_all, digits_value, false≢true, false_from_ne_true, and_parts, or_left, is_newline, is_blank, is_digit, is_ending, IsEmptyOr, Longest, Pattern, Expression, Part, Text, Whole, Substitution, Ends, Number, DelimitedExpression, previous, expression, DelimitedList, EscapedPart, Replacement, is_plain, Lines, GivenText, LabelText, NameIn, IsPatternIn, FlagsIn, longest_one, Piece, IsPiece, list_escape, Narrowings}
-use Rattle.std.proofs.lemmas.Bool.{or_right}
-use Rattle.sedck_expressions.proofs.WholeReading.{one_spelling}
-use Rattle.sedck_commands.specs.Cuts.{is_letter}
+use Rattle.sedck_commands.proofs.Common.{◌≡◌, ◌≢◌, ℕ, ◌<◌, Bool, cond, true, false, not, ◌||◌, List, [], ◌∷◌, ◌++◌, length, Some, None, refl, ap, sym, ◌∙◌, subst, subst₂, inl, inr, ◌⊎◌, arith, list_all, digits_value, false≢true, false_from_ne_true, and_parts, or_left, is_newline, is_blank, is_digit, is_ending, IsEmptyOr, Longest, Pattern, Expression, Part, Text, Whole, Substitution, Ends, Number, DelimitedExpression, previous, expression, DelimitedList, EscapedPart, Replacement, is_plain, Lines, GivenText, LabelText, NameIn, IsPatternIn, FlagsIn, longest_one, Piece, IsPiece, list_escape, Narrowings, or_right, one_spelling, is_letter}
 use Rattle.sedck_commands.specs.Parts as p
 use Rattle.sedck_commands.proofs.FirstBytes.{heads}
 use Rattle.sedck_commands.specs.declared.delimited.Piece.TheVariants as piece

@@ -1,7 +1,6 @@
 -- A text has one verb at most, whole with what it takes.
-use Rattle.sedck_commands.proofs.Common.{◌≡◌, ◌≢◌, ℕ, ◌<◌, Bool, true, false, eqb, cond, List, [], ◌∷◌, ◌++◌, length, Option, Some, refl, ap, sym, ◌∙◌, subst, arith, IsTrue, list_all, both_ways, and_parts, eq-eqb, one_of, is_delimiter, is_ending, is_label_byte, IsEmptyOr, Pattern, Part, Substitution, Verb, Label, Substitute, Transliterate, Ends, LabelText, Replacement, DelimitedList, ExpressionTextIn, IsPatternIn, FlagsIn, WrittenVerb, Known, JumpTo, Simple, VerbText, VerbTextIn, longest_one, Narrowings}
-use Rattle.sedck_text.specs.Text.{begins as begins_with}
-use Rattle.sedck_commands.specs.Program.{Read, Write, Append, Change, Insert}
+use Rattle.sedck_commands.proofs.Common.{◌≡◌, ◌≢◌, ℕ, ◌<◌, Bool, true, false, eqb, cond, List, [], ◌∷◌, ◌++◌, length, Option, Some, refl, ap, sym, ◌∙◌, subst, arith, IsTrue, list_all, both_ways, and_parts, eq-eqb, one_of, is_delimiter, is_ending, is_label_byte, IsEmptyOr, Pattern, Part, Substitution, Verb, Label, Substitute, Transliterate, Ends, LabelText, Replacement, DelimitedList, ExpressionTextIn, IsPatternIn, FlagsIn, WrittenVerb, Known, JumpTo, Simple, VerbText, VerbTextIn, longest_one, Narrowings, begins_with, Change, Insert}
+use Rattle.sedck_commands.specs.Program.{Read, Write, Append}
 use Rattle.sedck_commands.specs.Items as w
 use Rattle.sedck_commands.proofs.UniqueParts.{label_one, ends_one, name_one, expression_one, pattern_one, list_one, replacement_one, flags_one, given_one}
 

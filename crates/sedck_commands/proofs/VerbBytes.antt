@@ -1,8 +1,6 @@
 -- What the first byte of a verb says of it.
-use Rattle.sedck_commands.proofs.Common.{◌≡◌, ◌≢◌, ℕ, Bool, true, false, not, eqb, cond, List, Option, ◌∷◌, refl, sym, ◌∙◌, subst, arith, false≢true, eq-eqb, is_in, one_of, Address, NoAddress, Two, Verb, WrittenVerb, Known, JumpTo, Opening, Simple, VerbText, Takes, verb_bytes}
-use Rattle.std.proofs.Common.{◌&&◌}
+use Rattle.sedck_commands.proofs.Common.{◌≡◌, ◌≢◌, ℕ, Bool, true, false, not, eqb, cond, List, Option, ◌∷◌, refl, sym, ◌∙◌, subst, arith, false≢true, eq-eqb, is_in, one_of, Address, NoAddress, Two, Verb, WrittenVerb, Known, JumpTo, Opening, Simple, VerbText, Takes, verb_bytes, ◌&&◌, is_none, is_two, takes}
 use Rattle.sedck_commands.specs.Items as w
-use Rattle.sedck_commands.specs.FirstFaults.{is_none, is_two, takes}
 use Rattle.sedck_commands.proofs.FirstBytes.{heads}
 
 pub record IsVerbByte (b : ℕ) (v : WrittenVerb) : Type 0 where

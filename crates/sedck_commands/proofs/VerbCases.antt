@@ -1,6 +1,5 @@
 -- What follows a verb's byte, by its byte.
-use Rattle.sedck_commands.proofs.Common.{◌≡◌, ℕ, Bool, true, false, eqb, inl, inr, List, [], ◌∷◌, Option, Some, None, refl, ap, sym, ◌∙◌, subst, codes, list_all, false≢true, eqb-true, and_parts, is_in, one_of, is_blank, Longest, Verb, Ends, GivenText, Name, WrittenVerb, JumpTo, Simple, VerbText, jump_byte, BranchText, longest_one}
-use Rattle.std.proofs.lemmas.Bool.{or_cases}
+use Rattle.sedck_commands.proofs.Common.{◌≡◌, ℕ, Bool, true, false, eqb, inl, inr, List, [], ◌∷◌, Option, Some, None, refl, ap, sym, ◌∙◌, subst, codes, list_all, false≢true, eqb-true, and_parts, is_in, one_of, is_blank, Longest, Verb, Ends, GivenText, Name, WrittenVerb, JumpTo, Simple, VerbText, jump_byte, BranchText, longest_one, or_cases}
 use Rattle.sedck_commands.specs.Items as w
 use Rattle.sedck_commands.proofs.UniqueVerbs.{NoVerb, class, class_of, begins, differ, simple_class, jump_class}
 

@@ -1,8 +1,6 @@
 -- What follows a verb's byte.
-use Rattle.sedck_commands.proofs.Common.{◌≡◌, ◌≢◌, ℕ, List, ◌∷◌, length, refl, ap, sym, ◌∙◌, subst, IsTrue, is_delimiter, Pattern, Part, Substitution, Substitute, Transliterate, Ends, DelimitedList, FirstList, Replacement, Flags, WrittenVerb, Known, VerbText, PatternText, HasGroupsUpTo}
-use Rattle.sedck_commands.specs.Parts.{HasGroups, greatest_group}
+use Rattle.sedck_commands.proofs.Common.{◌≡◌, ◌≢◌, ℕ, List, ◌∷◌, length, refl, ap, sym, ◌∙◌, subst, IsTrue, is_delimiter, Pattern, Part, Substitution, Substitute, Transliterate, Ends, DelimitedList, FirstList, Replacement, Flags, WrittenVerb, Known, VerbText, PatternText, HasGroupsUpTo, HasGroups, greatest_group, AreLists}
 use Rattle.sedck_commands.specs.Items as w
-use Rattle.sedck_commands.specs.Private.VerbReading.{AreLists}
 use Rattle.sedck_commands.proofs.UniqueParts.{list_one, replacement_one}
 use Rattle.sedck_commands.proofs.UniqueVerbs.{NoVerb, class_of, begins, differ}
 

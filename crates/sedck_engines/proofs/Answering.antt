@@ -1,16 +1,12 @@
 -- From what was read to what an engine answers.
-use Rattle.std.proofs.Common.{◌≡◌, ◌≢◌, ◌⊎◌, ◌<◌, ◌≤◌, ℕ, length, take, Bool, List, Option, Some, None, Result, Ok, Err, refl, subst, sym, ap, ◌∙◌, ◌++◌, codes, arith, inl, inr}
-use Rattle.std.proofs.KnownBytes.{Keeps-refl}
-use Rattle.std.proofs.lemmas.Bool.{cases_lt}
-use Rattle.std.proofs.lemmas.List.{take_all, length-take}
+use Rattle.sedck_engines.proofs.Common.{◌≡◌, ◌≢◌, ◌⊎◌, ◌<◌, ◌≤◌, ℕ, length, take, Bool, List, Option, Some, None, Result, Ok, Err, refl, subst, sym, ap, ◌∙◌, ◌++◌, arith, inl, inr, Keeps-refl, cases_lt, take_all, length-take, Program, line, files_text, certificate_text, run_fault, script_fault, certificate_fault, IsCheckReport, IsFilesReport, IsGraphReport, IsBoundLine, IsRankReport, bound_line}
+use Rattle.std.proofs.Common.{codes}
 use Rattle.std.specs.Result.{IsErrAnd}
-use Rattle.sedck_commands.specs.Program.{Program}
 use Rattle.sedck_script.specs.Spelling.{Spells}
 use Rattle.sedck_commands.specs.Faults.{IsPlaced}
 use Rattle.sedck_commands.specs.declared.fault.ScriptFault.{ScriptFault}
 use Rattle.sedck_commands.specs.declared.fault.ScriptFault.TheVariants as script
 use Rattle.sedck_cert.specs.Certificate.{Certificate}
-use Rattle.sedck_cert.specs.Text.{line, files_text, certificate_text}
 use Rattle.sedck_cert.specs.Versions.{SpellsCertificate, IsFaultIn}
 use Rattle.sedck_script.specs.FirstFault.{IsFirstFault}
 use Rattle.sedck_cert.specs.Headline.{Only, IsAnswered, IsOutOfMemory, IsScriptFaultOf, ReportsFault, IsLimit, IsJudged}
@@ -27,12 +23,9 @@ use Rattle.sedck_engines.specs.declared.answer.Outcome.TheVariants.{Yes}
 use Rattle.sedck_engines.specs.Engines.{ReportsScriptTo, verdict_outcome, ChecksTo, ListsFilesTo, ListsGraphTo, EngineAnswers, OfBytes, OfScript, UpgradesTo, IsRefusedScript, IsRefusedCertificate, RanksTo, Reading, Writing, Streams}
 use Rattle.sedck_engines.specs.Inputs.{IsRead}
 use Rattle.sedck_engines.specs.Private.Engines.{IsScriptReport, WritesReport}
-use Rattle.sedck_engines.specs.Faults.{run_fault, script_fault, certificate_fault}
 use Rattle.sedck_engines.specs.declared.answer.RunFault.{RunFault}
 use Rattle.sedck_engines.specs.declared.engines.ScriptReport.{ScriptReport}
 use Rattle.sedck_engines.specs.declared.engines.ScriptReport.TheVariants.{Files, Graph, Rank}
-use Rattle.sedck_engines.specs.Reports.{IsCheckReport, IsFilesReport, IsGraphReport, IsBoundLine, IsRankReport}
-use Rattle.sedck_engines.specs.Private.Reports.{bound_line}
 
 -- an error that is this one
 pub err_is : {T E : Type 0} (r : Result T E) (e : E) → IsErrAnd r (λ x. x ≡ e) → r ≡ Err e

@@ -1,19 +1,11 @@
 -- The edges of a flow graph, node after node.
-use Rattle.std.proofs.Common.{◌≡◌, ℕ, ◌+◌, ◌<◌, ◌≤◌, List, [], ◌∷◌, ◌++◌, length, Contains, refl, sym, ap, ◌∙◌, inl, inr, arith, append_assoc}
-use Rattle.std.proofs.lemmas.Bool.{cases_lt}
+use Rattle.sedck_engines.proofs.Common.{◌≡◌, ℕ, ◌+◌, ◌<◌, ◌≤◌, List, [], ◌∷◌, ◌++◌, length, Contains, refl, sym, ap, ◌∙◌, inl, inr, arith, append_assoc, cases_lt, Program, node_index, node_count, Node, edge_words, line, edge_lines, AddsEdgesFrom}
 use Rattle.std.proofs.lemmas.List.Elements.{Contains-append_cases, Contains-append_left, Contains-append_right}
-use Rattle.sedck_commands.specs.Program.{Program}
 use Rattle.sedck_script.proofs.SortedNames.{Contains-cons_more}
-use Rattle.sedck_flow.specs.Nodes.{node_index, node_count}
 use Rattle.sedck_flow.specs.Flow.{Flow, IsEarlier, AreInOrder, ListsEdges}
-use Rattle.sedck_flow.specs.declared.graph.Node.{Node}
 use Rattle.sedck_flow.specs.declared.graph.Edge.{Edge}
-use Rattle.sedck_flow.specs.Words.{edge_words}
 use Rattle.sedck_flow.proofs.NodeLemmas.{index-before, node_same}
-use Rattle.sedck_cert.specs.Text.{line}
 use Rattle.sedck_cert.proofs.CheckingLemmas.{leaves_below}
-use Rattle.sedck_engines.specs.Reports.{edge_lines}
-use Rattle.sedck_engines.specs.Private.Reports.{AddsEdgesFrom}
 
 -- the edges of the nodes so far have been added
 pub record IsGraphUpTo (p : Program) (index : ℕ) (before after : List ℕ) : Type 0 where

@@ -1,3 +1,4 @@
+mod Common
 pub mod Inputs
 pub mod Answering
 pub mod GraphLines

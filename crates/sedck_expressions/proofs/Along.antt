@@ -1,12 +1,7 @@
 -- Going through a list of items: what is left of it, and that nothing before is sought.
-use Rattle.sedck_expressions.proofs.Common.{◌≡◌, ℕ, ◌+◌, ◌≤◌, Bool, true, false, List, [], ◌∷◌, ◌++◌, length, drop, Option, Some, Result, Ok, inl, inr, refl, sym, ap, subst, ◌∙◌, arith, append_assoc, length-append, IsTrue, codes, ◌||◌, ◌&&◌, or-true, nat_tests, drop-drop, begins, unread, Cursor, HasOneAt, begins_pair, Tree, Trees, Then, Nil, Seq, Group, Repeat, Level, Position, SpellsItems, SpellsCount, behind, has_part, one_has_part, is_reference, is_anchor, repeats_anchor, has_misjudged_reference, is_misjudged, StopsAt, Sought}
-use Rattle.std.specs.Prelude.{unwrap_or}
+use Rattle.sedck_expressions.proofs.Common.{◌≡◌, ℕ, ◌+◌, ◌≤◌, Bool, true, false, List, [], ◌∷◌, ◌++◌, length, drop, Option, Some, Result, Ok, inl, inr, refl, sym, ap, subst, ◌∙◌, arith, append_assoc, length-append, IsTrue, codes, ◌||◌, ◌&&◌, or-true, nat_tests, drop-drop, begins, unread, Cursor, HasOneAt, begins_pair, Tree, Trees, Then, Nil, Seq, Group, Repeat, Level, Position, SpellsItems, SpellsCount, behind, has_part, one_has_part, is_reference, is_anchor, repeats_anchor, has_misjudged_reference, is_misjudged, StopsAt, Sought, unwrap_or, length-drop, HasNoneSought, IsFirstSought, IsFirstAmong, IsFirstMisjudged, IsMisjudgedAt, ReFault, BadReference, NothingToRepeat}
 use Rattle.std.specs.Result.{result_unwrap_or}
-use Rattle.std.proofs.lemmas.List.{length-drop}
 use Rattle.sedck_expressions.proofs.OffsetLemmas.{stands_at, stands_behind}
-use Rattle.sedck_expressions.specs.Misjudged.{HasNoneSought, IsFirstSought, IsFirstAmong, IsFirstMisjudged, IsMisjudgedAt}
-use Rattle.sedck_expressions.specs.declared.fault.ReFault.{ReFault}
-use Rattle.sedck_expressions.specs.declared.fault.ReFault.TheVariants.{BadReference, NothingToRepeat}
 
 -- the tree has nothing of this that is sought
 abbrev pub HasNone : Sought → Tree → Type 0

@@ -1,9 +1,5 @@
 -- What is written as a bracket list is read, whatever follows it.
-use Rattle.sedck_expressions.proofs.Common.{◌≡◌, ℕ, ◌≤◌, Bool, true, false, List, [], ◌∷◌, ◌++◌, drop, Ok, inl, inr, refl, ap, ◌∙◌, arith, rules, append_assoc, ◌&&◌, ◌⊎◌, not, nat_le, codes, IsTrue, Contains, nat_tests, begins, classes, Element, One, Members, WritesByte, begins_range, WritesElement, ◌>>=◌, symbol_at, byte_at, ranges, no_range, one, range_or_one, element_at}
-use Rattle.std.specs.List.{AllByRecursion}
-use Rattle.std.proofs.lemmas.List.Elements.{All-contains, All-from_recursion}
-use Rattle.sedck_expressions.specs.Brackets.{Range}
-use Rattle.sedck_expressions.specs.BracketReading.{whole_class_at}
+use Rattle.sedck_expressions.proofs.Common.{◌≡◌, ℕ, ◌≤◌, Bool, true, false, List, [], ◌∷◌, ◌++◌, drop, Ok, inl, inr, refl, ap, ◌∙◌, arith, rules, append_assoc, ◌&&◌, ◌⊎◌, not, nat_le, codes, IsTrue, Contains, nat_tests, begins, classes, Element, One, Members, WritesByte, begins_range, WritesElement, ◌>>=◌, symbol_at, byte_at, ranges, no_range, one, range_or_one, element_at, AllByRecursion, All-contains, All-from_recursion, Range, whole_class_at}
 use Rattle.sedck_expressions.proofs.BracketLemmas.{plain_before, writes_alike, range_behind}
 
 -- ---- One byte

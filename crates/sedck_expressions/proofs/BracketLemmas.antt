@@ -1,6 +1,5 @@
 -- Small facts on what begins a text, and on what is before the closing bracket of a list.
-use Rattle.sedck_expressions.proofs.Common.{◌≡◌, ℕ, Bool, true, false, List, [], ◌∷◌, ◌++◌, drop, inl, inr, refl, ◌∙◌, arith, ◌==◌, ◌&&◌, ◌||◌, codes, nat_tests, String, begins, is_bare, WritesByte, begins_range, ranges}
-use Rattle.sedck_text.specs.Text.{one_of}
+use Rattle.sedck_expressions.proofs.Common.{◌≡◌, ℕ, Bool, true, false, List, [], ◌∷◌, ◌++◌, drop, inl, inr, refl, ◌∙◌, arith, ◌==◌, ◌&&◌, ◌||◌, codes, nat_tests, String, begins, is_bare, WritesByte, begins_range, ranges, one_of}
 
 -- a text that begins with the one byte of the literal
 pub one_front : (s : String) (b : ℕ) (text : List ℕ) → codes s ≡ b ∷ [] → begins s text ≡ true → text ≡ b ∷ drop 1 text

@@ -1,10 +1,6 @@
 -- The bytes that pass a test, and those of a set of four words.
-use Rattle.sedck_expressions.proofs.Common.{◌≡◌, ◌≢◌, ℕ, suc, zero, ◌+◌, ◌*◌, ◌/◌, ◌%◌, ◌^◌, ◌<◌, ◌≤◌, Bool, true, false, List, [], refl, sym, ap, ◌∙◌, inl, inr, arith, ◌⊎◌, ◌==◌, slice_index, range_with_len, bit_at, w64, false≢true, nat_tests, bit_at-zero, is_in, bytes_where, AreWords, HasJust, bit_of, has_no_word}
-use Rattle.std.specs.Prelude.{filter}
-use Rattle.std.specs.Int.{trailing_zeros}
-use Rattle.std.proofs.lemmas.Bool.{cases_eq}
-use Rattle.std.proofs.lemmas.Nat.Bits.{bit_at-trailing_zeros}
-use Rattle.sedck_expressions.specs.View.{has_bit, bytes_in}
+use Rattle.sedck_expressions.proofs.Common.{◌≡◌, ◌≢◌, ℕ, suc, zero, ◌+◌, ◌*◌, ◌/◌, ◌%◌, ◌^◌, ◌<◌, ◌≤◌, Bool, true, false, List, [], refl, sym, ap, ◌∙◌, inl, inr, arith, ◌⊎◌, ◌==◌, slice_index, range_with_len, bit_at, w64, false≢true, nat_tests, bit_at-zero, is_in, bytes_where, AreWords, HasJust, bit_of, has_no_word, filter, trailing_zeros, cases_eq, bit_at-trailing_zeros, has_bit}
+use Rattle.sedck_expressions.specs.View.{bytes_in}
 
 -- ---- The bytes that pass a test
 

@@ -1,12 +1,7 @@
 -- What is read as a bracket list is written so.
-use Rattle.sedck_expressions.proofs.Common.{◌≡◌, ◌≢◌, ℕ, suc, zero, Bool, true, false, List, [], ◌∷◌, ◌++◌, length, drop, inl, inr, refl, sym, ap, ◌∙◌, subst, arith, append_assoc, length-append, ◌&&◌, ◌⊎◌, not, nat_eq, nat_le, codes, Contains, starts_with, false≢true, nat_tests, begins, classes, Element, One, Members, is_bare, WritesByte, begins_range, WritesElement, WritesElements, ◌>>=◌, symbol_at, byte_at, ranges, no_range, class_from, one, range_or_one, element_at, IfSome, Result, Ok, Err, IfOk, IfSome_then}
-use Rattle.std.proofs.lemmas.Bool.Decides.{Decides-eqb}
-use Rattle.std.proofs.lemmas.List.Elements.{Contains-get_or, Contains-append_right}
+use Rattle.sedck_expressions.proofs.Common.{◌≡◌, ◌≢◌, ℕ, suc, zero, Bool, true, false, List, [], ◌∷◌, ◌++◌, length, drop, inl, inr, refl, sym, ap, ◌∙◌, subst, arith, append_assoc, length-append, ◌&&◌, ◌⊎◌, not, nat_eq, nat_le, codes, Contains, starts_with, false≢true, nat_tests, begins, classes, Element, One, Members, is_bare, WritesByte, begins_range, WritesElement, WritesElements, ◌>>=◌, symbol_at, byte_at, ranges, no_range, class_from, one, range_or_one, element_at, IfSome, Result, Ok, Err, IfOk, IfSome_then, Decides-eqb, Contains-get_or, Contains-append_right, IsInPlace, ok_or, missing_end, whole_class_at, last_dash_at, in_list, others, Flaw}
 use Rattle.std.proofs.lemmas.Slice.Eq.{starts_is}
-use Rattle.sedck_expressions.specs.Brackets.{IsInPlace}
-use Rattle.std.specs.Option.{ok_or}
-use Rattle.sedck_expressions.specs.BracketReading.{missing_end, whole_class_at, last_dash_at, in_list, others, elements_at}
-use Rattle.sedck_expressions.specs.declared.brackets.symbols.Flaw.{Flaw}
+use Rattle.sedck_expressions.specs.BracketReading.{elements_at}
 use Rattle.sedck_expressions.proofs.ReadLemmas.{bind_holds, ok_then, cond_holds, some_if, ok_or_holds, and_left, nat_le_of}
 use Rattle.sedck_expressions.proofs.BracketLemmas.{one_front, plain_before, writes_alike, is_closing_front, range_before}
 

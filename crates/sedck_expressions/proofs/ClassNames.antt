@@ -1,8 +1,5 @@
 -- The search for a class by its name, class by class.
-use Rattle.sedck_expressions.proofs.Common.{◌≡◌, ℕ, suc, ◌+◌, ◌<◌, Bool, cond, List, ◌∷◌, length, drop, get_or, map, Option, Some, None, refl, ◌∙◌, arith, length-append, nat_eq, codes, starts_with, Element, Members, class_from, class_of}
-use Rattle.std.proofs.Common.{add-one}
-use Rattle.std.proofs.Math.Seq.{drop-cons}
-use Rattle.sedck_expressions.specs.Private.BracketCode.{closed_name, behind_name}
+use Rattle.sedck_expressions.proofs.Common.{◌≡◌, ℕ, suc, ◌+◌, ◌<◌, Bool, cond, List, ◌∷◌, length, drop, get_or, map, Option, Some, None, refl, ◌∙◌, arith, length-append, nat_eq, codes, starts_with, Element, Members, class_from, class_of, add-one, drop-cons, closed_name, behind_name}
 use Rattle.sedck_expressions.specs.declared.brackets.elements.Class.{Class}
 
 abbrev class_or : List ℕ × (ℕ → Bool) → Option (Element × List ℕ) → Option (List ℕ) → Option (Element × List ℕ)

@@ -1,7 +1,6 @@
 -- The search for the element that has a byte: what is still searched, after the elements before it.
-use Rattle.sedck_expressions.proofs.Common.{◌≡◌, ℕ, zero, suc, ◌<◌, ◌≤◌, Bool, true, false, List, length, Err, Ok, sym, arith, nat_lt, nat_tests, Element, element_at}
+use Rattle.sedck_expressions.proofs.Common.{◌≡◌, ℕ, zero, suc, ◌<◌, ◌≤◌, Bool, true, false, List, length, Err, Ok, sym, arith, nat_lt, nat_tests, Element, element_at, Flaw}
 use Rattle.sedck_expressions.specs.BracketReading.{holder}
-use Rattle.sedck_expressions.specs.declared.brackets.symbols.Flaw.{Flaw}
 
 -- what holds the byte is what holds it from this text on
 pub record IsSought (found : List ℕ) (left : ℕ) (first : Bool) (text : List ℕ) : Type 0 where

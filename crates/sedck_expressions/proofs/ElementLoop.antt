@@ -1,9 +1,7 @@
 -- The loop over the elements of a list: those that have been read, before those that are left to read. The bound on their number
 -- does not matter, as long as it is above the length of what is left.
-use Rattle.sedck_expressions.proofs.Common.{◌≡◌, ℕ, suc, zero, ◌+◌, ◌<◌, ◌≤◌, Bool, true, false, List, [], ◌∷◌, ◌++◌, length, drop, Result, Ok, Err, refl, sym, ap, ◌∙◌, arith, append_assoc, ◌&&◌, not, if◌then◌else◌, append-nil, begins, Element, ◌>>=◌, element_at, elements_of}
-use Rattle.sedck_expressions.specs.BracketReading.{flaw_at, in_list, before_elements, others, elements_at}
-use Rattle.sedck_expressions.specs.Reading.{Stop}
-use Rattle.sedck_expressions.specs.declared.brackets.symbols.Flaw.{Flaw}
+use Rattle.sedck_expressions.proofs.Common.{◌≡◌, ℕ, suc, zero, ◌+◌, ◌<◌, ◌≤◌, Bool, true, false, List, [], ◌∷◌, ◌++◌, length, drop, Result, Ok, Err, refl, sym, ap, ◌∙◌, arith, append_assoc, ◌&&◌, not, if◌then◌else◌, append-nil, begins, Element, ◌>>=◌, element_at, elements_of, flaw_at, in_list, before_elements, others, Stop, Flaw}
+use Rattle.sedck_expressions.specs.BracketReading.{elements_at}
 
 abbrev pub elements_before : List Element → List Element × List ℕ → Result (List Element × List ℕ) Stop
 elements_before front (es, rest) = Ok (front ++ es, rest)

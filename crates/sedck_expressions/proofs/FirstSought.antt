@@ -1,11 +1,7 @@
 -- There is one first part of a tree that is sought, at one place: the text of an item ends at one place, however the item stands in its list.
-use Rattle.sedck_expressions.proofs.Common.{◌≡◌, ℕ, ◌+◌, Bool, true, false, List, ◌∷◌, ◌++◌, length, drop, Option, inl, inr, refl, sym, ap, subst, ◌∙◌, arith, append_assoc, codes, cond, false≢true, nat_tests, begins, Tree, Trees, Byte, Any, Set, Start, End, Maybe, Group, Ref, Seq, Repeat, Nil, Then, Level, Position, SpellsByte, SpellsCount, SpellsItems, SpellsList}
-use Rattle.std.proofs.lemmas.Bool.{or_parts}
-use Rattle.std.proofs.lemmas.List.{append_cancel_right}
+use Rattle.sedck_expressions.proofs.Common.{◌≡◌, ℕ, ◌+◌, Bool, true, false, List, ◌∷◌, ◌++◌, length, drop, Option, inl, inr, refl, sym, ap, subst, ◌∙◌, arith, append_assoc, codes, cond, false≢true, nat_tests, begins, Tree, Trees, Byte, Any, Set, Start, End, Maybe, Group, Ref, Seq, Repeat, Nil, Then, Level, Position, SpellsByte, SpellsCount, SpellsItems, SpellsList, or_parts, append_cancel_right, HasNoneSought, IsItemText, IsFirstSought, IsFirstAmong, ReFault}
 use Rattle.sedck_expressions.specs.BracketReading.{bracket_at}
 use Rattle.sedck_expressions.specs.IntervalReading.{interval_at}
-use Rattle.sedck_expressions.specs.Misjudged.{HasNoneSought, IsItemText, IsFirstSought, IsFirstAmong}
-use Rattle.sedck_expressions.specs.declared.fault.ReFault.{ReFault}
 use Rattle.sedck_expressions.proofs.Along.{second_same, third_same, star_left, interval_opens, group_cut}
 use Rattle.sedck_expressions.proofs.IntervalLemmas.{interval_again}
 use Rattle.sedck_expressions.proofs.WholeBracket.{bracket_again}

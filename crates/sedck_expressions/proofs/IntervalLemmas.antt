@@ -1,10 +1,7 @@
 -- What is read as an interval is spelled so, and what is spelled so is read.
-use Rattle.sedck_expressions.proofs.Common.{◌≡◌, ℕ, ◌≤◌, true, false, List, [], ◌∷◌, ◌++◌, drop, Option, Some, None, inl, inr, refl, sym, ap, ◌∙◌, arith, IfSome, append_assoc, ◌&&◌, not, nat_le, codes, IsTrue, list_all, nat_tests, digits_value, begins, is_digit, Longest, is_empty, SpellsCount, begins_pair, number_of, number_at, IfSome_then}
-use Rattle.std.specs.Prelude.{option_and_then}
-use Rattle.sedck_text.specs.Runs.{IsEmptyOr}
+use Rattle.sedck_expressions.proofs.Common.{◌≡◌, ℕ, ◌≤◌, true, false, List, [], ◌∷◌, ◌++◌, drop, Option, Some, None, inl, inr, refl, sym, ap, ◌∙◌, arith, IfSome, append_assoc, ◌&&◌, not, nat_le, codes, IsTrue, list_all, nat_tests, digits_value, begins, is_digit, Longest, is_empty, SpellsCount, begins_pair, number_of, number_at, IfSome_then, option_and_then, IsEmptyOr, IsNumber, digits_at, bounds_of}
 use Rattle.sedck_text.proofs.Runs.{longest_cut, longest_one}
-use Rattle.sedck_expressions.specs.Shape.{IsNumber}
-use Rattle.sedck_expressions.specs.IntervalReading.{digits_at, bounds_of, interval_at}
+use Rattle.sedck_expressions.specs.IntervalReading.{interval_at}
 use Rattle.sedck_expressions.proofs.ReadLemmas.{some_if, and_left, pair_text, IsIntervalBefore}
 
 some_then : {A B : Type 0} (o : Option A) (f : A → Option B) (P : B → Type 0) (Q : A → Type 0) → IfSome o Q → ((x : A) → Q x → IfSome (f x) P)

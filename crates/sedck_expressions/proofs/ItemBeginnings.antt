@@ -1,6 +1,5 @@
 -- How the text of an item begins: never with `\)` or `\{`, and with `*` only where that is a byte.
-use Rattle.sedck_expressions.proofs.Common.{◌≡◌, ℕ, Bool, true, false, List, [], ◌∷◌, ◌++◌, Option, refl, sym, ap, subst, ◌∙◌, arith, append_assoc, codes, nat_tests, begins, opening, Tree, Trees, Byte, Set, Repeat, Nil, Then, IsBracketList, Level, Position, is_empty, behind, SpellsByte, SpellsCount, SpellsItem, SpellsItems, begins_pair, at_end, is_repeatable}
-use Rattle.sedck_expressions.specs.Shape.{Later}
+use Rattle.sedck_expressions.proofs.Common.{◌≡◌, ℕ, Bool, true, false, List, [], ◌∷◌, ◌++◌, Option, refl, sym, ap, subst, ◌∙◌, arith, append_assoc, codes, nat_tests, begins, opening, Tree, Trees, Byte, Set, Repeat, Nil, Then, IsBracketList, Level, Position, is_empty, behind, SpellsByte, SpellsCount, SpellsItem, SpellsItems, begins_pair, at_end, is_repeatable, Later}
 use Rattle.sedck_expressions.proofs.ReadLemmas.{not_empty_more}
 
 pub record Front (place : Position) (text : List ℕ) : Type 0 where

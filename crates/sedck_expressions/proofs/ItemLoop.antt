@@ -1,10 +1,7 @@
 -- The loop over the items of a list: what has been read, before what is left to read.
-use Rattle.sedck_expressions.proofs.Common.{◌≡◌, ℕ, zero, suc, ◌+◌, ◌<◌, ◌≤◌, Bool, true, false, List, [], ◌∷◌, ◌++◌, length, Some, Result, Ok, Err, refl, sym, ap, ◌∙◌, append_assoc, arith, set, nat_tests, nat_lt, ◌&&◌, ClosedIs, append-nil, Tree, Trees, Nil, Then, trees, groups_in, tree, sequence, Level, Inside, Position, First, behind, ◌>>=◌, at_end, atom, with_sign, full, free, Bre}
-use Rattle.std.proofs.Common.{get_or-set_same, get_or-set_other}
-use Rattle.sedck_expressions.specs.FirstFault.{fault_in}
-use Rattle.sedck_expressions.specs.declared.fault.ReFault.{ReFault}
+use Rattle.sedck_expressions.proofs.Common.{◌≡◌, ℕ, zero, suc, ◌+◌, ◌<◌, ◌≤◌, Bool, true, false, List, [], ◌∷◌, ◌++◌, length, Some, Result, Ok, Err, refl, sym, ap, ◌∙◌, append_assoc, arith, set, nat_tests, nat_lt, ◌&&◌, ClosedIs, append-nil, Tree, Trees, Nil, Then, trees, groups_in, tree, sequence, Level, Inside, Position, First, behind, ◌>>=◌, at_end, atom, with_sign, full, free, Bre, get_or-set_same, get_or-set_other, fault_in, ReFault, Stop, closed_by, group_at, before_all, more, some_items}
 use Rattle.sedck_expressions.proofs.NumberedGroups.{is_in-append}
-use Rattle.sedck_expressions.specs.Reading.{Stop, closed_by, group_at, before_all, more, some_items, items}
+use Rattle.sedck_expressions.specs.Reading.{items}
 use Rattle.sedck_expressions.proofs.ReadLemmas.{Takes, Reads}
 use Rattle.sedck_expressions.proofs.IntervalLemmas.{interval_takes, interval_again}
 use Rattle.sedck_expressions.proofs.WholeBracket.{bracket_takes, bracket_again}

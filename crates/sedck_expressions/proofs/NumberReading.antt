@@ -1,8 +1,7 @@
 -- The value of digits, where one above 255 counts as 256, and what is read by it.
-use Rattle.sedck_expressions.proofs.Common.{◌≡◌, ℕ, ◌+◌, ◌*◌, ◌-◌, ◌<◌, ◌≤◌, min, true, List, length, take, get_or, Some, None, ap, ◌∙◌, arith, IsTrue, list_all, digits_value, nat_tests, is_digit, Longest, number_of, number_at}
+use Rattle.sedck_expressions.proofs.Common.{◌≡◌, ℕ, ◌+◌, ◌*◌, ◌-◌, ◌<◌, ◌≤◌, min, true, List, length, take, get_or, Some, None, ap, ◌∙◌, arith, IsTrue, list_all, digits_value, nat_tests, is_digit, Longest, number_of, number_at, AllPass-from_list_all}
 use Rattle.std.specs.Char.{IsAsciiDigit}
 use Rattle.std.proofs.lemmas.Int.Digits.{digits_value_more}
-use Rattle.std.proofs.lemmas.List.Sums.{AllPass-from_list_all}
 use Rattle.std.proofs.lemmas.Str.{digit_value_digit}
 use Rattle.sedck_expressions.proofs.IntervalLemmas.{digits_are}
 

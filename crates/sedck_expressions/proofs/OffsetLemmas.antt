@@ -1,9 +1,6 @@
 -- What is at a cursor's offset in its text.
-use Rattle.sedck_expressions.proofs.Common.{◌≡◌, ℕ, true, ◌+◌, ◌-◌, ◌<◌, ◌≤◌, List, [], ◌∷◌, length, take, drop, refl, sym, ap, ◌∙◌, arith, false≢true, nat_tests, IsTrue, String, begins, Cursor, unread, HasOneAt, is_mistakable, at_end, inside_at, inside_of}
+use Rattle.sedck_expressions.proofs.Common.{◌≡◌, ℕ, true, ◌+◌, ◌-◌, ◌<◌, ◌≤◌, List, [], ◌∷◌, length, take, drop, refl, sym, ap, ◌∙◌, arith, false≢true, nat_tests, IsTrue, String, begins, Cursor, unread, HasOneAt, is_mistakable, at_end, inside_at, inside_of, length-drop, IsFlawIn, Flaw}
 use Rattle.std.proofs.lemmas.Grind.{common_steps}
-use Rattle.std.proofs.lemmas.List.{length-drop}
-use Rattle.sedck_expressions.specs.Private.BracketCode.{IsFlawIn}
-use Rattle.sedck_expressions.specs.declared.brackets.symbols.Flaw.{Flaw}
 use Rattle.sedck_expressions.specs.declared.brackets.symbols.Flaw.TheVariants.{Escape}
 use Rattle.std.specs.Prelude.{Bool, zero, suc}
 use Rattle.sedck_expressions.specs.BracketReading.{bracket_at}

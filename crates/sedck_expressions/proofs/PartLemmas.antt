@@ -1,15 +1,8 @@
 -- What is found in one pass over a tree is what each test finds.
-use Rattle.sedck_expressions.proofs.Common.{◌≡◌, ℕ, ◌+◌, ◌<◌, ◌^◌, Bool, true, false, List, [], ◌∷◌, min, Option, refl, sym, ap, subst, ◌∙◌, arith, ◌&&◌, nat_lt, sum_by, bit_or, if◌then◌else◌, bit_at, list_all, list_any, nat_tests, bit_at_or, bit_at-zero, Tree, Trees, Byte, Any, Set, Start, End, Maybe, Group, Ref, Seq, Repeat, Nil, Then, has_part, one_has_part, is_reference, is_anchor, repeats_anchor, has_misjudged_reference, empty, parts_after, references_by, misjudges_reference, misjudges_anchor}
+use Rattle.sedck_expressions.proofs.Common.{◌≡◌, ℕ, ◌+◌, ◌<◌, ◌^◌, Bool, true, false, List, [], ◌∷◌, min, Option, refl, sym, ap, subst, ◌∙◌, arith, ◌&&◌, nat_lt, sum_by, bit_or, if◌then◌else◌, bit_at, list_all, list_any, nat_tests, bit_at_or, bit_at-zero, Tree, Trees, Byte, Any, Set, Start, End, Maybe, Group, Ref, Seq, Repeat, Nil, Then, has_part, one_has_part, is_reference, is_anchor, repeats_anchor, has_misjudged_reference, empty, parts_after, references_by, misjudges_reference, misjudges_anchor, bit_and, or-false, or_assoc, or_comm, and_assoc, and-true, and-false, and_parts, sum_by-cons, bit_at_and, bit_at-pow_same, bit_at-pow_other, bit_at-lt, is_reference_to, is_repeated_reference_to, is_group, is_repeated_group, is_group_with_reference, is_group_of_nothing, may_be_empty, all_may_be_empty, references_to, all_references_to, references_to_nothing, is_misjudged_group, nameable_groups, has_misjudged_anchor, names, bit, none, and_then, own_reference, parts_of, is_misjudged_by}
 use Rattle.std.proofs.Common.{◌||◌, ◌==◌}
-use Rattle.std.specs.Prelude.{bit_and}
-use Rattle.std.proofs.Math.Bool.{or-false, or_assoc, or_comm, and_assoc, and-true, and-false}
 use Rattle.std.specs.Int.Bits.{or_zero_r, and_zero_r}
-use Rattle.std.proofs.lemmas.Bool.{and_parts}
 use Rattle.std.proofs.Math.Nat.{add-zero, zero-add, add_assoc}
-use Rattle.std.proofs.lemmas.List.Sums.{sum_by-cons}
-use Rattle.std.proofs.lemmas.Nat.Bits.{bit_at_and, bit_at-pow_same, bit_at-pow_other, bit_at-lt}
-use Rattle.sedck_expressions.specs.Misjudged.{is_reference_to, is_repeated_reference_to, is_group, is_repeated_group, is_group_with_reference, is_group_of_nothing, may_be_empty, all_may_be_empty, references_to, all_references_to, references_to_nothing, is_misjudged_group, nameable_groups, has_misjudged_anchor}
-use Rattle.sedck_expressions.specs.Private.Parts.{names, bit, none, and_then, own_reference, parts_of, is_misjudged_by}
 use Rattle.sedck_expressions.specs.declared.parts.Parts.{Parts}
 
 -- ---- Bits

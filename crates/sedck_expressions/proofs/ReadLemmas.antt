@@ -1,8 +1,5 @@
 -- Tools on readings, what a bracket list and an interval reader must give, and which trees fit the groups so far.
-use Rattle.sedck_expressions.proofs.Common.{◌≡◌, ◌≢◌, ℕ, ◌+◌, ◌<◌, ◌≤◌, Bool, true, false, cond, List, [], ◌∷◌, ◌++◌, length, drop, Option, Some, None, Result, Ok, Err, IfOk, IfSome, refl, arith, length-append, ◌&&◌, ◌||◌, nat_le, nat_tests, begins, CountsFrom, Tree, Trees, Seq, Then, groups_in, groups_in_all, is_empty, SpellsCount, IsRepeatable, IsBracketList, ◌>>=◌, Readers, begins_pair, is_repeatable}
-use Rattle.std.specs.Option.{ok_or}
-use Rattle.sedck_expressions.specs.Tree.{depth}
-use Rattle.sedck_expressions.specs.WellFormed.{RefersBack}
+use Rattle.sedck_expressions.proofs.Common.{◌≡◌, ◌≢◌, ℕ, ◌+◌, ◌<◌, ◌≤◌, Bool, true, false, cond, List, [], ◌∷◌, ◌++◌, length, drop, Option, Some, None, Result, Ok, Err, IfOk, IfSome, refl, arith, length-append, ◌&&◌, ◌||◌, nat_le, nat_tests, begins, CountsFrom, Tree, Trees, Seq, Then, groups_in, groups_in_all, is_empty, SpellsCount, IsRepeatable, IsBracketList, ◌>>=◌, Readers, begins_pair, is_repeatable, ok_or, depth, RefersBack}
 use Rattle.sedck_expressions.proofs.NumberedGroups.{CountsFrom-left, CountsFrom-right, CountsFrom-join}
 
 pub bind_holds : {A B E : Type 0} (r : Result A E) (f : A → Result B E) (P : B → Type 0) (Q : A → Type 0) → IfOk r Q → ((x : A) → Q x → IfOk (f x) P)

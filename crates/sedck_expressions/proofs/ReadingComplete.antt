@@ -1,6 +1,6 @@
 -- What is spelled is read: the reading of a text with the shape of a tree is that tree.
-use Rattle.sedck_expressions.proofs.Common.{◌≡◌, ◌≢◌, ℕ, zero, suc, ◌+◌, ◌<◌, ◌≤◌, Bool, true, false, List, [], ◌∷◌, ◌++◌, length, Option, Some, Result, Ok, refl, sym, ap, subst, ◌∙◌, arith, append_assoc, length-append, codes, nat_lt, ◌&&◌, ◌||◌, nat_tests, append-nil, begins, IsWellFormed, CountsFrom, Tree, Trees, Byte, Set, Group, Ref, Seq, Repeat, Nil, Then, groups_in, is_in, IsBracketList, Level, Whole, Inside, Position, First, is_empty, behind, SpellsByte, SpellsCount, IsRepeatable, SpellsItem, SpellsItems, SpellsTree, ◌>>=◌, Readers, begins_pair, at_end, is_repeatable, atom, with_sign, whole}
-use Rattle.sedck_expressions.specs.Reading.{Stop, items, read}
+use Rattle.sedck_expressions.proofs.Common.{◌≡◌, ◌≢◌, ℕ, zero, suc, ◌+◌, ◌<◌, ◌≤◌, Bool, true, false, List, [], ◌∷◌, ◌++◌, length, Option, Some, Result, Ok, refl, sym, ap, subst, ◌∙◌, arith, append_assoc, length-append, codes, nat_lt, ◌&&◌, ◌||◌, nat_tests, append-nil, begins, IsWellFormed, CountsFrom, Tree, Trees, Byte, Set, Group, Ref, Seq, Repeat, Nil, Then, groups_in, is_in, IsBracketList, Level, Whole, Inside, Position, First, is_empty, behind, SpellsByte, SpellsCount, IsRepeatable, SpellsItem, SpellsItems, SpellsTree, ◌>>=◌, Readers, begins_pair, at_end, is_repeatable, atom, with_sign, whole, Stop}
+use Rattle.sedck_expressions.specs.Reading.{items, read}
 use Rattle.sedck_expressions.proofs.ReadLemmas.{Reads, not_empty_more, length_some, Fit, Fits, fits_first, fits_others, allowed}
 use Rattle.sedck_expressions.proofs.NumberedGroups.{range_counts, are_numbered}
 use Rattle.sedck_expressions.proofs.ItemBeginnings.{bracket_front, item_front, item_some, sign_some, list_ends, no_sign, behind_repeatable}

@@ -1,10 +1,6 @@
 -- What is spelled is sound; and what is read is spelled so, and well formed.
-use Rattle.sedck_expressions.proofs.Common.{◌≡◌, ℕ, zero, suc, ◌+◌, ◌≤◌, Bool, true, false, List, [], ◌∷◌, ◌++◌, length, drop, Option, None, Result, IfOk, inl, refl, sym, ap, subst, ◌∙◌, arith, IfSome, append_assoc, ◌==◌, codes, nat_lt, ◌&&◌, ◌||◌, nat_tests, append-nil, begins, Tree, Trees, Set, Group, Seq, Repeat, Nil, Then, groups_in, groups_in_all, Level, Whole, Inside, Position, First, is_empty, behind, SpellsCount, SpellsItem, SpellsItems, SpellsList, Shape, is_listed, Readers, begins_pair, at_end, is_repeatable, atom, with_sign, whole}
-use Rattle.std.proofs.lemmas.Bool.{eqb-true}
-use Rattle.std.specs.Option.{ok_or}
-use Rattle.sedck_expressions.specs.declared.fault.ReFault.TheVariants.{BadInterval, DoubleRepeat}
-use Rattle.sedck_expressions.specs.WellFormed.{IsSound, AreSound, AreBounds}
-use Rattle.sedck_expressions.specs.Reading.{Stop, tree_before, repeat_before, plain, closed_by, escaped, after_backslash, Lister, items, read}
+use Rattle.sedck_expressions.proofs.Common.{◌≡◌, ℕ, zero, suc, ◌+◌, ◌≤◌, Bool, true, false, List, [], ◌∷◌, ◌++◌, length, drop, Option, None, Result, IfOk, inl, refl, sym, ap, subst, ◌∙◌, arith, IfSome, append_assoc, ◌==◌, codes, nat_lt, ◌&&◌, ◌||◌, nat_tests, append-nil, begins, Tree, Trees, Set, Group, Seq, Repeat, Nil, Then, groups_in, groups_in_all, Level, Whole, Inside, Position, First, is_empty, behind, SpellsCount, SpellsItem, SpellsItems, SpellsList, Shape, is_listed, Readers, begins_pair, at_end, is_repeatable, atom, with_sign, whole, eqb-true, ok_or, BadInterval, DoubleRepeat, IsSound, AreSound, AreBounds, Stop, tree_before, repeat_before, plain, closed_by, escaped, after_backslash, Lister}
+use Rattle.sedck_expressions.specs.Reading.{items, read}
 use Rattle.sedck_expressions.proofs.ReadLemmas.{bind_holds, ok_then, cond_holds, ok_or_holds, pair_text, Takes, IsListBefore, IsIntervalBefore, star_text, not_empty_more, repeatable_of, Fit, fit_all}
 use Rattle.sedck_expressions.proofs.ItemBeginnings.{sign_some, list_ends}
 use Rattle.sedck_expressions.proofs.NumberedGroups.{counts_range}

@@ -1,6 +1,5 @@
 -- Sets of bytes, word by word and bit by bit.
-use Rattle.sedck_expressions.proofs.Common.{◌≡◌, ℕ, ◌+◌, ◌*◌, ◌-◌, ◌/◌, ◌%◌, ◌^◌, ◌<◌, ◌≤◌, Bool, List, [], ◌∷◌, ap, ◌∙◌, arith, ◌||◌, not, nat_lt, slice_index, bit_or, bit_at, nat_tests, bit_at_or, is_from, bit_of, HasJust, HasBitsBelow}
-use Rattle.std.proofs.lemmas.Nat.Bits.{bit_at_ones, bit_at_ones_above}
+use Rattle.sedck_expressions.proofs.Common.{◌≡◌, ℕ, ◌+◌, ◌*◌, ◌-◌, ◌/◌, ◌%◌, ◌^◌, ◌<◌, ◌≤◌, Bool, List, [], ◌∷◌, ap, ◌∙◌, arith, ◌||◌, not, nat_lt, slice_index, bit_or, bit_at, nat_tests, bit_at_or, is_from, bit_of, HasJust, HasBitsBelow, bit_at_ones, bit_at_ones_above}
 use Rattle.sedck_expressions.proofs.BracketSets.{below_four}
 
 -- ---- One word

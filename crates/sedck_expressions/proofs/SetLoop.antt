@@ -1,9 +1,7 @@
 -- The set that grows with the elements, and the set of a whole list.
-use Rattle.sedck_expressions.proofs.Common.{◌≡◌, ◌≢◌, ℕ, Bool, true, false, List, [], ◌∷◌, ◌++◌, length, Ok, Err, refl, sym, arith, ◌||◌, list_any, bytes_where, Element, in_element, is_mistakable, is_listed, some_of, inside_of, elements_of, set_at, AreWords, HasJust, has_no_word, is_of, list_any-append}
+use Rattle.sedck_expressions.proofs.Common.{◌≡◌, ◌≢◌, ℕ, Bool, true, false, List, [], ◌∷◌, ◌++◌, length, Ok, Err, refl, sym, arith, ◌||◌, list_any, bytes_where, Element, in_element, is_mistakable, is_listed, some_of, inside_of, elements_of, set_at, AreWords, HasJust, has_no_word, is_of, list_any-append, mistaken, BadBracket, EmptySet, signed}
 use Rattle.sedck_expressions.specs.View.{bytes_in}
-use Rattle.sedck_expressions.specs.BracketReading.{holder, mistaken}
-use Rattle.sedck_expressions.specs.declared.fault.ReFault.TheVariants.{BadBracket, EmptySet}
-use Rattle.sedck_expressions.specs.Private.BracketCode.{signed}
+use Rattle.sedck_expressions.specs.BracketReading.{holder}
 use Rattle.sedck_expressions.proofs.SetLemmas.{just_same}
 use Rattle.sedck_expressions.proofs.BracketSets.{just_bytes, some_in, none_in}
 

@@ -1,10 +1,8 @@
 -- The tree of each form that has parts.
-use Rattle.sedck_expressions.proofs.Common.{◌≡◌, ℕ, map, Option, sym, ap, ◌∙◌, Tree, trees, tree, ByteSet, Bre}
-use Rattle.std.proofs.Common.{Vec, Box, Global}
-use Rattle.sedck_expressions.specs.View.{node_tree, bytes_in}
+use Rattle.sedck_expressions.proofs.Common.{◌≡◌, ℕ, map, Option, sym, ap, ◌∙◌, Tree, trees, tree, ByteSet, Bre, Vec, Box, Global, node_tree, Bre-F, fold-roll-Bre, rolls-Byte, rolls-Any, rolls-Set, rolls-Ref, rolls-Group, rolls-Seq, rolls-Repeat}
+use Rattle.sedck_expressions.specs.View.{bytes_in}
 use Rattle.sedck_expressions.specs.Tree as spec
-use Rattle.sedck_expressions.specs.declared.tree.Bre.{Bre-F, fold-roll-Bre}
-use Rattle.sedck_expressions.specs.declared.tree.Bre.TheVariants.{Byte, Any, Set, Ref, Group, Seq, Repeat, rolls-Byte, rolls-Any, rolls-Set, rolls-Ref, rolls-Group, rolls-Seq, rolls-Repeat}
+use Rattle.sedck_expressions.specs.declared.tree.Bre.TheVariants.{Byte, Any, Set, Ref, Group, Seq, Repeat}
 
 pub tree-Any : tree Any ≡ spec.Any
 tree-Any = ap tree (sym rolls-Any) ∙ fold-roll-Bre Tree node_tree Bre-F.Any

@@ -1,8 +1,6 @@
 -- A whole bracket list: what is read is one, and what is one is read.
-use Rattle.sedck_expressions.proofs.Common.{◌≡◌, ◌≢◌, ℕ, suc, zero, ◌+◌, ◌-◌, ◌<◌, ◌≤◌, Bool, true, false, cond, List, [], ◌∷◌, ◌++◌, length, take, drop, Result, Ok, Err, IfOk, refl, sym, ap, ◌∙◌, subst, arith, append_assoc, length-append, ◌&&◌, not, codes, false≢true, nat_tests, begins, bytes_where, Element, WritesElement, WritesElements, is_mistakable, is_listed, IsBracketList, ◌>>=◌, some_of, inside_of, elements_of, set_at, inside_at, opening}
-use Rattle.std.proofs.Math.Seq.{take-append_seam}
-use Rattle.sedck_expressions.specs.Reading.{Stop}
-use Rattle.sedck_expressions.specs.BracketReading.{elements_at, clear_of, set_of, bracket_at}
+use Rattle.sedck_expressions.proofs.Common.{◌≡◌, ◌≢◌, ℕ, suc, zero, ◌+◌, ◌-◌, ◌<◌, ◌≤◌, Bool, true, false, cond, List, [], ◌∷◌, ◌++◌, length, take, drop, Result, Ok, Err, IfOk, refl, sym, ap, ◌∙◌, subst, arith, append_assoc, length-append, ◌&&◌, not, codes, false≢true, nat_tests, begins, bytes_where, Element, WritesElement, WritesElements, is_mistakable, is_listed, IsBracketList, ◌>>=◌, some_of, inside_of, elements_of, set_at, inside_at, opening, take-append_seam, Stop, clear_of, set_of}
+use Rattle.sedck_expressions.specs.BracketReading.{elements_at, bracket_at}
 use Rattle.sedck_expressions.proofs.ReadLemmas.{cond_holds, IsListBefore}
 use Rattle.sedck_expressions.proofs.BracketLemmas.{one_front, begins_before, is_closing_front}
 use Rattle.sedck_expressions.proofs.BracketSound.{AreElementsBefore, elements_take, written_front}

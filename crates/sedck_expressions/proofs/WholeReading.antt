@@ -1,12 +1,7 @@
 -- The reading of a whole text, from that of its list of items.
-use Rattle.sedck_expressions.proofs.Common.{◌≡◌, ℕ, ◌+◌, ◌<◌, Bool, true, false, List, [], length, Some, Result, Ok, Err, refl, ap, subst, arith, ◌==◌, nat_tests, Tree, Trees, Seq, Whole, First, SpellsTree, Shape, ◌>>=◌, whole, full, free, ClosedIs}
-use Rattle.std.specs.Prelude.{MatchOption}
-use Rattle.std.proofs.Common.{replicate}
-use Rattle.std.proofs.lemmas.List.{get_or-replicate}
-use Rattle.sedck_expressions.specs.Reading.{Stop, items, read}
-use Rattle.sedck_expressions.specs.FirstFault.{fault_in, first_fault}
-use Rattle.sedck_expressions.specs.declared.fault.ReFault.{ReFault}
-use Rattle.sedck_expressions.specs.declared.fault.ReFault.TheVariants.{UnopenedGroup}
+use Rattle.sedck_expressions.proofs.Common.{◌≡◌, ℕ, ◌+◌, ◌<◌, Bool, true, false, List, [], length, Some, Result, Ok, Err, refl, ap, subst, arith, ◌==◌, nat_tests, Tree, Trees, Seq, Whole, First, SpellsTree, Shape, ◌>>=◌, whole, full, free, ClosedIs, MatchOption, replicate, get_or-replicate, Stop, fault_in, ReFault, UnopenedGroup}
+use Rattle.sedck_expressions.specs.Reading.{items, read}
+use Rattle.sedck_expressions.specs.FirstFault.{first_fault}
 use Rattle.sedck_expressions.proofs.ReadingSound.{read_sound}
 use Rattle.sedck_expressions.proofs.ReadingComplete.{read_again}
 use Rattle.sedck_expressions.proofs.ItemLoop.{full_takes, full_reads, free_reads}

@@ -1,6 +1,5 @@
 -- An expression without a backslash has no group and no reference, so it isn't misjudged.
-use Rattle.sedck_expressions.proofs.Common.{◌≡◌, ℕ, suc, ◌+◌, Bool, true, false, List, [], ◌∷◌, ◌++◌, length, refl, sym, ap, ◌∙◌, arith, ◌==◌, ◌||◌, not, nat_lt, if◌then◌else◌, false≢true, nat_tests, Tree, Trees, Byte, Any, Set, Start, End, Maybe, Group, Ref, Seq, Repeat, Nil, Then, Level, Whole, Inside, Position, behind, SpellsItem, SpellsItems, SpellsList, has_part, is_reference, is_anchor, repeats_anchor, is_misjudged}
-use Rattle.std.specs.List.{prefix_len}
+use Rattle.sedck_expressions.proofs.Common.{◌≡◌, ℕ, suc, ◌+◌, Bool, true, false, List, [], ◌∷◌, ◌++◌, length, refl, sym, ap, ◌∙◌, arith, ◌==◌, ◌||◌, not, nat_lt, if◌then◌else◌, false≢true, nat_tests, Tree, Trees, Byte, Any, Set, Start, End, Maybe, Group, Ref, Seq, Repeat, Nil, Then, Level, Whole, Inside, Position, behind, SpellsItem, SpellsItems, SpellsList, has_part, is_reference, is_anchor, repeats_anchor, is_misjudged, prefix_len}
 use Rattle.sedck_text.specs.Text.{is_in}
 use Rattle.sedck_expressions.proofs.NumberedGroups.{is_in-neither}
 

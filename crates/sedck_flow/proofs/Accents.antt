@@ -1,7 +1,5 @@
 -- `é*` matches `éé` by characters, and not by bytes.
-use Rattle.sedck_flow.proofs.Common.{◌≡◌, ℕ, zero, suc, ◌==◌, Bool, false, List, [], ◌∷◌, ◌++◌, refl, ap, sym, ◌∙◌, arith, list_any, false≢true, Byte, Groups, no_groups, Times, WideMatch, CharacterMatch}
-use Rattle.std.proofs.Common.{append-nil}
-use Rattle.sedck_flow.specs.Laws.{accents, two_accents}
+use Rattle.sedck_flow.proofs.Common.{◌≡◌, ℕ, zero, suc, ◌==◌, Bool, false, List, [], ◌∷◌, ◌++◌, refl, ap, sym, ◌∙◌, arith, list_any, false≢true, Byte, Groups, no_groups, Times, WideMatch, CharacterMatch, append-nil, accents, two_accents}
 
 abbrev has_first : List ℕ → Bool
 has_first w = list_any (λ b. b == 195) w

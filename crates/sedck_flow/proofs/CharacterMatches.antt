@@ -1,12 +1,6 @@
 -- A match by characters of an expression that splits none is a wide match.
-use Rattle.sedck_flow.proofs.Common.{◌≡◌, ◌≢◌, inl, inr, ℕ, zero, suc, ◌==◌, Bool, true, false, List, [], ◌∷◌, ◌++◌, length, refl, ap, sym, ◌∙◌, subst, arith, ◌||◌, MatchBool, if◌then◌else◌, false≢true, nat_tests, Tree, Byte, Any, Seq, Nil, Then, Groups, Times, WideMatch, is_high, splits_character, CharacterMatch}
-use Rattle.std.proofs.Common.{◌-◌, append_assoc, nat_lt}
-use Rattle.std.specs.Prelude.{◌&&◌}
-use Rattle.std.proofs.lemmas.Bool.{or_parts, and_from}
-use Rattle.sedck_expressions.specs.Tree.{Trees, Set, Group, Repeat}
-use Rattle.sedck_bre.specs.WideMatch.{WideMatchAll}
-use Rattle.sedck_script.specs.ByteSafe.{goes_on, bytes_due, one_splits}
-use Rattle.sedck_flow.specs.Characters.{is_tail, is_character, IsOne, MatchesCharacter, CharacterMatchAll}
+use Rattle.sedck_flow.proofs.Common.{◌≡◌, ◌≢◌, inl, inr, ℕ, zero, suc, ◌==◌, Bool, true, false, List, [], ◌∷◌, ◌++◌, length, refl, ap, sym, ◌∙◌, subst, arith, ◌||◌, MatchBool, if◌then◌else◌, false≢true, nat_tests, Tree, Byte, Any, Seq, Nil, Then, Groups, Times, WideMatch, is_high, splits_character, CharacterMatch, ◌-◌, append_assoc, nat_lt, ◌&&◌, or_parts, and_from, Trees, Set, Repeat, WideMatchAll, goes_on, bytes_due, one_splits, is_tail, is_character, IsOne, MatchesCharacter, CharacterMatchAll}
+use Rattle.sedck_expressions.specs.Tree.{Group}
 
 -- ---- Choices
 

@@ -1,14 +1,9 @@
 -- Where no command depends on characters, each run by characters is a wide run.
-use Rattle.sedck_flow.proofs.Common.{◌≡◌, ◌⊎◌, inl, inr, ℕ, Bool, false, List, [], ◌∷◌, ◌++◌, map, refl, ap, sym, ◌∙◌, subst, arith, ◌||◌, flat_map, option_map, slice_get, if◌then◌else◌, list_any, none-some, slice_get-map, slice_get_within, get_or_from_slice_get, Tree, no_groups, Pattern, Previous, Expression, Verb, Substitute, Transliterate, Command, Program, pattern_expressions, address_patterns, verb_patterns, patterns, expressions, Contains-cons_cases, is_high, splits_character, StandsFor, Files, State, Start, Event, any_locale, WideTransliterates}
-use Rattle.std.proofs.lemmas.Bool.{or_parts}
+use Rattle.sedck_flow.proofs.Common.{◌≡◌, ◌⊎◌, inl, inr, ℕ, Bool, false, List, [], ◌∷◌, ◌++◌, map, refl, ap, sym, ◌∙◌, subst, arith, ◌||◌, flat_map, option_map, slice_get, if◌then◌else◌, list_any, none-some, slice_get-map, slice_get_within, get_or_from_slice_get, Tree, no_groups, Pattern, Previous, Expression, Verb, Substitute, Transliterate, Command, Program, pattern_expressions, address_patterns, verb_patterns, patterns, expressions, Contains-cons_cases, is_high, splits_character, StandsFor, Files, State, Start, Event, any_locale, WideTransliterates, or_parts, All, All-head, All-tail, same_Some, replaces_byte, command_expressions, depends_on_characters, IsByteSafe, WideRun}
 use Rattle.std.proofs.Common.{Option, Some, None}
-use Rattle.std.specs.Prelude.{Contains, All}
+use Rattle.std.specs.Prelude.{Contains}
 use Rattle.std.proofs.lemmas.List.Concat.{flat_map-append}
-use Rattle.std.proofs.lemmas.List.Elements.{All-head, All-tail}
 use Rattle.std.proofs.lemmas.List.Folds.{list_any-append}
-use Rattle.std.proofs.lemmas.Option.{same_Some}
-use Rattle.sedck_script.specs.ByteSafe.{replaces_byte, command_expressions, depends_on_characters, IsByteSafe}
-use Rattle.sedck_flow.specs.WideRun.{WideRun}
 use Rattle.sedck_flow.specs.CharacterRun.{characters_from, ArePartners, BecomesCharacter, CharacterTransliterates, utf_8, CharacterRun}
 use Rattle.sedck_flow.proofs.ExpressionPatterns.{expressions_are_patterns}
 use Rattle.sedck_flow.proofs.CharacterMatches.{low_byte, widens}

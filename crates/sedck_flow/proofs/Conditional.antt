@@ -1,8 +1,6 @@
 -- Which commands may be skipped, said in two ways.
-use Rattle.sedck_flow.proofs.Common.{◌≡◌, ◌≢◌, ◌⊎◌, Bool, true, false, refl, inl, inr, ◌||◌, false≢true, Address, NoAddress, One, Two, Command}
+use Rattle.sedck_flow.proofs.Common.{◌≡◌, ◌≢◌, ◌⊎◌, Bool, true, false, refl, inl, inr, ◌||◌, false≢true, Address, NoAddress, One, Two, Command, Place, has_address, is_conditional}
 use Rattle.std.specs.Prelude.{◌↔◌, IsTrue}
-use Rattle.sedck_commands.specs.Program.{Place}
-use Rattle.sedck_flow.specs.Run.{has_address, is_conditional}
 
 pub one_address : (place : Place) → One place ≢ NoAddress
 one_address place is = cc

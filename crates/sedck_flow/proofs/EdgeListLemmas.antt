@@ -1,9 +1,6 @@
 -- Where the edges that leave one node lead, put in order one by one.
-use Rattle.sedck_flow.proofs.Common.{◌≡◌, ◌⊎◌, ◌↔◌, ℕ, zero, suc, ◌<◌, true, false, List, [], ◌∷◌, ◌++◌, map, length, get_or, drop, Contains, refl, sym, ap, ◌∙◌, inl, inr, arith, Contains-cons_cases, Contains-cons_more, with_last, kind_index, ReadsLine, IsEarlier, ListsEdges, number, edge_to, Adds, AddsEdge, AddsLine, Node, Edge, Kind, Consume}
-use Rattle.std.proofs.Common.{take}
+use Rattle.sedck_flow.proofs.Common.{◌≡◌, ◌⊎◌, ◌↔◌, ℕ, zero, suc, ◌<◌, true, false, List, [], ◌∷◌, ◌++◌, map, length, get_or, drop, Contains, refl, sym, ap, ◌∙◌, inl, inr, arith, Contains-cons_cases, Contains-cons_more, with_last, kind_index, ReadsLine, IsEarlier, ListsEdges, number, edge_to, Adds, AddsEdge, AddsLine, Node, Edge, Kind, Consume, take, AreInOrder, AreRising}
 use Rattle.std.proofs.lemmas.List.Sorted.{IsPermutation-insert, IsPermutation-sym, Contains-permutation}
-use Rattle.sedck_flow.specs.Flow.{AreInOrder}
-use Rattle.sedck_flow.specs.Private.EdgeList.{AreRising}
 use Rattle.sedck_flow.proofs.NodeLemmas.{index-before, node_same}
 
 -- ---- Targets and their numbers

@@ -1,10 +1,6 @@
 -- The edges that are found for a node are those that leave it.
-use Rattle.sedck_flow.proofs.Common.{◌≡◌, ℕ, zero, suc, ◌<◌, ◌≤◌, List, [], ◌∷◌, map, length, get_or, drop, Contains, refl, sym, ap, ◌∙◌, subst, inl, inr, arith, Option, Some, None, MatchOption, option_map, slice_get, get_or_from_slice_get, slice_get-map, slice_get_within, length-map, All-contains, IsTargetWithin, AreWellFormed, Pattern, Previous, Expression, Verb, Branch, Test, Block, Substitute, Command, Program, expressions, command_of, Tree, IsWellFormed, StandsFor, IsFormed, start, ReadsLine, VerbEdge, node_past, CommandEdge, Flow, ListsEdges, edge_to, Adds, AddsEdge, Node, Edge, Kind, Keep}
-use Rattle.std.proofs.lemmas.Option.{slice_get_read, slice_get_past}
-use Rattle.sedck_script.specs.Invariant.{IsReplacement, IsScript}
+use Rattle.sedck_flow.proofs.Common.{◌≡◌, ℕ, zero, suc, ◌<◌, ◌≤◌, List, [], ◌∷◌, map, length, get_or, drop, Contains, refl, sym, ap, ◌∙◌, subst, inl, inr, arith, Option, Some, None, MatchOption, option_map, slice_get, get_or_from_slice_get, slice_get-map, slice_get_within, length-map, All-contains, IsTargetWithin, AreWellFormed, Pattern, Previous, Expression, Verb, Branch, Test, Block, Substitute, Command, Program, expressions, command_of, Tree, IsWellFormed, StandsFor, IsFormed, start, ReadsLine, VerbEdge, node_past, CommandEdge, Flow, ListsEdges, edge_to, Adds, AddsEdge, Node, Edge, Kind, Keep, slice_get_read, slice_get_past, IsReplacement, IsScript, HasFormed, MayApplyAt, MaySkipAt, FlowFrom}
 use Rattle.sedck_script.specs.declared.script.Command.{Command as Coded}
-use Rattle.sedck_flow.specs.Private.Least.{HasFormed}
-use Rattle.sedck_flow.specs.Flow.{MayApplyAt, MaySkipAt, FlowFrom}
 use Rattle.sedck_flow.proofs.EdgeListLemmas.{lists_edges, adds_then, adds_same}
 use Rattle.sedck_flow.proofs.EdgesInside.{target_at}
 use Rattle.sedck_flow.proofs.StepsFollowEdges.{IsKnown, known_at}

@@ -1,10 +1,6 @@
 -- The worked examples hold.
-use Rattle.sedck_flow.proofs.Common.{◌≡◌, ℕ, ◌≤◌, true, false, List, [], ◌∷◌, length, Contains, refl, sym, ap, ◌∙◌, subst, inl, inr, arith, length-append, false≢true, Tree, Any, Seq, Then, Nil, Groups, no_groups, text_of, Match, Language, Contains-cons_cases, Shortens, NeverLengthens, HasKind, HasNoWhole, named_groups, AreDistinct, AreTopGroups, KeepsGroups, Expression, Part, Machine, At, Node, Shorten, Keep, Occurrence}
-use Rattle.std.specs.Prelude.{codes}
+use Rattle.sedck_flow.proofs.Common.{◌≡◌, ℕ, ◌≤◌, true, false, List, [], ◌∷◌, length, Contains, refl, sym, ap, ◌∙◌, subst, inl, inr, arith, length-append, false≢true, Tree, Any, Seq, Then, Nil, Groups, no_groups, text_of, Match, Language, Contains-cons_cases, Shortens, NeverLengthens, HasKind, HasNoWhole, named_groups, AreDistinct, AreTopGroups, KeepsGroups, Expression, Part, Machine, At, Node, Shorten, Keep, Occurrence, codes, true≢false, with_text, Reference}
 use Rattle.std.specs.Fmt.{digits}
-use Rattle.std.proofs.lemmas.Bool.{true≢false}
-use Rattle.sedck_bre.specs.Match.{with_text}
-use Rattle.sedck_commands.specs.Program.{Group as Reference}
 use Rattle.sedck_flow.specs.Words.{edge_words}
 use Rattle.sedck_flow.specs.Examples.{ExamplesHold, one_x, any_xs, replacing, delete_matches, a_then_b, one_c, replacing_previous, replace_previous, b_in_group, replace_once, group_in_dashes, edge}
 use Rattle.sedck_flow.proofs.ExpressionPatterns.{expressions_are_patterns}

@@ -1,6 +1,5 @@
 -- The expressions of a script are those of its patterns that aren't empty.
-use Rattle.sedck_flow.proofs.Common.{◌≡◌, List, [], ◌∷◌, Contains, refl, sym, ap, subst, inl, inr, arith, Contains-append_left, Contains-append_right, flat_map, Tree, Pattern, Previous, Expression, Command, patterns, pattern_expressions, expressions, Contains-cons_cases, Contains-cons_more}
-use Rattle.std.proofs.lemmas.List.Elements.{Contains-append_cases}
+use Rattle.sedck_flow.proofs.Common.{◌≡◌, List, [], ◌∷◌, Contains, refl, sym, ap, subst, inl, inr, arith, Contains-append_left, Contains-append_right, flat_map, Tree, Pattern, Previous, Expression, Command, patterns, pattern_expressions, expressions, Contains-cons_cases, Contains-cons_more, Contains-append_cases}
 use Rattle.std.specs.Prelude.{◌↔◌}
 
 is_expression : (ps : List Pattern) (tree : Tree) → Contains ps (Expression tree) → Contains (flat_map pattern_expressions ps) tree

@@ -1,6 +1,5 @@
 -- Nodes, their order, and their index in it.
-use Rattle.sedck_flow.proofs.Common.{◌≡◌, ℕ, ◌<◌, ◌≤◌, arith, nat_tests, Node}
-use Rattle.sedck_flow.specs.Nodes.{IsBefore, node_index, nth_node, node_count}
+use Rattle.sedck_flow.proofs.Common.{◌≡◌, ℕ, ◌<◌, ◌≤◌, arith, nat_tests, Node, IsBefore, node_index, nth_node, node_count}
 
 -- ---- The index follows the order
 

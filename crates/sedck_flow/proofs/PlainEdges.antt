@@ -1,6 +1,5 @@
 -- An edge between nodes that know the last line, without what they say of it.
-use Rattle.sedck_flow.proofs.Common.{◌≡◌, Bool, true, false, length, ap, inl, inr, Option, Some, None, MatchOption, slice_get, if◌then◌else◌, Address, Two, Verb, Block, Change, Delete, DeleteFirstLine, Next, NextAppend, Quit, Substitute, Test, Command, Program, start, next, with_flag, HasKind, ReadsLine, VerbEdge, node_past, CommandEdge, Flow, Node, Edge, Kind, Consume}
-use Rattle.sedck_flow.specs.Nodes.{moved_to}
+use Rattle.sedck_flow.proofs.Common.{◌≡◌, Bool, true, false, length, ap, inl, inr, Option, Some, None, MatchOption, slice_get, if◌then◌else◌, Address, Two, Verb, Block, Change, Delete, DeleteFirstLine, Next, NextAppend, Quit, Substitute, Test, Command, Program, start, next, with_flag, HasKind, ReadsLine, VerbEdge, node_past, CommandEdge, Flow, Node, Edge, Kind, Consume, moved_to}
 use Rattle.sedck_flow.specs.VersionOne.{plain_node, plain_edge, start_one, moved_one, next_one, flagged_one, VerbEdgeOne, node_past_one, CommandEdgeOne, FlowOne}
 
 reads_line : (n : Node) (kind : Kind) (to : Node) → ReadsLine n start kind to → (kind ≡ Consume) × (plain_node to ≡ start_one)

@@ -1,9 +1,7 @@
 -- Whether a replacement keeps groups is decided by cases; the length of what it makes.
-use Rattle.sedck_flow.proofs.Common.{◌≡◌, ◌⊎◌, ℕ, ◌+◌, Bool, IsTrue, List, [], ◌∷◌, length, refl, ◌∙◌, inl, inr, arith, length-append, cases_eq, Tree, text_of, texts_length, AreDifferentTopGroups, HasNoWhole, named_groups, AreDistinct, AreTopGroups, KeepsGroups, Pattern, Previous, Expression, Part, Text, Whole, Group, literal_length, IsWholeAlone, Occurrence, replacement}
+use Rattle.sedck_flow.proofs.Common.{◌≡◌, ◌⊎◌, ℕ, ◌+◌, Bool, IsTrue, List, [], ◌∷◌, length, refl, ◌∙◌, inl, inr, arith, length-append, cases_eq, Tree, text_of, texts_length, AreDifferentTopGroups, HasNoWhole, named_groups, AreDistinct, AreTopGroups, KeepsGroups, Pattern, Previous, Expression, Part, Text, Whole, Group, literal_length, IsWholeAlone, Occurrence, replacement, is_top_group, IsNotIn}
 use Rattle.std.specs.Prelude.{◌≢◌}
-use Rattle.sedck_bre.specs.Rests.{is_top_group}
 use Rattle.sedck_commands.proofs.ReferenceLemmas.{not_in}
-use Rattle.sedck_commands.specs.References.{IsNotIn}
 
 -- holds or fails
 abbrev pub Decided : Type 0 → Type 0

@@ -1,13 +1,8 @@
 -- The least rest of a match, from what a script and its substitutions know.
-use Rattle.sedck_flow.proofs.Common.{◌≡◌, ℕ, ◌<◌, length, refl, sym, ap, subst, inl, inr, arith, Option, Some, None, Tree, Groups, no_groups, Match, texts_length, IsLeastRest, IsWellFormed, least_rest_of, Pattern, Previous, Expression, Substitution, Program, expressions, named_groups, AreTopGroups, KeepsGroups, StandsFor, AreRestsAtLeast, IsFormed}
+use Rattle.sedck_flow.proofs.Common.{◌≡◌, ℕ, ◌<◌, length, refl, sym, ap, subst, inl, inr, arith, Option, Some, None, Tree, Groups, no_groups, Match, texts_length, IsLeastRest, IsWellFormed, least_rest_of, Pattern, Previous, Expression, Substitution, Program, expressions, named_groups, AreTopGroups, KeepsGroups, StandsFor, AreRestsAtLeast, IsFormed, IsLeastSize, HasRest, IsLeastOutside, IsOutside, AreRestsAbove, IsLeastOfRests}
 use Rattle.std.proofs.Math.Logic.{∥∥₁_elim}
 use Rattle.std.proofs.Math.Bridge.{le_prop}
-use Rattle.sedck_bre.specs.Lengths.{IsLeastSize}
-use Rattle.sedck_bre.specs.Rests.{HasRest}
-use Rattle.sedck_commands.specs.References.{IsLeastOutside, IsOutside}
 use Rattle.sedck_script.specs.Shortest.{SomeHasLength}
-use Rattle.sedck_flow.specs.Flow.{AreRestsAbove}
-use Rattle.sedck_flow.specs.Private.Least.{IsLeastOfRests}
 use Rattle.sedck_flow.proofs.ExpressionPatterns.{expressions_are_patterns}
 use Rattle.sedck_flow.proofs.References.{keeps_groups_or_not, different_groups, no_groups_of_previous}
 

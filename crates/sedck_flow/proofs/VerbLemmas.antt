@@ -1,12 +1,9 @@
 -- The edges that are found for a verb are those that it has.
-use Rattle.sedck_flow.proofs.Common.{◌≡◌, ◌⊎◌, ◌↔◌, ℕ, ◌<◌, Bool, true, false, List, refl, sym, subst, inl, inr, arith, Address, DeleteFirstLine, Next, Substitution, Substitute, Program, start, next, with_flag, with_last, HasKind, ReadsLine, VerbEdge, kind_index, Adds, AddsEdge, AddsLine, Node, Kind, Consume, Shorten, Keep, Grow}
-use Rattle.std.proofs.lemmas.Bool.{cases_order}
-use Rattle.sedck_script.specs.View.{verb_of}
+use Rattle.sedck_flow.proofs.Common.{◌≡◌, ◌⊎◌, ◌↔◌, ℕ, ◌<◌, Bool, true, false, List, refl, sym, subst, inl, inr, arith, Address, DeleteFirstLine, Next, Substitution, Substitute, Program, start, next, with_flag, with_last, HasKind, ReadsLine, VerbEdge, kind_index, Adds, AddsEdge, AddsLine, Node, Kind, Consume, Shorten, Keep, Grow, cases_order, verb_of, KeptOrReset}
 use Rattle.sedck_commands.specs.declared.types.Substitution.{Substitution as CodedSubstitution}
 use Rattle.sedck_commands.specs.declared.types.Verb.{Verb as Coded}
 use Rattle.sedck_commands.specs.declared.types.Verb.TheVariants as coded
 use Rattle.std.specs.Borrow.{Bor}
-use Rattle.sedck_flow.specs.Run.{KeptOrReset}
 use Rattle.sedck_flow.proofs.EdgeOrder.{kind_same}
 use Rattle.sedck_flow.proofs.References.{alone_has_whole}
 use Rattle.sedck_flow.proofs.EdgeListLemmas.{adds_then, adds_same}

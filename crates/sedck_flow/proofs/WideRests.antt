@@ -1,6 +1,5 @@
 -- What no match has less than as its rest, no wide match has less than.
-use Rattle.sedck_flow.proofs.Common.{ℕ, ◌+◌, ◌≤◌, List, length, Contains, sym, subst, arith, All-contains, AreDifferentTopGroups, IsWellFormed, texts_length, Tree, Groups, no_groups, WideMatch, AreWellFormed, Pattern, Previous, Expression, Substitution, Program, expressions, named_groups, AreDistinct, AreTopGroups, KeepsGroups, StandsFor, AreRestsAtLeast}
-use Rattle.sedck_bre.proofs.DifferentGroups.{wide_rest_of}
+use Rattle.sedck_flow.proofs.Common.{ℕ, ◌+◌, ◌≤◌, List, length, Contains, sym, subst, arith, All-contains, AreDifferentTopGroups, IsWellFormed, texts_length, Tree, Groups, no_groups, WideMatch, AreWellFormed, Pattern, Previous, Expression, Substitution, Program, expressions, named_groups, AreDistinct, AreTopGroups, KeepsGroups, StandsFor, AreRestsAtLeast, wide_rest_of}
 use Rattle.sedck_flow.proofs.References.{different_groups, no_groups_of_previous}
 
 different : (p : Program) (pattern : Pattern) (tree : Tree) (ks : List ℕ) → StandsFor p pattern tree → AreDistinct ks → AreTopGroups pattern ks

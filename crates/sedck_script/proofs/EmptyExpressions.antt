@@ -1,27 +1,10 @@
 -- The first empty expression of a command is at one place, and is a pattern of the command.
-use Rattle.sedck_script.proofs.Common.{◌≡◌, ℕ, Bool, true, false, List, [], ◌∷◌, ◌++◌, refl, ap, sym, subst, ◌∙◌, inl, inr, arith, false≢true, IsTrue, Pattern, Previous, Expression, Address, WrittenVerb, VerbText, address_patterns, place_patterns, has_previous}
-use Rattle.sedck_text.specs.Classes.{is_mark}
-use Rattle.sedck_commands.specs.Cuts.{is_delimiter, Longest}
-use Rattle.sedck_commands.specs.Program.{Place, Context}
-use Rattle.sedck_commands.specs.Parts.{ExpressionText, IsPatternIn, PlaceText}
+use Rattle.sedck_script.proofs.Common.{◌≡◌, ℕ, Bool, true, false, List, [], ◌∷◌, ◌++◌, refl, ap, sym, subst, ◌∙◌, inl, inr, arith, false≢true, IsTrue, Pattern, Previous, Expression, Address, WrittenVerb, VerbText, address_patterns, place_patterns, has_previous, is_mark, is_delimiter, Longest, Place, Context, ExpressionText, IsPatternIn, PlaceText, CommandText, read_alike, written_patterns, AddressEmpty, CommandEmpty, BeginsNoAddress, AreAddresses, EmptyPlace, EmptyVerb, both_ways, not-true, longest_one, heads, tails, expression_one, pattern_one, place_class, place_begins, place_one, longest_along, no_place, flags_leave, at_one, second_one, are_addresses_one, all_addresses}
 use Rattle.sedck_commands.specs.Parts as p
-use Rattle.sedck_commands.specs.Items.{CommandText}
 use Rattle.sedck_commands.specs.Items as w
-use Rattle.sedck_commands.specs.ReadAlike.{read_alike}
-use Rattle.sedck_commands.specs.ReadItems.{written_patterns, AddressEmpty, CommandEmpty}
 use Rattle.sedck_commands.specs.ReadItems as r
-use Rattle.sedck_commands.specs.FirstFaults.{BeginsNoAddress, AreAddresses, EmptyPlace, EmptyVerb}
 use Rattle.sedck_commands.specs.FirstFaults as o
-use Rattle.std.proofs.lemmas.Bool.{both_ways, not-true}
-use Rattle.sedck_text.proofs.Runs.{longest_one}
-use Rattle.sedck_commands.proofs.FirstBytes.{heads, tails}
-use Rattle.sedck_commands.proofs.UniqueParts.{expression_one, pattern_one}
 use Rattle.sedck_commands.proofs.UniqueVerbs.{no_backslash, head_class, begins}
-use Rattle.sedck_commands.proofs.UniqueItems.{place_class, place_begins, place_one, longest_along}
-use Rattle.sedck_commands.proofs.UniqueAddresses.{no_place}
-use Rattle.sedck_commands.proofs.ReplacementParts.{flags_leave}
-use Rattle.sedck_commands.proofs.OneFaultEnds.{at_one}
-use Rattle.sedck_commands.proofs.OneFaultAddresses.{second_one, are_addresses_one, all_addresses}
 
 pub previous_left : (xs ys : List Pattern) → has_previous xs ≡ true → has_previous (xs ++ ys) ≡ true
 previous_left [] ys h = absurd (false≢true h)

@@ -1,24 +1,8 @@
 -- A text has one first fault at most, and spells no script where it has one.
-use Rattle.sedck_script.proofs.Common.{◌≡◌, ℕ, ◌<◌, true, false, List, [], ◌∷◌, ◌++◌, length, flat_map, Some, Contains, refl, ap, ap₂, sym, subst, append-nil, ◌∙◌, inl, inr, arith, zero, suc, false≢true, Contains-append_right, Program, Command, Items, Item, Written, Closing, Resolves, done, known, jump, opening, closing, LeadsTo, Defines, Spells, commands_among, has_previous, item_patterns, items_one, patterns, pattern_expressions}
-use Rattle.std.proofs.Common.{drop}
-use Rattle.std.specs.Prelude.{slice_get, ◌+◌}
-use Rattle.std.proofs.lemmas.List.{get_or-take, length-take-le}
-use Rattle.std.proofs.lemmas.Option.{slice_get_within, get_or_from_slice_get}
-use Rattle.sedck_commands.specs.Locations.{locations_of}
-use Rattle.sedck_commands.specs.Faults.{IsFirstZero, StandsAt}
-use Rattle.sedck_commands.specs.FirstFaults.{LabelBeginsAt}
+use Rattle.sedck_script.proofs.Common.{◌≡◌, ℕ, ◌<◌, true, false, List, [], ◌∷◌, ◌++◌, length, flat_map, Some, Contains, refl, ap, ap₂, sym, subst, append-nil, ◌∙◌, inl, inr, arith, zero, suc, false≢true, Contains-append_right, Program, Command, Items, Item, Written, Closing, Resolves, done, known, jump, opening, closing, LeadsTo, Defines, Spells, commands_among, has_previous, item_patterns, items_one, patterns, pattern_expressions, drop, slice_get, get_or-take, length-take-le, slice_get_within, get_or_from_slice_get, locations_of, IsFirstZero, StandsAt, LabelBeginsAt, patterns_of, CommandEmpty, ScriptFault, NulByte, UnknownLabel, NoPreviousExpression, Location, subst₂, longest_one, fault_refuses, at_one, longest_along, HasItems, JumpsTo, AreJumpsDefined, LinksFault, IsFirstFault}
+use Rattle.std.specs.Prelude.{◌+◌}
 use Rattle.sedck_commands.specs.FirstFaults as first
-use Rattle.sedck_commands.specs.ReadItems.{patterns_of, CommandEmpty}
-use Rattle.sedck_commands.specs.declared.fault.ScriptFault.{ScriptFault}
-use Rattle.sedck_commands.specs.declared.fault.ScriptFault.TheVariants.{NulByte, UnknownLabel, NoPreviousExpression}
-use Rattle.sedck_commands.specs.declared.location.Location.{Location}
-use Rattle.std.proofs.Common.{subst₂}
-use Rattle.sedck_text.proofs.Runs.{longest_one}
-use Rattle.sedck_commands.proofs.FaultRefuses.{fault_refuses}
 use Rattle.sedck_commands.proofs.OneFaultCauses.{one_first_fault}
-use Rattle.sedck_commands.proofs.OneFaultEnds.{at_one}
-use Rattle.sedck_commands.proofs.UniqueItems.{longest_along}
-use Rattle.sedck_script.specs.FirstFault.{HasItems, JumpsTo, AreJumpsDefined, LinksFault, IsFirstFault}
 use Rattle.sedck_script.specs.FirstFault as f
 use Rattle.sedck_script.proofs.SortedNames.{Contains-cons_cases, Contains-cons_more}
 use Rattle.sedck_script.proofs.Nesting.{label_written}

@@ -1,23 +1,10 @@
 -- What a first fault says of its place is so.
-use Rattle.sedck_script.proofs.Common.{◌≡◌, ℕ, Bool, true, false, List, [], ◌∷◌, ◌++◌, length, take, ◌<◌, refl, ap, sym, subst, ◌∙◌, ◌+◌, inl, inr, arith, Some, Contains, NoAddress, Address, Label, Known, Item, Written, Closing, Items, VerbText, EndsIn, tail_cut, tail_tail, tail_behind, tail_length, commands_among, items_one}
-use Rattle.std.proofs.Common.{drop, take-append-drop}
-use Rattle.std.specs.Prelude.{◌-◌, slice_get, if◌then◌else◌}
-use Rattle.std.proofs.lemmas.List.{drop-drop}
-use Rattle.sedck_text.specs.Text.{one_of}
-use Rattle.sedck_commands.specs.Items.{JumpTo}
+use Rattle.sedck_script.proofs.Common.{◌≡◌, ℕ, Bool, true, false, List, [], ◌∷◌, ◌++◌, length, take, ◌<◌, refl, ap, sym, subst, ◌∙◌, ◌+◌, inl, inr, arith, Some, Contains, NoAddress, Address, Label, Known, Item, Written, Closing, Items, VerbText, EndsIn, tail_cut, tail_tail, tail_behind, tail_length, commands_among, items_one, drop, take-append-drop, ◌-◌, slice_get, if◌then◌else◌, drop-drop, one_of, JumpTo, IsPlaced, IsOfText, IsLabelBehind, IsEmptyExpression, BeginsAt, LabelBeginsAt, EmptyEnds, EmptyPlace, AreAddresses, AddressEmpty, CommandEmpty, ScriptFault, OutOfMemory, longest_along, place_tail, LinksFault, IsFirstFault}
 use Rattle.sedck_commands.specs.Items as w
-use Rattle.sedck_commands.specs.Faults.{IsPlaced, IsOfText, IsLabelBehind, IsEmptyExpression}
-use Rattle.sedck_commands.specs.FirstFaults.{BeginsAt, LabelBeginsAt, EmptyEnds, EmptyPlace, AreAddresses}
 use Rattle.sedck_commands.specs.FirstFaults as o
-use Rattle.sedck_commands.specs.ReadItems.{AddressEmpty, CommandEmpty}
 use Rattle.sedck_commands.specs.ReadItems as r
-use Rattle.sedck_commands.specs.declared.fault.ScriptFault.{ScriptFault}
-use Rattle.sedck_commands.specs.declared.fault.ScriptFault.TheVariants.{OutOfMemory}
 use Rattle.sedck_commands.proofs.TextEnds.{whole_from, byte_at, follows_byte}
-use Rattle.sedck_commands.proofs.UniqueItems.{longest_along}
-use Rattle.sedck_commands.proofs.UniqueAddresses.{place_tail}
 use Rattle.sedck_commands.proofs.PlacedItems.{items_fault_placed}
-use Rattle.sedck_script.specs.FirstFault.{LinksFault, IsFirstFault}
 use Rattle.sedck_script.specs.FirstFault as f
 use Rattle.sedck_script.proofs.ProgramLemmas.{among_has}
 use Rattle.sedck_script.proofs.OneLocation.{command_at}

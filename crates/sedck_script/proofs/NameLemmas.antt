@@ -1,15 +1,9 @@
 -- Names that were put in order, each once, are the sorted names.
-use Rattle.sedck_script.proofs.Common.{◌≡◌, ℕ, ◌+◌, ◌<◌, Bool, cond, true, false, List, [], ◌∷◌, ◌++◌, Contains, length, map, get_or, take, refl, ap, ap₂, sym, ◌∙◌, subst, append-nil, inl, inr, arith, slice_cmp, AllByRecursion, nat_cmp, Ordering, Less, false≢true, nat_list_cmp_total, map_more, flat_map-append, All-from_recursion, All-contains, verb_of, IsBefore, sorted_names, command_of, all_accessed}
-use Rattle.std.proofs.Common.{Bor, bytes_eq}
-use Rattle.std.specs.Cmp.Lexicographic.{nat_list_eq_equiv, on_texts, texts_ties, same_text}
-use Rattle.std.specs.List.{dedup, dedup_from}
+use Rattle.sedck_script.proofs.Common.{◌≡◌, ℕ, ◌+◌, ◌<◌, Bool, cond, true, false, List, [], ◌∷◌, ◌++◌, Contains, length, map, get_or, take, refl, ap, ap₂, sym, ◌∙◌, subst, append-nil, inl, inr, arith, slice_cmp, AllByRecursion, nat_cmp, Ordering, Less, false≢true, nat_list_cmp_total, map_more, flat_map-append, All-from_recursion, All-contains, verb_of, IsBefore, sorted_names, command_of, all_accessed, bytes_eq, nat_list_eq_equiv, on_texts, texts_ties, same_text, dedup, dedup_from, is_eq, tied_itself, Contains-dedup, Contains-from_dedup, IsStrictlySortedBy-dedup, accessed}
+use Rattle.std.proofs.Common.{Bor}
 use Rattle.std.specs.List.Sorted.{IsPermutation, IsSorted, IsStrictlySortedBy}
-use Rattle.std.specs.Ordering.{is_eq}
-use Rattle.std.proofs.lemmas.Cmp.{tied_itself}
-use Rattle.std.proofs.lemmas.List.Kept.{Contains-dedup, Contains-from_dedup, IsStrictlySortedBy-dedup}
 use Rattle.std.proofs.lemmas.List.Sorted.{Contains-permutation, IsPermutation-map, IsPermutation-sym}
 use Rattle.sedck_commands.specs.declared.names.Access.{Access}
-use Rattle.sedck_script.specs.Names.{accessed}
 use Rattle.sedck_script.specs.declared.script.Command.{Command}
 use Rattle.sedck_script.proofs.SortedNames.{Contains-cons_cases, Contains-cons_more, Rises, rises, sorted_names-same}
 

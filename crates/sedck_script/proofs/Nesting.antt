@@ -1,7 +1,5 @@
 -- Items that resolve to commands close each block; and their labels are at their commands.
-use Rattle.sedck_script.proofs.Common.{◌≡◌, ◌↔◌, ℕ, Bool, true, false, cond, zero, suc, List, [], ◌∷◌, ◌++◌, length, Some, refl, ap, sym, ◌∙◌, arith, NoAddress, Label, Branch, Test, Command, Known, Item, Written, Closing, Defines, AreLabelsDistinct, Resolves, done, known, jump, opening, closing, ResolvesIn, commands_among, Turned, Nests, Narrowings}
-use Rattle.sedck_commands.specs.Labels.{IsLabelOf, AreLabelsOnce}
-use Rattle.sedck_commands.specs.Blocks.{Turn, Opens, Closes, Stays, Jumps, turn_of}
+use Rattle.sedck_script.proofs.Common.{◌≡◌, ◌↔◌, ℕ, Bool, true, false, cond, zero, suc, List, [], ◌∷◌, ◌++◌, length, Some, refl, ap, sym, ◌∙◌, arith, NoAddress, Label, Branch, Test, Command, Known, Item, Written, Closing, Defines, AreLabelsDistinct, Resolves, done, known, jump, opening, closing, ResolvesIn, commands_among, Turned, Nests, Narrowings, IsLabelOf, AreLabelsOnce, Turn, Opens, Closes, Stays, Jumps, turn_of}
 
 pub resolves_nests : {A cs : List Command} {blocks : List ℕ} {place : ℕ} {items : List Item} → Resolves A blocks place items cs → Nests items (length blocks)
 resolves_nests done = refl

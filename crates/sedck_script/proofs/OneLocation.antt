@@ -1,19 +1,6 @@
 -- The commands of a text have one list of locations, and each command is at its own.
-use Rattle.sedck_script.proofs.Common.{◌≡◌, ℕ, Bool, List, ◌∷◌, length, Some, refl, ap, ap₂, sym, subst, ◌∙◌, inl, inr, arith, length-append, Address, zero, suc, Item, Written, WrittenVerb, VerbText, Items, EndsIn, tail_cut, tail_tail, tail_behind, ends_tail, verb_text_tail, commands_among}
-use Rattle.std.proofs.Common.{drop}
-use Rattle.std.specs.Prelude.{◌-◌, slice_get}
-use Rattle.std.proofs.Math.Seq.{drop-append_seam}
-use Rattle.sedck_commands.specs.Items.{CommandText}
+use Rattle.sedck_script.proofs.Common.{◌≡◌, ℕ, Bool, List, ◌∷◌, length, Some, refl, ap, ap₂, sym, subst, ◌∙◌, inl, inr, arith, length-append, Address, zero, suc, Item, Written, WrittenVerb, VerbText, Items, EndsIn, tail_cut, tail_tail, tail_behind, ends_tail, verb_text_tail, commands_among, drop, ◌-◌, slice_get, drop-append_seam, CommandText, location_of, locations_of, AreAddresses, Location, longest_one, heads, tails, ends_one, longest_along, command_one, no_command_other, no_command_end, empty_is_not, address_tail, are_addresses_one, all_addresses}
 use Rattle.sedck_commands.specs.Items as w
-use Rattle.sedck_commands.specs.Locations.{location_of, locations_of}
-use Rattle.sedck_commands.specs.FirstFaults.{AreAddresses}
-use Rattle.sedck_commands.specs.declared.location.Location.{Location}
-use Rattle.sedck_text.proofs.Runs.{longest_one}
-use Rattle.sedck_commands.proofs.FirstBytes.{heads, tails}
-use Rattle.sedck_commands.proofs.UniqueParts.{ends_one}
-use Rattle.sedck_commands.proofs.UniqueItems.{longest_along, command_one, no_command_other, no_command_end, empty_is_not}
-use Rattle.sedck_commands.proofs.CommandLemmas.{address_tail}
-use Rattle.sedck_commands.proofs.OneFaultAddresses.{are_addresses_one, all_addresses}
 
 -- where one command is, and where what follows it begins
 location_one : {text other rest left : List ℕ} {a b : Address} {m n : Bool} {v u : WrittenVerb} (size : ℕ) → text ≡ other

@@ -1,26 +1,8 @@
 -- Which programs a text spells, by its items.
-use Rattle.sedck_script.proofs.Common.{◌≡◌, ℕ, zero, suc, ◌<◌, ◌≤◌, true, false, List, [], ◌∷◌, ◌++◌, length, map, get_or, Option, Some, None, Contains, refl, ap, sym, ◌∙◌, subst, inl, inr, arith, false≢true, Bor, HashMap, Tree, Pattern, Previous, Expression, NoAddress, Label, Command, Program, address_patterns, verb_patterns, patterns, expressions, Known, Item, Written, Closing, Items, AreLabelsDistinct, Resolves, done, known, jump, opening, closing, Spells, AreCommands, HasLabels, commands_among, item_of, item_label, has_previous, item_patterns, has_some, WrittenItem, All, flat_map, take}
-use Rattle.std.proofs.Common.{◌≢◌, drop}
-use Rattle.std.specs.Prelude.{slice_get}
-use Rattle.std.proofs.lemmas.Option.{slice_get-map, slice_get-get_or, slice_get_within, get_or_from_slice_get}
-use Rattle.std.proofs.Math.Seq.{split_at}
-use Rattle.std.proofs.lemmas.List.{get_or-take, length-take-le, map-append}
-use Rattle.std.specs.Option.{option_map}
-use Rattle.sedck_commands.specs.Program.{pattern_expressions}
-use Rattle.sedck_commands.specs.ReadItems.{IsItemAt, EmptyOf}
+use Rattle.sedck_script.proofs.Common.{◌≡◌, ℕ, zero, suc, ◌<◌, ◌≤◌, true, false, List, [], ◌∷◌, ◌++◌, length, map, get_or, Option, Some, None, Contains, refl, ap, sym, ◌∙◌, subst, inl, inr, arith, false≢true, Bor, HashMap, Tree, Pattern, Previous, Expression, NoAddress, Label, Command, Program, address_patterns, verb_patterns, patterns, expressions, Known, Item, Written, Closing, Items, AreLabelsDistinct, Resolves, done, known, jump, opening, closing, Spells, AreCommands, HasLabels, commands_among, item_of, item_label, has_previous, item_patterns, has_some, WrittenItem, All, flat_map, take, ◌≢◌, drop, slice_get, slice_get-map, slice_get-get_or, slice_get_within, get_or_from_slice_get, split_at, get_or-take, length-take-le, map-append, option_map, pattern_expressions, IsItemAt, EmptyOf, JumpTo, Opening, JumpsTo, AreJumpsDefined, LinksFault, IsFirstLost, IsKnownLabel, ScriptFault, NoPreviousExpression, AreLabelsOnce, ItemsFault, locations_in, fault_refuses, locations_of}
 use Rattle.sedck_script.proofs.Nesting.{resolves_nests, resolves_length, label_written, labels_once}
 use Rattle.sedck_script.proofs.SortedNames.{Contains-cons_cases, Contains-cons_more}
 use Rattle.sedck_commands.specs.FirstFaults as first
-use Rattle.sedck_commands.specs.Items.{JumpTo, Opening}
-use Rattle.sedck_script.specs.FirstFault.{JumpsTo, AreJumpsDefined, LinksFault}
-use Rattle.sedck_script.specs.Private.Resolving.{IsFirstLost, IsKnownLabel}
-use Rattle.sedck_commands.specs.declared.fault.ScriptFault.{ScriptFault}
-use Rattle.sedck_commands.specs.declared.fault.ScriptFault.TheVariants.{NoPreviousExpression}
-use Rattle.sedck_commands.specs.Labels.{AreLabelsOnce}
-use Rattle.sedck_commands.specs.FirstFaults.{ItemsFault}
-use Rattle.sedck_commands.specs.ItemView.{locations_in}
-use Rattle.sedck_commands.proofs.FaultRefuses.{fault_refuses}
-use Rattle.sedck_commands.specs.Locations.{locations_of}
 use Rattle.sedck_commands.specs.declared.items.WrittenCommand.{WrittenCommand}
 use Rattle.sedck_commands.specs.declared.items.WrittenItem.TheVariants as item
 

@@ -1,13 +1,6 @@
 -- How far the items have been resolved, from the back.
-use Rattle.sedck_script.proofs.Common.{◌≡◌, ℕ, suc, ◌+◌, ◌<◌, List, [], ◌∷◌, ◌++◌, length, map, reverse, Bool, Option, Some, None, refl, ap, sym, ◌∙◌, subst, append-nil, length-append, arith, map_push, length-map, All, Bor, HashMap, Address, Command, WrittenVerb, Known, Item, Written, Closing, Defines, LeadsTo, Resolves, done, known, jump, opening, closing, label_place, HasLabels, commands_among, Turned, Nests, IsKnownLabel, item_label, item_of, WrittenItem}
-use Rattle.std.proofs.Common.{append_assoc}
-use Rattle.std.proofs.lemmas.List.{length-reverse, reverse-append, nil_from_length}
+use Rattle.sedck_script.proofs.Common.{◌≡◌, ℕ, suc, ◌+◌, ◌<◌, List, [], ◌∷◌, ◌++◌, length, map, reverse, Bool, Option, Some, None, refl, ap, sym, ◌∙◌, subst, append-nil, length-append, arith, map_push, length-map, All, Bor, HashMap, Address, Command, WrittenVerb, Known, Item, Written, Closing, Defines, LeadsTo, Resolves, done, known, jump, opening, closing, label_place, HasLabels, commands_among, Turned, Nests, IsKnownLabel, item_label, item_of, WrittenItem, append_assoc, length-reverse, reverse-append, nil_from_length, get_or-append_seam, JumpTo, Opening, MayBeBraced, verb_turn, label_of, target_of, resolved_verb, TakesTarget}
 use Rattle.std.proofs.Math.ListN.{get_or-append}
-use Rattle.std.proofs.Math.Seq.{get_or-append_seam}
-use Rattle.sedck_commands.specs.Items.{JumpTo, Opening}
-use Rattle.sedck_commands.specs.ReadAlike.{MayBeBraced}
-use Rattle.sedck_commands.specs.Blocks.{verb_turn}
-use Rattle.sedck_script.specs.Private.Resolving.{label_of, target_of, resolved_verb, TakesTarget}
 use Rattle.sedck_commands.proofs.StateLemmas.{among_append, among_closing}
 use Rattle.sedck_script.proofs.Nesting.{resolves_nests, resolves_length, nests_one, nests_behind, label_defined, plain_commands, plain_length, plain_label}
 

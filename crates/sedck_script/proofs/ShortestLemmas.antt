@@ -1,12 +1,6 @@
 -- The least length of a text of some expressions, and of more of them.
-use Rattle.sedck_script.proofs.Common.{◌≡◌, ℕ, zero, suc, ◌+◌, ◌<◌, List, [], ◌∷◌, ◌++◌, map, length, get_or, take, refl, sym, ap, ◌∙◌, subst, inl, inr, arith, append-nil, true, Option, Some, None, false≢true, map_more, flat_map-append, Contains-append_left, Contains-append_right, Tree, IsLeastSize, Pattern, Command, address_patterns, verb_patterns, patterns, pattern_expressions, expressions, verb_of, command_of, SomeHasLength, has_some, IsLeastOf}
-use Rattle.std.proofs.Common.{min, flat_map}
-use Rattle.std.specs.Option.{is_some, unwrap_or}
-use Rattle.std.proofs.lemmas.Bool.{cases_lt}
-use Rattle.std.proofs.lemmas.List.Elements.{Contains-append_cases}
-use Rattle.sedck_bre.specs.Lengths.{HasLength, cap}
-use Rattle.sedck_script.specs.Private.ExpressionReading.{lesser}
-use Rattle.sedck_script.specs.declared.script.Command.{Command as Coded}
+use Rattle.sedck_script.proofs.Common.{◌≡◌, ℕ, zero, suc, ◌+◌, ◌<◌, List, [], ◌∷◌, ◌++◌, map, length, get_or, take, refl, sym, ap, ◌∙◌, subst, inl, inr, arith, append-nil, true, Option, Some, None, false≢true, map_more, flat_map-append, Contains-append_left, Contains-append_right, Tree, IsLeastSize, Pattern, Command, address_patterns, verb_patterns, patterns, pattern_expressions, expressions, verb_of, command_of, SomeHasLength, has_some, IsLeastOf, min, is_some, unwrap_or, cases_lt, Contains-append_cases, HasLength, cap, lesser, Coded}
+use Rattle.std.proofs.Common.{flat_map}
 use Rattle.sedck_commands.specs.declared.types.Verb.{Verb}
 use Rattle.sedck_commands.specs.declared.types.Substitution.{Substitution}
 use Rattle.sedck_commands.specs.declared.types.Verb.TheVariants.{Substitute}

@@ -1,14 +1,8 @@
 -- The names and the replacements of a script's verbs lie in its text.
-use Rattle.sedck_script.proofs.Common.{◌≡◌, ℕ, ◌+◌, ◌≤◌, true, not, List, [], length, Option, Some, None, Contains, refl, ap, sym, subst, length-append, arith, AllByRecursion, list_all, false≢true, All-from_recursion, All-contains, Contains-append_left, Contains-append_right, is_newline, Pattern, Part, Verb, WrittenVerb, Known, Simple, VerbText, IsName, names_size, read_names, write_names, IsReplacement, EndsIn, flags_leave, tail_cut, tail_tail, tail_behind, tail_length, ends_tail, verb_text_tail}
-use Rattle.std.specs.Prelude.{option_to_list}
-use Rattle.std.proofs.lemmas.List.Sums.{AllPass-from_list_all}
+use Rattle.sedck_script.proofs.Common.{◌≡◌, ℕ, ◌+◌, ◌≤◌, true, not, List, [], length, Option, Some, None, Contains, refl, ap, sym, subst, length-append, arith, AllByRecursion, list_all, false≢true, All-from_recursion, All-contains, Contains-append_left, Contains-append_right, is_newline, Pattern, Part, Verb, WrittenVerb, Known, Simple, VerbText, IsName, names_size, read_names, write_names, IsReplacement, EndsIn, flags_leave, tail_cut, tail_tail, tail_behind, tail_length, ends_tail, verb_text_tail, option_to_list, AllPass-from_list_all, IsPart, Name, Flags, replacement_size, replacement_parts, expression_tail, replacement_tail, number_tail}
 use Rattle.sedck_commands.specs.Program.{Substitution}
-use Rattle.sedck_commands.specs.Parts.{IsPart}
-use Rattle.sedck_commands.specs.Private.Alike.{Name, Flags}
 use Rattle.sedck_commands.specs.Parts as p
 use Rattle.sedck_commands.specs.Items as w
-use Rattle.sedck_commands.proofs.ReplacementParts.{replacement_size, replacement_parts}
-use Rattle.sedck_commands.proofs.OffsetLemmas.{expression_tail, replacement_tail, number_tail}
 
 -- ---- Names
 

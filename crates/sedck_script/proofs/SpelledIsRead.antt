@@ -1,8 +1,6 @@
 -- A text that spells a script is read as this script, and as no other.
-use Rattle.sedck_script.proofs.Common.{◌≡◌, ℕ, List, Narrowings, Command, Program, Item, ResolvesIn, done, known, jump, opening, closing, SpellsIn}
-use Rattle.sedck_commands.specs.Narrowings.{nothing_asked}
+use Rattle.sedck_script.proofs.Common.{◌≡◌, ℕ, List, Narrowings, Command, Program, Item, ResolvesIn, done, known, jump, opening, closing, SpellsIn, nothing_asked, IsReadAs}
 use Rattle.sedck_commands.proofs.NothingAsked.{items_read}
-use Rattle.sedck_script.specs.Spelling.{IsReadAs}
 use Rattle.sedck_script.proofs.UniqueScripts.{whole_one}
 
 resolves_read : {asks : Narrowings} {A cs : List Command} {blocks : List ℕ} {place : ℕ} {items : List Item} → ResolvesIn asks A blocks place items cs

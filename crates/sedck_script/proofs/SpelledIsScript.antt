@@ -1,11 +1,6 @@
 -- A script that is spelled keeps the invariant of scripts.
-use Rattle.sedck_script.proofs.Common.{◌≡◌, ℕ, ◌+◌, ◌≤◌, Bool, true, false, List, [], ◌∷◌, ◌++◌, length, Contains, refl, length-append, arith, flat_map, AllByRecursion, Ordering, Less, Equal, Greater, nat_cmp, slice_cmp, All-from_recursion, Address, Verb, Command, Program, WrittenVerb, Known, Item, Written, Items, Resolves, done, known, jump, opening, closing, Spells, IsName, names_size, read_names, write_names, placed, with_name, sorted_names, IsReplacement, EndsIn, tail_cut, tail_tail, tail_behind, tail_length, ends_tail, verb_text_tail}
-use Rattle.std.specs.Prelude.{sum_by}
-use Rattle.std.proofs.lemmas.List.Sums.{sum_by-cons, sum_by-append}
+use Rattle.sedck_script.proofs.Common.{◌≡◌, ℕ, ◌+◌, ◌≤◌, Bool, true, false, List, [], ◌∷◌, ◌++◌, length, Contains, refl, length-append, arith, flat_map, AllByRecursion, Ordering, Less, Equal, Greater, nat_cmp, slice_cmp, All-from_recursion, Address, Verb, Command, Program, WrittenVerb, Known, Item, Written, Items, Resolves, done, known, jump, opening, closing, Spells, IsName, names_size, read_names, write_names, placed, with_name, sorted_names, IsReplacement, EndsIn, tail_cut, tail_tail, tail_behind, tail_length, ends_tail, verb_text_tail, sum_by, sum_by-cons, sum_by-append, AreNames, IsScript, address_tail}
 use Rattle.sedck_commands.specs.Items as w
-use Rattle.sedck_script.specs.Names.{AreNames}
-use Rattle.sedck_script.specs.Invariant.{IsScript}
-use Rattle.sedck_commands.proofs.CommandLemmas.{address_tail}
 use Rattle.sedck_script.proofs.SpelledIsSound.{spelled_targets, spelled_formed, spelled_transliterations}
 use Rattle.sedck_script.proofs.SortedNames.{all_weaker, all_append, sorted_names-rise, with_all}
 use Rattle.sedck_script.proofs.SizesWithin.{verb_cost, IsBounded, IsCheapWritten, verb_cheap}

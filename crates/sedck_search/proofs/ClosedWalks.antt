@@ -1,7 +1,5 @@
 -- A closing edge, known by two counts that are the same, and the obstacle that begins with it.
-use Rattle.sedck_search.proofs.Common.{◌≡◌, ℕ, ◌<◌, ◌≤◌, List, [], ◌∷◌, ◌++◌, length, refl, sym, ap, ◌∙◌, subst, inl, inr, arith, Some, slice_get, cases_lt, slice_get_within, same_Some, IsScript, Program, start, node_index, Node, Edge, Kind, Consume, Keep, Grow, node_same, IsPath, IsReachable, IsObstacle, HasForm, HasNone, HasOnly, IsFollowed, AreFollowed, Reaches, FollowedEdge, IsReachCount, HasCount, AreCounted, closing_kind, back_filter, Closes, IsFirstClosing, IsBegun, IsClosing, IsShortestLoop, EdgeFilter, Unread, Kept, Form, Idle, Growing, Walk}
-use Rattle.sedck_flow.proofs.NodeLemmas.{index-before}
-use Rattle.sedck_search.specs.Obstacle.{IsSought, BeginsGrowing, IsFirst, HasNoIdle, IsChosen}
+use Rattle.sedck_search.proofs.Common.{◌≡◌, ℕ, ◌<◌, ◌≤◌, List, [], ◌∷◌, ◌++◌, length, refl, sym, ap, ◌∙◌, subst, inl, inr, arith, Some, slice_get, cases_lt, slice_get_within, same_Some, IsScript, Program, start, node_index, Node, Edge, Kind, Consume, Keep, Grow, node_same, IsPath, IsReachable, IsObstacle, HasForm, HasNone, HasOnly, IsFollowed, AreFollowed, Reaches, FollowedEdge, IsReachCount, HasCount, AreCounted, closing_kind, back_filter, Closes, IsFirstClosing, IsBegun, IsClosing, IsShortestLoop, EdgeFilter, Unread, Kept, Form, Idle, Growing, Walk, index-before, IsSought, BeginsGrowing, IsFirst, HasNoIdle, IsChosen}
 use Rattle.sedck_search.specs.Found.{IsLoop}
 use Rattle.sedck_search.proofs.Paths.{path-append, path_inside, reaches_edge}
 use Rattle.sedck_search.proofs.Counts.{count_falls, same_count}

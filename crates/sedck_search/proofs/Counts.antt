@@ -1,8 +1,6 @@
 -- What the counts of two nodes say of the paths between them.
-use Rattle.sedck_search.proofs.Common.{◌≡◌, ◌≢◌, ◌⊎◌, ℕ, ◌<◌, ◌≤◌, true, List, length, refl, sym, ◌∙◌, subst, inl, inr, arith, Some, slice_get, set, cases_eq, length-set, slice_get_within, same_Some, Program, node_index, Node, IsNodeSet, IsClosed, Reaches, IsIn, IsReachCount, HasCount, HasNoCount, ArePartlyCounted, IsReachOf, IsKeptFor, AreKept, AreCounts, bit_count, IsReachable, EdgeFilter, node_same, node_at}
-use Rattle.std.proofs.lemmas.List.Elements.{All-contains}
+use Rattle.sedck_search.proofs.Common.{◌≡◌, ◌≢◌, ◌⊎◌, ℕ, ◌<◌, ◌≤◌, true, List, length, refl, sym, ◌∙◌, subst, inl, inr, arith, Some, slice_get, set, cases_eq, length-set, slice_get_within, same_Some, Program, node_index, Node, IsNodeSet, IsClosed, Reaches, IsIn, IsReachCount, HasCount, HasNoCount, ArePartlyCounted, IsReachOf, IsKeptFor, AreKept, AreCounts, bit_count, IsReachable, EdgeFilter, node_same, node_at, All-contains, IsUncounted}
 use Rattle.sedck_search.specs.Private.NodeSet.{has}
-use Rattle.sedck_search.specs.Private.Reaching.{IsUncounted}
 use Rattle.sedck_search.proofs.NodeSets.{fewer_or_same, same_nodes, counts_node, count_within}
 use Rattle.sedck_search.proofs.Scans.{set_same, set_other}
 use Rattle.sedck_search.proofs.Paths.{reaches_self, reaches-trans, closed_reaches}

@@ -1,7 +1,6 @@
 -- Ways are as long as shortest paths.
-use Rattle.sedck_search.proofs.Common.{◌≡◌, ◌≢◌, ℕ, zero, suc, ◌+◌, ◌<◌, ◌≤◌, List, [], ◌∷◌, ◌++◌, length, get_or, Contains, refl, sym, ap, ◌∙◌, subst, subst₂, inl, inr, arith, Some, slice_get, set, eqb, if◌then◌else◌, length-set, cases_eq, nat_tests, slice_get-get_or, slice_get_within, get_or_from_slice_get, same_Some, IsScript, Program, node_index, node_count, Node, Edge, Kind, inside, node_same, index_below, IsPath, AreFollowed, FollowedEdge, IsIn, HasDistance, HasNeighborWithin, ArePathLengths, AreDistances, EdgeFilter}
+use Rattle.sedck_search.proofs.Common.{◌≡◌, ◌≢◌, ℕ, zero, suc, ◌+◌, ◌<◌, ◌≤◌, List, [], ◌∷◌, ◌++◌, length, get_or, Contains, refl, sym, ap, ◌∙◌, subst, subst₂, inl, inr, arith, Some, slice_get, set, eqb, if◌then◌else◌, length-set, cases_eq, nat_tests, slice_get-get_or, slice_get_within, get_or_from_slice_get, same_Some, IsScript, Program, node_index, node_count, Node, Edge, Kind, inside, node_same, index_below, IsPath, AreFollowed, FollowedEdge, IsIn, HasDistance, HasNeighborWithin, ArePathLengths, AreDistances, EdgeFilter, remove}
 use Rattle.std.specs.Prelude.{true}
-use Rattle.std.specs.List.{remove}
 use Rattle.std.proofs.lemmas.List.Edits.{length-remove}
 use Rattle.std.proofs.lemmas.List.Sorted.{IsPermutation-remove, Contains-permutation}
 use Rattle.sedck_script.proofs.SortedNames.{Contains-cons_cases}

@@ -1,8 +1,5 @@
 -- A table of edges, to which those of one node more are added.
-use Rattle.sedck_search.proofs.Common.{◌≡◌, ℕ, suc, ◌+◌, ◌-◌, ◌<◌, ◌≤◌, List, [], ◌∷◌, ◌++◌, length, take, drop, sym, ap, ap₂, ◌∙◌, subst, subst₂, inl, inr, length-append, arith, slice_index, cases_lt, length-drop, take-append-le, take_all, Program, node_index, FlowFrom, ListsEdges, Node, Edge, node_same, ListsNodes}
-use Rattle.std.specs.List.{slice_range}
-use Rattle.std.proofs.Math.Seq.{drop-append_seam}
-use Rattle.std.proofs.lemmas.List.{length_push, get_or_append_left, get_or_push, drop-append-le}
+use Rattle.sedck_search.proofs.Common.{◌≡◌, ℕ, suc, ◌+◌, ◌-◌, ◌<◌, ◌≤◌, List, [], ◌∷◌, ◌++◌, length, take, drop, sym, ap, ap₂, ◌∙◌, subst, subst₂, inl, inr, length-append, arith, slice_index, cases_lt, length-drop, take-append-le, take_all, Program, node_index, FlowFrom, ListsEdges, Node, Edge, node_same, ListsNodes, slice_range, drop-append_seam, length_push, get_or_append_left, get_or_push, drop-append-le}
 
 -- a part of a list is the same part of a longer one
 range_kept : {A : Type 0} (xs more : List A) (start end : ℕ) → start ≤ end → end ≤ length xs → slice_range (xs ++ more) start end ≡ slice_range xs start end

@@ -1,6 +1,6 @@
 -- Words that are counted several at once: the sums of the lanes are the count.
-use Rattle.sedck_search.proofs.Common.{◌≡◌, ℕ, suc, ◌+◌, ◌-◌, ◌<◌, ◌≤◌, ◌^◌, List, [], ◌∷◌, length, take, drop, Fits, w64, refl, sym, ap, ◌∙◌, arith, slice_index, count_ones, take-append-drop, bit_count}
-use Rattle.std.proofs.Common.{map, take-add, take_all, length-drop}
+use Rattle.sedck_search.proofs.Common.{◌≡◌, ℕ, suc, ◌+◌, ◌-◌, ◌<◌, ◌≤◌, ◌^◌, List, [], ◌∷◌, length, take, drop, Fits, w64, refl, sym, ap, ◌∙◌, arith, slice_index, count_ones, take-append-drop, bit_count, take-add}
+use Rattle.std.proofs.Common.{map, take_all, length-drop}
 use Rattle.std.proofs.lemmas.Simd.{adds_fit, sum_fits, sum-zip2, fold-sum, length-zip2, length-chunk}
 use lib.Lanes.{sum_l, zip2, fold_l, Each2, Steps}
 use Rattle.sedck_search.proofs.Totals.{bit_count-append, bit_count-take, bit_count-within}

@@ -1,6 +1,5 @@
 -- Links of nodes in the depth-first search, and what members of a component count.
-use Rattle.sedck_search.proofs.Common.{◌≡◌, ℕ, ◌<◌, ◌≤◌, List, length, sym, ap, ◌∙◌, subst, arith, Some, slice_get, set, Program, node_index, node_count, Node, node_same, bit_count, IsNodeSet, ArePartlyCounted, IsClosed, Reaches, IsMember, IsOrderOf, EdgeFilter}
-use Rattle.sedck_search.specs.Private.Components.{AreLinks, IsOrder}
+use Rattle.sedck_search.proofs.Common.{◌≡◌, ℕ, ◌<◌, ◌≤◌, List, length, sym, ap, ◌∙◌, subst, arith, Some, slice_get, set, Program, node_index, node_count, Node, node_same, bit_count, IsNodeSet, ArePartlyCounted, IsClosed, Reaches, IsMember, IsOrderOf, EdgeFilter, AreLinks, IsOrder}
 use Rattle.sedck_search.specs.declared.order.Order.{Order}
 use Rattle.sedck_search.proofs.NodeSets.{counts_node, count_within}
 use Rattle.sedck_search.proofs.Scans.{set_same, set_other}

@@ -1,8 +1,7 @@
 -- The first node of a set from a node on, in the word of its lowest bit.
-use Rattle.sedck_search.proofs.Common.{◌≡◌, ◌≢◌, ℕ, ◌+◌, ◌-◌, ◌*◌, ◌/◌, ◌%◌, ◌^◌, ◌<◌, ◌≤◌, min, true, false, List, inl, inr, refl, sym, ap, ◌∙◌, subst, arith, slice_index, bit_and, bit_at, cases_lt, and_le_l, bit_at-lt, bit_at-zero, IsNodeSet}
-use Rattle.std.specs.Int.{w64, trailing_zeros}
-use Rattle.std.proofs.lemmas.Nat.Bits.{bit_at_and, bit_at_mask_inside, bit_at_mask_below, ones_shl, bit_at-trailing_zeros}
-use Rattle.sedck_search.specs.Private.NodeSet.{has, IsNext}
+use Rattle.sedck_search.proofs.Common.{◌≡◌, ◌≢◌, ℕ, ◌+◌, ◌-◌, ◌*◌, ◌/◌, ◌%◌, ◌^◌, ◌<◌, ◌≤◌, min, true, false, List, inl, inr, refl, sym, ap, ◌∙◌, subst, arith, slice_index, bit_and, bit_at, cases_lt, and_le_l, bit_at-lt, bit_at-zero, IsNodeSet, trailing_zeros, bit_at_and, bit_at_mask_inside, bit_at_mask_below, ones_shl, bit_at-trailing_zeros, IsNext}
+use Rattle.std.specs.Int.{w64}
+use Rattle.sedck_search.specs.Private.NodeSet.{has}
 use Rattle.sedck_search.proofs.NodeBits.{has_at, word_below, none_behind}
 
 -- The word has the bits of word j of the set whose nodes aren't before the given one, and no other; and no node lies between that one and word j.

@@ -1,15 +1,10 @@
 -- A node of a set as a bit of a word.
-use Rattle.sedck_search.proofs.Common.{◌≡◌, ◌≢◌, ◌⊎◌, ℕ, zero, suc, ◌+◌, ◌-◌, ◌*◌, ◌/◌, ◌%◌, ◌^◌, ◌<◌, ◌≤◌, Bool, true, false, List, length, replicate, inl, inr, subst, refl, sym, ap, ◌∙◌, arith, slice_index, bit_and, bit_or, ◌==◌, bit_at, cases_eq, nat_tests, bit_at-lt, bit_at-zero, and_le_l, bit_count, AreZeroBefore, IsNodeSet, IsEmpty, HasChanged, IsUnion}
-use Rattle.std.proofs.Common.{cond, set, max, min, ◌++◌, ap₂, take, drop, get_or-set_other, get_or-set_same, get_or-take, get_or-drop, length-set, length-take, length-drop}
+use Rattle.sedck_search.proofs.Common.{◌≡◌, ◌≢◌, ◌⊎◌, ℕ, zero, suc, ◌+◌, ◌-◌, ◌*◌, ◌/◌, ◌%◌, ◌^◌, ◌<◌, ◌≤◌, Bool, true, false, List, length, replicate, inl, inr, subst, refl, sym, ap, ◌∙◌, arith, slice_index, bit_and, bit_or, ◌==◌, bit_at, cases_eq, nat_tests, bit_at-lt, bit_at-zero, and_le_l, bit_count, AreZeroBefore, IsNodeSet, IsEmpty, HasChanged, IsUnion, cond, max, min, ◌++◌, ap₂, take, drop, get_or-take, get_or-drop, bit_at_set_same, bit_at_set_other, bit_at_clear_same, bit_at_clear_other, bit_at_or, or_lt, get_or_past, ext_get_or, cases_lt, All-get_or, All-set, All-replicate, All-from_get_or, AreZeroFrom, AreWordsOfBoth}
+use Rattle.std.proofs.Common.{set, get_or-set_other, get_or-set_same, length-set, length-take, length-drop}
 use lib.Count.{ones}
 use Rattle.std.specs.Int.{w64}
-use Rattle.std.proofs.lemmas.Nat.Bits.{bit_at_set_same, bit_at_set_other, bit_at_clear_same, bit_at_clear_other, bit_at_or}
-use Rattle.std.proofs.lemmas.Nat.{or_lt}
-use Rattle.std.proofs.lemmas.List.{get_or_past, ext_get_or}
-use Rattle.std.proofs.lemmas.Bool.{cases_lt}
 use borrow.Rule.Slice.PartMut.{put_mid, put_same, Post-is}
-use Rattle.std.proofs.lemmas.List.Elements.{All-get_or, All-set, All-replicate, All-from_get_or}
-use Rattle.sedck_search.specs.Private.NodeSet.{has, AreZeroFrom, AreWordsOfBoth}
+use Rattle.sedck_search.specs.Private.NodeSet.{has}
 
 abbrev pub bit_of : Bool → ℕ
 bit_of b = cond b 1 0

@@ -1,6 +1,5 @@
 -- Rows as sets: what their counts say of their nodes.
-use Rattle.sedck_search.proofs.Common.{◌≡◌, ◌≢◌, ℕ, suc, ◌+◌, ◌*◌, ◌/◌, ◌%◌, ◌<◌, ◌≤◌, Bool, true, false, List, replicate, refl, sym, ap, ◌∙◌, arith, slice_index, count_ones, bit_at, true≢false, ones-le, bit_count, IsNodeSet, IsEmpty, HasChanged}
-use Rattle.std.proofs.lemmas.Bool.{false≢true}
+use Rattle.sedck_search.proofs.Common.{◌≡◌, ◌≢◌, ℕ, suc, ◌+◌, ◌*◌, ◌/◌, ◌%◌, ◌<◌, ◌≤◌, Bool, true, false, List, replicate, refl, sym, ap, ◌∙◌, arith, slice_index, count_ones, bit_at, true≢false, ones-le, bit_count, IsNodeSet, IsEmpty, HasChanged, false≢true}
 use Rattle.sedck_search.specs.Private.NodeSet.{has}
 use Rattle.sedck_search.proofs.Totals.{total, total_same, total_fewer, total_less, total_one_more, total_within, word_total, set_total}
 use Rattle.sedck_search.proofs.NodeBits.{bit_of, node_bit, at_node, word_below, none_behind, empty_set, empty_nodes}

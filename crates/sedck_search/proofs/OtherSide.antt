@@ -1,10 +1,5 @@
 -- Where no command asks for the last line, edges on which no line is read lead alike before it and on it.
-use Rattle.sedck_search.proofs.Common.{◌≡◌, ◌≢◌, ℕ, Bool, true, false, List, [], ◌∷◌, length, refl, ap, inl, inr, Some, None, MatchOption, slice_get, if◌then◌else◌, Command, Program, start, Flow, Node, Edge, Kind, Consume, Keep, IsPath, turned, IsLastAlone, AsksNotForLast, IsFollowed, AreFollowed, Reaches, EdgeFilter, Every, Unread, Kept}
-use Rattle.std.specs.Prelude.{Option, MatchBool}
-use Rattle.sedck_commands.specs.Program.{Last, Address, One, Two, Verb, Block, Change, Delete, DeleteFirstLine, Next, NextAppend, Quit, Substitute, Test}
-use Rattle.sedck_flow.specs.Nodes.{moved_to, next, with_flag}
-use Rattle.sedck_flow.specs.Flow.{MaySelectAt, MayNotSelectAt, ReadsLine, VerbEdge, node_past, CommandEdge}
-use Rattle.sedck_search.specs.Private.OtherSide.{turned_edge}
+use Rattle.sedck_search.proofs.Common.{◌≡◌, ◌≢◌, ℕ, Bool, true, false, List, [], ◌∷◌, length, refl, ap, inl, inr, Some, None, MatchOption, slice_get, if◌then◌else◌, Command, Program, start, Flow, Node, Edge, Kind, Consume, Keep, IsPath, turned, IsLastAlone, AsksNotForLast, IsFollowed, AreFollowed, Reaches, EdgeFilter, Every, Unread, Kept, Option, MatchBool, Last, Address, One, Two, Verb, Block, Change, Delete, DeleteFirstLine, Next, NextAppend, Quit, Substitute, Test, moved_to, next, with_flag, MaySelectAt, MayNotSelectAt, ReadsLine, VerbEdge, node_past, CommandEdge, turned_edge}
 
 -- ---- What is selected
 

@@ -1,6 +1,5 @@
 -- Paths over followed edges, and sets that no followed edge leaves.
-use Rattle.sedck_search.proofs.Common.{ℕ, ◌<◌, ◌≤◌, List, [], ◌∷◌, ◌++◌, length, refl, sym, subst, arith, IsScript, Program, node_index, FlowFrom, Node, Edge, Kind, inside, IsPath, IsFollowed, AreFollowed, Reaches, FollowedEdge, IsIn, IsClosed, EdgeFilter, Every}
-use Rattle.sedck_script.specs.Invariant.{AreTargetsWithin}
+use Rattle.sedck_search.proofs.Common.{ℕ, ◌<◌, ◌≤◌, List, [], ◌∷◌, ◌++◌, length, refl, sym, subst, arith, IsScript, Program, node_index, FlowFrom, Node, Edge, Kind, inside, IsPath, IsFollowed, AreFollowed, Reaches, FollowedEdge, IsIn, IsClosed, EdgeFilter, Every, AreTargetsWithin}
 use Rattle.sedck_flow.proofs.NodeLemmas as nodes
 
 -- ---- Nodes and their places among all nodes

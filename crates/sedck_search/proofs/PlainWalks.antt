@@ -1,6 +1,5 @@
 -- A walk between nodes that know the last line, without what they say of it.
-use Rattle.sedck_search.proofs.Common.{◌≡◌, ◌≢◌, ◌<◌, List, [], ◌∷◌, length, ap, inl, inr, arith, Program, Node, Kind, Consume, Keep, Grow, IsPath, HasNone, HasSome, HasOnly, HasForm, IsObstacle, Form, Idle, Growing}
-use Rattle.sedck_flow.specs.Flow.{HasKind}
+use Rattle.sedck_search.proofs.Common.{◌≡◌, ◌≢◌, ◌<◌, List, [], ◌∷◌, length, ap, inl, inr, arith, Program, Node, Kind, Consume, Keep, Grow, IsPath, HasNone, HasSome, HasOnly, HasForm, IsObstacle, Form, Idle, Growing, HasKind}
 use Rattle.sedck_flow.specs.VersionOne.{plain_node}
 use Rattle.sedck_flow.proofs.PlainEdges.{plain}
 use Rattle.sedck_search.specs.VersionOne.{IsPathOne, AllAre, SomeIs, HasFormOne, IsObstacleOne, plain_walk}

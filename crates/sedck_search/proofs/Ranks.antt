@@ -1,14 +1,10 @@
 -- Counts are ranks where no edge closes a walk.
-use Rattle.sedck_search.proofs.Common.{◌≡◌, ◌⊎◌, ℕ, zero, suc, ◌+◌, ◌<◌, ◌≤◌, Bool, List, [], ◌∷◌, ◌++◌, length, get_or, refl, sym, ap, ◌∙◌, subst, subst₂, inl, inr, arith, Some, None, slice_get, All, cases_lt, same_Some, IsScript, Program, inside, start, node_index, node_count, Flow, Node, Edge, Kind, Consume, Keep, Grow, Certificate, ranks_at, Lowers, IsRanked, Accepts, IsReachable, HasCount, HasNoCount, AreCounted, Closes, ranks_of_counts, ranks_from, Unread, Kept}
+use Rattle.sedck_search.proofs.Common.{◌≡◌, ◌⊎◌, ℕ, zero, suc, ◌+◌, ◌<◌, ◌≤◌, Bool, List, [], ◌∷◌, ◌++◌, length, get_or, refl, sym, ap, ◌∙◌, subst, subst₂, inl, inr, arith, Some, None, slice_get, All, cases_lt, same_Some, IsScript, Program, inside, start, node_index, node_count, Flow, Node, Edge, Kind, Consume, Keep, Grow, Certificate, ranks_at, Lowers, IsRanked, Accepts, IsReachable, HasCount, HasNoCount, AreCounted, Closes, ranks_of_counts, ranks_from, Unread, Kept, All-nil, All-cons, Shorten, IsCertificate, AreWithin, ListsNames}
 use Rattle.std.specs.Option.{option_flatten}
 use Rattle.sedck_script.specs.Names.{AreNames, names_size, reads, writes}
 use Rattle.sedck_flow.specs.Run.{NamesForReading, NamesForWriting}
 use Rattle.sedck_cert.proofs.NamesListed.{reads_listed, writes_listed}
-use Rattle.std.proofs.lemmas.List.Elements.{All-nil, All-cons}
-use Rattle.sedck_flow.specs.declared.graph.Kind.TheVariants.{Shorten}
 use Rattle.sedck_cert.specs.declared.versions.Version.TheVariants.{Two}
-use Rattle.sedck_cert.specs.Certificate.{IsCertificate, AreWithin}
-use Rattle.sedck_cert.specs.Ranked.{ListsNames}
 use Rattle.sedck_search.proofs.Paths.{reaches_edge}
 use Rattle.sedck_search.proofs.Counts.{count_falls}
 use Rattle.sedck_search.proofs.DistanceLemmas.{distance_at}

@@ -1,7 +1,6 @@
 -- Where the pattern space is kept whenever no line is read, a node reaches the same nodes over the edges of either filter.
-use Rattle.sedck_search.proofs.Common.{◌≡◌, ℕ, List, [], ◌∷◌, inl, inr, Program, Node, Edge, Kind, Consume, Keep, Grow, IsPath, IsReachable, AreFollowed, Reaches, IsReachOf, HasCount, HasNoCount, AreCounted, Closes, Unread, Kept}
+use Rattle.sedck_search.proofs.Common.{◌≡◌, ℕ, List, [], ◌∷◌, inl, inr, Program, Node, Edge, Kind, Consume, Keep, Grow, IsPath, IsReachable, AreFollowed, Reaches, IsReachOf, HasCount, HasNoCount, AreCounted, Closes, Unread, Kept, KeepsSpace}
 use Rattle.std.specs.Prelude.{◌⊎◌}
-use Rattle.sedck_search.specs.Private.SameRanks.{KeepsSpace}
 
 module _ (p : Program) (keeps : KeepsSpace p) where
   kept_path : (path : List (Kind × Node)) (from to : Node) → IsPath p from path to → AreFollowed Unread path → AreFollowed Kept path

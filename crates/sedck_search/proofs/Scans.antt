@@ -1,8 +1,6 @@
 -- The edges of a node, scan over one after another.
-use Rattle.sedck_search.proofs.Common.{◌≡◌, ℕ, zero, suc, ◌<◌, ◌≤◌, length, List, [], ◌∷◌, ◌++◌, Contains, ◌≢◌, refl, sym, ap, ◌∙◌, subst, inl, inr, append-nil, append_assoc, arith, Some, slice_get, set, length-set, slice_get-get_or, slice_get_past, get_or_from_slice_get, IsScript, Program, node_index, node_count, FlowFrom, ListsEdges, inside, index_below, Node, Edge}
+use Rattle.sedck_search.proofs.Common.{◌≡◌, ℕ, zero, suc, ◌<◌, ◌≤◌, length, List, [], ◌∷◌, ◌++◌, Contains, ◌≢◌, refl, sym, ap, ◌∙◌, subst, inl, inr, append-nil, append_assoc, arith, Some, slice_get, set, length-set, slice_get-get_or, slice_get_past, get_or_from_slice_get, IsScript, Program, node_index, node_count, FlowFrom, ListsEdges, inside, index_below, Node, Edge, get_or-set_same, get_or-set_other, Contains-push_cases, Contains-append_right}
 use Rattle.std.specs.Prelude.{get_or}
-use Rattle.std.proofs.lemmas.List.{get_or-set_same, get_or-set_other}
-use Rattle.std.proofs.lemmas.List.Elements.{Contains-push_cases, Contains-append_right}
 
 -- the edges of a node, of which something holds for those that follow
 pub record AreScanned (p : Program) (n : Node) (done coming : List Edge) (Holds : Edge → Type 0) : Type 0 where

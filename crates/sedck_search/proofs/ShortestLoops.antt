@@ -1,7 +1,6 @@
 -- Walks, written edge by edge.
-use Rattle.sedck_search.proofs.Common.{◌≡◌, ℕ, suc, ◌+◌, ◌<◌, ◌≤◌, List, [], ◌∷◌, ◌++◌, length, refl, sym, ap, ◌∙◌, subst, arith, IsScript, Program, Flow, Node, Edge, Kind, inside, IsPath, AreFollowed, FollowedEdge, IsIn, HasDistance, AreDistances, back_filter, closing_kind, IsBegun, IsClosing, IsNearest, IsShortestLoop, EdgeFilter, Form, Walk}
+use Rattle.sedck_search.proofs.Common.{◌≡◌, ℕ, suc, ◌+◌, ◌<◌, ◌≤◌, List, [], ◌∷◌, ◌++◌, length, refl, sym, ap, ◌∙◌, subst, arith, IsScript, Program, Flow, Node, Edge, Kind, inside, IsPath, AreFollowed, FollowedEdge, IsIn, HasDistance, AreDistances, back_filter, closing_kind, IsBegun, IsClosing, IsNearest, IsShortestLoop, EdgeFilter, Form, Walk, IsWalk, walk_edges}
 use Rattle.std.proofs.lemmas.List.{length-append}
-use Rattle.sedck_search.specs.Obstacle.{IsWalk, walk_edges}
 use Rattle.sedck_search.proofs.ClosedWalks.{closing_follows}
 use Rattle.sedck_search.proofs.Paths.{path-append, followed-append}
 use Rattle.sedck_search.proofs.DistanceLemmas.{distance_least}

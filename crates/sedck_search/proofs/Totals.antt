@@ -1,12 +1,8 @@
 -- Sums of a function over the numbers below a limit: with them bits are counted one by one.
-use Rattle.sedck_search.proofs.Common.{◌≡◌, ◌≢◌, ℕ, zero, suc, ◌+◌, ◌-◌, ◌*◌, ◌<◌, ◌≤◌, ◌^◌, ◌/◌, List, [], ◌∷◌, ◌++◌, length, take, drop, Fits, w64, refl, sym, ap, ◌∙◌, arith, slice_index, count_ones, bit_at, take-append-drop, take_all, length-drop, ones-le, bit_count, AreZeroBefore}
-use Rattle.std.proofs.Common.{zero-add, add-zero, add_assoc}
+use Rattle.sedck_search.proofs.Common.{◌≡◌, ◌≢◌, ℕ, zero, suc, ◌+◌, ◌-◌, ◌*◌, ◌<◌, ◌≤◌, ◌^◌, ◌/◌, List, [], ◌∷◌, ◌++◌, length, take, drop, Fits, w64, refl, sym, ap, ◌∙◌, arith, slice_index, count_ones, bit_at, take-append-drop, take_all, length-drop, ones-le, bit_count, AreZeroBefore, zero-add, add-zero, add_assoc, take_more, drop-drop, AreZeroFrom, bit_at_lowest, bit_at-suc}
 use Rattle.std.specs.Int.Count.{ones_step}
 use Rattle.std.proofs.Math.Nat.{pow-suc}
 use Rattle.std.proofs.Math.Facts.{Fits-lt-pow}
-use Rattle.std.proofs.lemmas.List.{take_more, drop-drop}
-use Rattle.sedck_search.specs.Private.NodeSet.{AreZeroFrom}
-use Rattle.std.proofs.lemmas.Nat.Bits.{bit_at_lowest, bit_at-suc}
 
 pub total : (ℕ → ℕ) → ℕ → ℕ
 total f zero = zero

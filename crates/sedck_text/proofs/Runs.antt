@@ -2,11 +2,10 @@
 use Rattle.std.proofs.Common.{◌≡◌, ℕ, ◌+◌, Bool, true, not, List, [], ◌∷◌, ◌++◌, take, drop, length, refl, ap, sym, ◌∙◌, subst₂, arith}
 use Rattle.std.proofs.Math.Numerals.{one-add}
 use Rattle.std.specs.List.{prefix_len, list_all}
-use Rattle.std.proofs.lemmas.Bool.{cond_both, and_from, and_parts, both_ways, not_from_false, not-true}
+use Rattle.std.proofs.lemmas.Bool.{cond_both, and_from, and_parts, both_ways, not_from_false, not-true, false_from_ne_true}
 use Rattle.std.specs.Prelude.{Option, Some, None, unwrap_or}
 use Rattle.memchr.specs.Find.{IsFirstByte}
 use Rattle.std.proofs.lemmas.List.Sums.{position_or_len_is}
-use Rattle.std.proofs.lemmas.Bool.{false_from_ne_true}
 use Rattle.sedck_text.specs.Runs.{IsEmptyOr, Longest}
 
 -- what is put before a run by one more byte

@@ -1,6 +1,5 @@
-use Rattle.sedck_bre.proofs.Common.{ap, ◌∙◌, tree, tree-Group}
+use Rattle.sedck_bre.proofs.Common.{ap, ◌∙◌, tree, tree-Group, names_pow}
 use Rattle.std.proofs.lemmas.Nat.{one_shl}
-use Rattle.sedck_expressions.proofs.PartLemmas.{names_pow}
 use Rattle.sedck_bre.proofs.outside.group_bit.Goals as goal
 
 pub returns-in-Group : goal.returns-in-Group

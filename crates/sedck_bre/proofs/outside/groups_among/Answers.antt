@@ -1,7 +1,5 @@
-use Rattle.sedck_bre.proofs.Common.{◌∷◌, ◌+◌, drop, sym, ap, ◌∙◌, ◌||◌, list_any, tree, is_group, names}
+use Rattle.sedck_bre.proofs.Common.{◌∷◌, ◌+◌, drop, sym, ap, ◌∙◌, ◌||◌, list_any, tree, is_group, names, drop_more, names_or}
 use Rattle.std.proofs.Math.Bool.{or_assoc}
-use Rattle.std.proofs.lemmas.List.{drop_more}
-use Rattle.sedck_expressions.proofs.PartLemmas.{names_or}
 use Rattle.sedck_bre.proofs.outside.groups_among.Goals as goal
 
 pub loop-item-preserved : goal.loop-item-preserved

@@ -1,6 +1,4 @@
-use Rattle.sedck_bre.proofs.Common.{◌≡◌, ◌∙◌, false, ap, arith, nat_tests, bit_at, tree, tree-Group}
-use Rattle.std.proofs.Common.{nat_lt}
-use Rattle.std.proofs.lemmas.Nat.Bits.{bit_at_above}
+use Rattle.sedck_bre.proofs.Common.{◌≡◌, ◌∙◌, false, ap, arith, nat_tests, bit_at, tree, tree-Group, nat_lt, bit_at_above}
 use Rattle.sedck_bre.proofs.outside.is_named.Goals as goal
 
 pub returns-else-k-lt16 : goal.returns-else-k-lt16

@@ -1,5 +1,4 @@
-use Rattle.sedck_cert.proofs.Common.{◌++◌, sym, ◌∙◌, ap, subst, rules, FlowFrom, ListsEdges}
-use Rattle.std.specs.Prelude.{is_none}
+use Rattle.sedck_cert.proofs.Common.{◌++◌, sym, ◌∙◌, ap, subst, rules, FlowFrom, ListsEdges, is_none}
 use Rattle.sedck_flow.specs.contracts.graph.Kind.{the_type}
 use denote.Enum.Bare.{same_true}
 use Rattle.sedck_cert.proofs.BoundingLemmas.{one_grows}

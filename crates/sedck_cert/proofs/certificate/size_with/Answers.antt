@@ -1,5 +1,4 @@
-use Rattle.sedck_cert.proofs.Common.{◌≡◌, ◌+◌, ◌∷◌, drop, arith, ap, sym, ◌∙◌, subst, false, IsTrue, names_of, AreNext, one_before}
-use Rattle.std.proofs.lemmas.List.{drop_all}
+use Rattle.sedck_cert.proofs.Common.{◌≡◌, ◌+◌, ◌∷◌, drop, arith, ap, sym, ◌∙◌, subst, false, IsTrue, names_of, AreNext, one_before, drop_all}
 use Rattle.sedck_cert.proofs.NameLimits.{names_next, next_names, names-few, left_cons}
 use Rattle.sedck_cert.proofs.certificate.size_with.Goals as goal
 

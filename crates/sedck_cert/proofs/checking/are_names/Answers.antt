@@ -1,7 +1,5 @@
-use Rattle.sedck_cert.proofs.Common.{◌≡◌, ℕ, ◌<◌, List, [], length, refl, sym, ap, ◌∙◌, arith, get_or, map, Bor, Global, length-map, names_of}
-use Rattle.std.proofs.Common.{below_more}
+use Rattle.sedck_cert.proofs.Common.{◌≡◌, ℕ, ◌<◌, List, [], length, refl, sym, ap, ◌∙◌, arith, get_or, map, Bor, Global, length-map, names_of, below_more, get_or-map, ext_get_or}
 use Rattle.std.specs.Prelude.{Vec}
-use Rattle.std.proofs.lemmas.List.{get_or-map, ext_get_or}
 use Rattle.sedck_cert.proofs.checking.are_names.Goals as goal
 
 -- the listed name and the script's name at this place

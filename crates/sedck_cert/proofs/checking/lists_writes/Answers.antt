@@ -1,5 +1,4 @@
-use Rattle.sedck_cert.proofs.Common.{sym, ◌∙◌, NamesForWriting}
-use Rattle.sedck_script.specs.Names.{writes as names_of_script}
+use Rattle.sedck_cert.proofs.Common.{sym, ◌∙◌, NamesForWriting, names_of_script}
 use Rattle.sedck_cert.proofs.NamesListed.{writes_listed, only_list}
 use Rattle.sedck_cert.proofs.checking.lists_writes.Goals as goal
 

@@ -1,5 +1,4 @@
-use Rattle.sedck_cert.proofs.Common.{◌≡◌, length, refl, sym, ap, ◌∙◌, inl, inr, arith, cases_lt, length-map, none-some, Command, command_of}
-use Rattle.std.proofs.lemmas.Option.{same_Some, slice_get_past}
+use Rattle.sedck_cert.proofs.Common.{◌≡◌, length, refl, sym, ap, ◌∙◌, inl, inr, arith, cases_lt, length-map, none-some, Command, command_of, same_Some, slice_get_past}
 use Rattle.sedck_flow.proofs.EdgesLemmas.{read_command}
 use Rattle.sedck_cert.proofs.SpaceLemmas.{none_appends}
 use Rattle.sedck_cert.proofs.spaces.appends_to_hold.Goals as goal

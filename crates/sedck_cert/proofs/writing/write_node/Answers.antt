@@ -1,6 +1,6 @@
-use Rattle.sedck_cert.proofs.Common.{ap, ◌∙◌, subst, ◌-◌, ◌%◌, ◌++◌, ◌∷◌, drop, OnErr, decimal, arith, AppendsPrefix}
+use Rattle.sedck_cert.proofs.Common.{ap, ◌∙◌, subst, ◌-◌, ◌%◌, ◌++◌, ◌∷◌, drop, OnErr, decimal, arith, AppendsPrefix, length-drop}
 use Rattle.std.proofs.Common.{◌/◌}
-use Rattle.std.proofs.lemmas.List.{take_all, length-drop}
+use Rattle.std.proofs.lemmas.List.{take_all}
 use Rattle.sedck_cert.proofs.Pieces.{node_pieces}
 use Rattle.sedck_cert.proofs.writing.write_node.Goals as goal
 

@@ -1,7 +1,6 @@
 use Rattle.sedck_commands.proofs.ResultLemmas.{if_err_more}
-use Rattle.sedck_commands.proofs.Common.{ap, ◌∙◌, sym, ◌∷◌, length, unread, subst, refl}
+use Rattle.sedck_commands.proofs.Common.{ap, ◌∙◌, sym, ◌∷◌, length, unread, subst, refl, PatternFault}
 use Rattle.sedck_commands.specs.FirstFaults as first
-use Rattle.sedck_commands.specs.FirstFaults.{PatternFault}
 use Rattle.sedck_commands.proofs.addresses.read_custom_context.Goals as goal
 
 pub returns-in_default-clause-first : goal.returns-in_default-clause-first

@@ -1,7 +1,6 @@
-use Rattle.sedck_commands.proofs.Common.{arith, line, length, unread_length, subst, unread}
+use Rattle.sedck_commands.proofs.Common.{arith, line, length, unread_length, subst, unread, PatternFault}
 use Rattle.sedck_commands.proofs.ResultLemmas.{if_ok_more, if_err_more}
 use Rattle.sedck_commands.proofs.AddressLemmas.{last_text, slash_text, custom_text, only_digit}
-use Rattle.sedck_commands.specs.FirstFaults.{PatternFault}
 use Rattle.sedck_commands.specs.FirstFaults as first
 use Rattle.sedck_commands.proofs.addresses.read_place.Goals as goal
 

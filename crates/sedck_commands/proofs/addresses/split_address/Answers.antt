@@ -1,6 +1,4 @@
-use Rattle.sedck_commands.proofs.Common.{[], ◌∙◌, unread, refl}
-use Rattle.sedck_commands.specs.Parts.{none, one, two}
-use Rattle.sedck_commands.specs.View.{place_of}
+use Rattle.sedck_commands.proofs.Common.{[], ◌∙◌, unread, refl, none, one, two, place_of}
 use Rattle.sedck_commands.proofs.ResultLemmas.{if_err_from}
 use Rattle.sedck_commands.specs.FirstFaults as first
 use Rattle.sedck_commands.proofs.AddressLemmas.{place_read, comma_tail, emptied_two}

@@ -1,7 +1,5 @@
-use Rattle.sedck_commands.proofs.Common.{unread, unread_length, length, sym}
+use Rattle.sedck_commands.proofs.Common.{unread, unread_length, length, sym, IsOfText, PlaceFault}
 use Rattle.sedck_commands.proofs.ResultLemmas.{if_err_along}
-use Rattle.sedck_commands.specs.Faults.{IsOfText}
-use Rattle.sedck_commands.specs.FirstFaults.{PlaceFault}
 use Rattle.sedck_commands.specs.FirstFaults as first
 use Rattle.sedck_commands.proofs.addresses.split_second.Goals as goal
 

@@ -1,7 +1,4 @@
-use Rattle.sedck_commands.proofs.Common.{◌≡◌, ap, refl, subst, arith}
-use Rattle.std.specs.Prelude.{option_copied}
-use Rattle.sedck_commands.specs.Private.VerbReading.{IsBracedAt}
-use Rattle.sedck_commands.specs.declared.fault.ScriptFault.TheVariants.{BadLabel}
+use Rattle.sedck_commands.proofs.Common.{◌≡◌, ap, refl, subst, arith, option_copied, IsBracedAt, BadLabel}
 use Rattle.sedck_commands.proofs.ResultLemmas.{if_some_at}
 use Rattle.sedck_commands.proofs.commands.check_brace.Goals as goal
 

@@ -1,5 +1,4 @@
-use Rattle.std.proofs.Common.{rules}
-use Rattle.sedck_commands.proofs.Common.{◌≡◌, true, has_previous, written_patterns, written_verb}
+use Rattle.sedck_commands.proofs.Common.{◌≡◌, true, has_previous, written_patterns, written_verb, rules}
 use Rattle.sedck_commands.proofs.EmptyPlaces.{emptied_verb}
 use Rattle.sedck_commands.proofs.commands.empty_verb.Goals as goal
 

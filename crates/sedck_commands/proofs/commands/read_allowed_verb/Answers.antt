@@ -1,5 +1,4 @@
-use Rattle.sedck_commands.proofs.Common.{◌≡◌, ◌∷◌, sym, ◌∙◌, subst, length, unread, VerbText, address_of}
-use Rattle.sedck_commands.specs.Private.VerbReading.{HasLabel}
+use Rattle.sedck_commands.proofs.Common.{◌≡◌, ◌∷◌, sym, ◌∙◌, subst, length, unread, VerbText, address_of, HasLabel}
 use Rattle.sedck_commands.proofs.ResultLemmas.{if_err_from}
 use Rattle.sedck_commands.proofs.FaultLemmas3.{begins_there, verb_fault_at, jump_in}
 use Rattle.sedck_commands.proofs.VerbBytes.{byte_of}

@@ -1,8 +1,6 @@
-use Rattle.sedck_commands.proofs.Common.{CommandText, refl, address_of, written_patterns, written_verb, ◌+◌, ap, arith, unread_length, ◌∙◌, subst, length, drop, unread}
+use Rattle.sedck_commands.proofs.Common.{CommandText, refl, address_of, written_patterns, written_verb, ◌+◌, ap, arith, unread_length, ◌∙◌, subst, length, drop, unread, HasLabel, IsJumpIn}
 use Rattle.sedck_commands.proofs.ResultLemmas.{if_err_from}
 use Rattle.sedck_commands.proofs.CommandLemmas.{location_here, emptied_command}
-use Rattle.sedck_commands.specs.Private.VerbReading.{HasLabel}
-use Rattle.sedck_commands.specs.ReadItems.{IsJumpIn}
 use Rattle.sedck_commands.specs.FirstFaults as fault
 use Rattle.sedck_commands.proofs.commands.read_command.Goals as goal
 

@@ -1,5 +1,4 @@
-use Rattle.sedck_commands.proofs.Common.{◌≡◌, length}
-use Rattle.sedck_commands.specs.ReadAlike.{has_loose_quote}
+use Rattle.sedck_commands.proofs.Common.{◌≡◌, length, has_loose_quote}
 use Rattle.sedck_commands.proofs.delimited.has_loose_quote.Given as goal
 
 abbrev pub invariant-quotes : goal.invariant-quotes

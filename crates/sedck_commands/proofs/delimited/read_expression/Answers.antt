@@ -1,5 +1,4 @@
-use Rattle.sedck_commands.proofs.Common.{◌≡◌, [], ◌∷◌, ◌++◌, ◌∙◌, ap, sym, unread, as_written}
-use Rattle.sedck_commands.specs.FirstFaults.{CutFault}
+use Rattle.sedck_commands.proofs.Common.{◌≡◌, [], ◌∷◌, ◌++◌, ◌∙◌, ap, sym, unread, as_written, CutFault}
 use Rattle.sedck_commands.proofs.ResultLemmas.{if_err_from}
 use Rattle.sedck_commands.proofs.PieceLemmas.{expression_byte, expression_pair, expression_end, written_more, written_between}
 use Rattle.sedck_commands.proofs.FaultLemmas1.{piece_in_same}

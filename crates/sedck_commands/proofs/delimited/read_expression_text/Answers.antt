@@ -1,5 +1,4 @@
-use Rattle.sedck_commands.proofs.Common.{ap, sym, ◌∙◌, both_ways, IsTrue, cow_slice_items, is_misread}
-use Rattle.sedck_commands.specs.FirstFaults.{ExpressionTextFault}
+use Rattle.sedck_commands.proofs.Common.{ap, sym, ◌∙◌, both_ways, IsTrue, cow_slice_items, is_misread, ExpressionTextFault}
 use Rattle.sedck_commands.proofs.ResultLemmas.{if_err_from}
 use Rattle.sedck_commands.proofs.EscapeLemmas.{written_expression}
 use Rattle.sedck_commands.proofs.FaultLemmas1.{misread_fault}

@@ -1,7 +1,4 @@
-use Rattle.sedck_commands.proofs.Common.{ℕ, List, ◌∷◌, ◌<◌, arith, length, take}
-use Rattle.std.proofs.lemmas.List.{length-take}
-use Rattle.sedck_commands.specs.BracketLists.{BracketsClose}
-use Rattle.sedck_commands.specs.FirstFaults.{FirstListFault}
+use Rattle.sedck_commands.proofs.Common.{ℕ, List, ◌∷◌, ◌<◌, arith, length, take, length-take, BracketsClose, FirstListFault}
 use Rattle.sedck_commands.proofs.ResultLemmas.{if_err_from}
 use Rattle.sedck_commands.proofs.BracketLemmas.{list_shorter, written_cut, open_shorter}
 use Rattle.sedck_commands.proofs.FaultLemmas1.{bracket_fault}

@@ -1,5 +1,4 @@
-use Rattle.sedck_commands.proofs.Common.{◌≡◌, [], ◌∙◌, ◌∷◌, ◌+◌, refl, ap, sym, length, unread, unread_length, DelimitedList}
-use Rattle.sedck_commands.specs.FirstFaults.{ListFault}
+use Rattle.sedck_commands.proofs.Common.{◌≡◌, [], ◌∙◌, ◌∷◌, ◌+◌, refl, ap, sym, length, unread, unread_length, DelimitedList, ListFault}
 use Rattle.sedck_commands.proofs.ResultLemmas.{if_err_from}
 use Rattle.sedck_commands.proofs.PieceLemmas.{piece_more, list_pair, list_end}
 use Rattle.sedck_commands.specs.Parts as p

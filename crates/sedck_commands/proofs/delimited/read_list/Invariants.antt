@@ -1,5 +1,4 @@
-use Rattle.sedck_commands.proofs.Common.{◌≡◌, length, unread, DelimitedList, IsReadUpTo, ScriptFault}
-use Rattle.sedck_commands.specs.FirstFaults.{ListFault}
+use Rattle.sedck_commands.proofs.Common.{◌≡◌, length, unread, DelimitedList, IsReadUpTo, ScriptFault, ListFault}
 use Rattle.sedck_commands.proofs.delimited.read_list.Given as goal
 
 abbrev pub invariant-loop-bytes : goal.invariant-loop-bytes

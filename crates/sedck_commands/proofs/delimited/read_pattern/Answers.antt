@@ -1,6 +1,4 @@
-use Rattle.sedck_commands.proofs.Common.{◌≡◌, ◌<◌, ◌⊎◌, ℕ, false, List, length, subst, arith, ◌==◌, nat_tests, IsExpression, unread_length}
-use Rattle.sedck_commands.specs.Faults.{IsNoExpression, IsMisjudged}
-use Rattle.sedck_commands.specs.FirstFaults.{PatternFault}
+use Rattle.sedck_commands.proofs.Common.{◌≡◌, ◌<◌, ◌⊎◌, ℕ, false, List, length, subst, arith, ◌==◌, nat_tests, IsExpression, unread_length, IsNoExpression, IsMisjudged, PatternFault}
 use Rattle.sedck_commands.proofs.ResultLemmas.{if_err_from}
 use Rattle.sedck_commands.proofs.PieceLemmas.{pattern_none, pattern_some}
 use Rattle.sedck_commands.proofs.delimited.read_pattern.Goals as goal

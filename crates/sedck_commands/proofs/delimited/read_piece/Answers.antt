@@ -1,5 +1,4 @@
-use Rattle.sedck_commands.proofs.Common.{sym, ◌∙◌, unread, unread_length}
-use Rattle.sedck_commands.specs.FirstFaults.{PieceFault}
+use Rattle.sedck_commands.proofs.Common.{sym, ◌∙◌, unread, unread_length, PieceFault}
 use Rattle.sedck_commands.proofs.delimited.read_piece.Goals as goal
 
 pub returns-in_default-clause-first : goal.returns-in_default-clause-first

@@ -1,5 +1,4 @@
-use Rattle.sedck_commands.proofs.Common.{◌≡◌, [], ◌∷◌, ◌++◌, ◌∙◌, refl, ap, sym, subst, Some, append_assoc, option_or, length, unread, DelimitedExpression, IsReadUpTo, as_written}
-use Rattle.sedck_commands.specs.FirstFaults.{CutFault}
+use Rattle.sedck_commands.proofs.Common.{◌≡◌, [], ◌∷◌, ◌++◌, ◌∙◌, refl, ap, sym, subst, Some, append_assoc, option_or, length, unread, DelimitedExpression, IsReadUpTo, as_written, CutFault}
 use Rattle.sedck_commands.proofs.ResultLemmas.{if_err_from}
 use Rattle.sedck_commands.proofs.PieceLemmas.{piece_more, expression_byte, expression_pair, expression_end, written_between}
 use Rattle.sedck_commands.specs.Parts as p

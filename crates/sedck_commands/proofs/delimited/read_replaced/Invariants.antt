@@ -1,5 +1,4 @@
-use Rattle.sedck_commands.proofs.Common.{◌≡◌, length, unread, DelimitedExpression, IsReadUpTo, IsFirstEscape, ScriptFault}
-use Rattle.sedck_commands.specs.FirstFaults.{CutFault}
+use Rattle.sedck_commands.proofs.Common.{◌≡◌, length, unread, DelimitedExpression, IsReadUpTo, IsFirstEscape, ScriptFault, CutFault}
 use Rattle.sedck_commands.proofs.delimited.read_replaced.Given as goal
 
 abbrev pub invariant-loop-bytes : goal.invariant-loop-bytes

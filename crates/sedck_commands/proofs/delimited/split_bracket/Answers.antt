@@ -1,5 +1,4 @@
-use Rattle.sedck_commands.proofs.Common.{not, eqb}
-use Rattle.sedck_text.proofs.Runs.{longest_parts}
+use Rattle.sedck_commands.proofs.Common.{not, eqb, longest_parts}
 use Rattle.sedck_commands.proofs.delimited.split_bracket.Goals as goal
 
 pub returns : goal.returns

@@ -1,9 +1,7 @@
-use Rattle.sedck_commands.proofs.Common.{◌≡◌, ◌||◌, true, ◌∷◌, length, refl, ap, ◌∙◌, sym, is_blank, is_ending, or_left, unread}
-use Rattle.std.proofs.lemmas.Bool.{or_right}
+use Rattle.sedck_commands.proofs.Common.{◌≡◌, ◌||◌, true, ◌∷◌, length, refl, ap, ◌∙◌, sym, is_blank, is_ending, or_left, unread, or_right, FlagsFault}
 use Rattle.sedck_commands.proofs.ResultLemmas.{if_err_from, if_err_same}
 use Rattle.sedck_commands.proofs.FaultLemmas2.{begins_here, no_flag_byte}
 use Rattle.sedck_commands.specs.FirstFaults as fault
-use Rattle.sedck_commands.specs.FirstFaults.{FlagsFault}
 use Rattle.sedck_commands.proofs.flags.read_flag.Goals as goal
 use Rattle.sedck_commands.proofs.flags.read_flag.Goals.{else-not-has-via-then-not-has+else-not-is_ending, else-not-has-via-else-not-has}
 

@@ -1,5 +1,4 @@
-use Rattle.sedck_commands.proofs.Common.{◌≡◌, false, length, is_some, unread, ScriptFault}
-use Rattle.sedck_commands.specs.FirstFaults.{FlagsFault}
+use Rattle.sedck_commands.proofs.Common.{◌≡◌, false, length, is_some, unread, ScriptFault, FlagsFault}
 use Rattle.sedck_commands.proofs.FlagLemmas.{FlagsPassed}
 use Rattle.sedck_commands.proofs.flags.read_flags.Given as goal
 

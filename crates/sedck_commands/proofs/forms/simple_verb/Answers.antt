@@ -1,7 +1,6 @@
-use Rattle.sedck_commands.proofs.Common.{ℕ, sym, subst, ◌≡◌, Simple}
+use Rattle.sedck_commands.proofs.Common.{ℕ, sym, subst, ◌≡◌, Simple, verb_of}
 use Rattle.sedck_commands.specs.Items as s
 use Rattle.sedck_commands.specs.Program as clean
-use Rattle.sedck_commands.specs.View.{verb_of}
 use Rattle.sedck_commands.specs.declared.types.Verb.{Verb}
 use Rattle.sedck_commands.proofs.forms.simple_verb.Goals as goal
 use Rattle.sedck_commands.proofs.forms.simple_verb.Goals.{in-61, in-100, in-68, in-103, in-71, in-104, in-72, in-108, in-110, in-78, in-112, in-80, in-113, in-120}

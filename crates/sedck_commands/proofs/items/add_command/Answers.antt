@@ -1,8 +1,7 @@
-use Rattle.sedck_commands.proofs.Common.{◌≡◌, Opening, ◌-◌, ◌<◌, ◌≤◌, ◌∷◌, [], map, ap, ◌∙◌, subst, length-append, arith, map_push, All-push, Written, address_of, written_verb, item_of, commands_among, IsItemAt, NotesLabel, is_braced, unread_length, length}
+use Rattle.sedck_commands.proofs.Common.{◌≡◌, Opening, ◌-◌, ◌<◌, ◌≤◌, ◌∷◌, [], map, ap, ◌∙◌, subst, length-append, arith, map_push, All-push, Written, address_of, written_verb, item_of, commands_among, IsItemAt, NotesLabel, is_braced, unread_length, length, MayBeBraced}
 use Rattle.sedck_commands.proofs.ResultLemmas.{if_err_from}
 use Rattle.sedck_commands.proofs.ProgressLemmas.{front_command, command_shorter, behind_begins}
 use Rattle.sedck_commands.proofs.StateLemmas.{among_append, patterns_push, locations_push, labels_noted, fresh_name, none_some, blocks_noted, emptied_push}
-use Rattle.sedck_commands.specs.ReadAlike.{MayBeBraced}
 use Rattle.sedck_commands.specs.FirstFaults as first
 use Rattle.sedck_commands.proofs.ItemFaults.{begun_at, command_same}
 use Rattle.sedck_commands.proofs.items.add_command.Goals as goal

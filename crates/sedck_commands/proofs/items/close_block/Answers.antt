@@ -1,10 +1,9 @@
-use Rattle.sedck_commands.proofs.Common.{◌∷◌, [], item_patterns, ◌≡◌, ℕ, suc, length, map, refl, ap, ◌∙◌, length-append, arith, map_push, All-push, item_of, IsItemAt, unread_length, unread}
+use Rattle.sedck_commands.proofs.Common.{◌∷◌, [], item_patterns, ◌≡◌, ℕ, suc, length, map, refl, ap, ◌∙◌, length-append, arith, map_push, All-push, item_of, IsItemAt, unread_length, unread, EndFault}
 use Rattle.sedck_commands.proofs.ResultLemmas.{if_err_along}
 use Rattle.sedck_commands.proofs.ProgressLemmas.{front_closing, at_front}
 use Rattle.sedck_commands.proofs.StateLemmas.{among_closing, patterns_closing, locations_closing, emptied_more}
 use Rattle.sedck_commands.specs.declared.items.WrittenItem.TheVariants as item
 use Rattle.sedck_commands.specs.FirstFaults as first
-use Rattle.sedck_commands.specs.FirstFaults.{EndFault}
 use Rattle.sedck_commands.proofs.items.close_block.Goals as goal
 
 pub returns-clause-progress : goal.returns-clause-progress

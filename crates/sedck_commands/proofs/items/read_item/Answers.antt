@@ -1,8 +1,7 @@
 use Rattle.sedck_commands.proofs.ResultLemmas.{if_ok_more, if_err_more}
 use Rattle.sedck_commands.proofs.ProgressLemmas.{progress_at, at_front, front_comment}
-use Rattle.sedck_commands.proofs.Common.{refl, ap, ◌∙◌, ◌∷◌, unread, length, subst}
+use Rattle.sedck_commands.proofs.Common.{refl, ap, ◌∙◌, ◌∷◌, unread, length, subst, CommentFault}
 use Rattle.sedck_commands.specs.FirstFaults as first
-use Rattle.sedck_commands.specs.FirstFaults.{CommentFault}
 use Rattle.sedck_commands.proofs.items.read_item.Goals as goal
 
 pub returns-then-first-eq35-clause-progress : goal.returns-then-first-eq35-clause-progress

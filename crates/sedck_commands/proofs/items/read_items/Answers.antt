@@ -1,5 +1,4 @@
-use Rattle.sedck_commands.proofs.Common.{◌≡◌, length, ap, refl, subst, sym, ◌∙◌, arith, unread, IsProgress}
-use Rattle.std.proofs.Common.{rules}
+use Rattle.sedck_commands.proofs.Common.{◌≡◌, length, ap, refl, subst, sym, ◌∙◌, arith, unread, IsProgress, rules}
 use Rattle.sedck_commands.proofs.ProgressLemmas.{progress_at, front_none, front_skip, front_done, front_closed}
 use Rattle.sedck_commands.proofs.ItemFaults.{faults_back, last_of}
 use Rattle.sedck_commands.specs.FirstFaults as first

@@ -1,5 +1,4 @@
-use Rattle.sedck_commands.proofs.Common.{◌∙◌, ◌++◌, ◌∷◌, [], take, ap, sym, locations_in}
-use Rattle.std.proofs.lemmas.List.{take_more}
+use Rattle.sedck_commands.proofs.Common.{◌∙◌, ◌++◌, ◌∷◌, [], take, ap, sym, locations_in, take_more}
 use Rattle.sedck_commands.proofs.StateLemmas.{locations_push, locations_closing}
 use Rattle.sedck_commands.proofs.location.locations.Goals as goal
 use Rattle.sedck_commands.proofs.location.locations.Goals.{in-Command+in_ok-push, in_default}

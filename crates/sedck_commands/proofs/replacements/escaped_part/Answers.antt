@@ -1,5 +1,4 @@
-use Rattle.sedck_commands.proofs.Common.{sym, ◌∙◌, subst, arith, Text, EscapedPart, line}
-use Rattle.sedck_commands.specs.Parts.{tabulator, group, other}
+use Rattle.sedck_commands.proofs.Common.{sym, ◌∙◌, subst, arith, Text, EscapedPart, line, tabulator, group, other}
 use Rattle.sedck_commands.proofs.ReplacementLemmas.{digit_group}
 use Rattle.sedck_commands.proofs.replacements.escaped_part.Goals as goal
 

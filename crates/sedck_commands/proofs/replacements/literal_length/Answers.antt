@@ -1,5 +1,4 @@
-use Rattle.sedck_commands.proofs.Common.{suc, map, arith, part_of}
-use Rattle.std.proofs.Common.{add-one}
+use Rattle.sedck_commands.proofs.Common.{suc, map, arith, part_of, add-one}
 use Rattle.sedck_commands.proofs.LiteralLengths.{filler_part, length_take_le, coded_length_more}
 use Rattle.sedck_commands.proofs.replacements.literal_length.Goals as goal
 

@@ -1,6 +1,4 @@
-use Rattle.sedck_commands.proofs.Common.{◌≡◌, ℕ, List, map, Some, ap, sym, subst, All, Tree, Pattern, Expression, Part, IsPart, kept_from, KeepsGroups, named_groups, pattern_of, part_of}
-use Rattle.std.proofs.lemmas.List.Elements.{recursion_from_All}
-use Rattle.sedck_commands.specs.References.{IsOutside, IsLeastOutside}
+use Rattle.sedck_commands.proofs.Common.{◌≡◌, ℕ, List, map, Some, ap, sym, subst, All, Tree, Pattern, Expression, Part, IsPart, kept_from, KeepsGroups, named_groups, pattern_of, part_of, recursion_from_All, IsOutside, IsLeastOutside}
 use Rattle.sedck_commands.proofs.ReferenceLemmas.{Keeps, kept_keeps, none_kept, keeps_groups, names_top, outside_named}
 use Rattle.sedck_commands.proofs.replacements.outside_of.Goals as goal
 

@@ -1,5 +1,4 @@
-use Rattle.sedck_commands.proofs.Common.{unread_length, part_of}
-use Rattle.sedck_commands.specs.FirstFaults.{ReplacementFault}
+use Rattle.sedck_commands.proofs.Common.{unread_length, part_of, ReplacementFault}
 use Rattle.sedck_commands.proofs.ResultLemmas.{if_err_from}
 use Rattle.sedck_commands.proofs.ReplacementLemmas.{first_whole, first_run, first_escaped, first_pair}
 use Rattle.sedck_commands.proofs.FaultLemmas1.{behind_whole, behind_run}

@@ -1,5 +1,4 @@
-use Rattle.sedck_commands.proofs.Common.{◌≡◌, length, map, unread, part_of, ScriptFault}
-use Rattle.sedck_commands.specs.FirstFaults.{ReplacementFault}
+use Rattle.sedck_commands.proofs.Common.{◌≡◌, length, map, unread, part_of, ScriptFault, ReplacementFault}
 use Rattle.sedck_commands.proofs.ReplacementLemmas.{PartsPassed}
 use Rattle.sedck_commands.proofs.replacements.read_replacement.Given as goal
 

@@ -1,8 +1,6 @@
-use Rattle.sedck_commands.proofs.Common.{◌≡◌, ℕ, List, ◌∷◌, length, arith, unread}
+use Rattle.sedck_commands.proofs.Common.{◌≡◌, ℕ, List, ◌∷◌, length, arith, unread, IsOfText, TransliterationFault}
 use Rattle.sedck_commands.proofs.ResultLemmas.{if_err_from, if_err_same}
-use Rattle.sedck_commands.specs.Faults.{IsOfText}
 use Rattle.sedck_commands.specs.FirstFaults as fault
-use Rattle.sedck_commands.specs.FirstFaults.{TransliterationFault}
 use Rattle.sedck_commands.proofs.substitutions.read_lists.Goals as goal
 
 pub returns-in_err-from-clause-first : goal.returns-in_err-from-clause-first

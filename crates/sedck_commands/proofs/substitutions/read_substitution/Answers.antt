@@ -1,12 +1,9 @@
-use Rattle.sedck_commands.proofs.Common.{◌<◌, ◌≤◌, ◌^◌, ◌-◌, [], length, map, refl, ◌∙◌, sym, subst, arith, literal_length, unread, unread_length, part_of, IsPart}
-use Rattle.std.proofs.lemmas.List.Elements.{All-from_recursion}
+use Rattle.sedck_commands.proofs.Common.{◌<◌, ◌≤◌, ◌^◌, ◌-◌, [], length, map, refl, ◌∙◌, sym, subst, arith, literal_length, unread, unread_length, part_of, IsPart, All-from_recursion, IsOfText, SubstitutionFault}
 use Rattle.sedck_commands.proofs.OffsetLemmas.{tail_length, tail_behind, expression_tail}
 use Rattle.sedck_commands.proofs.ResultLemmas.{if_err_from, if_err_same}
 use Rattle.sedck_commands.proofs.VerbLemmas.{substitute_read}
 use Rattle.sedck_commands.proofs.ReplacementParts.{replacement_parts, replacement_size}
-use Rattle.sedck_commands.specs.Faults.{IsOfText}
 use Rattle.sedck_commands.specs.FirstFaults as fault
-use Rattle.sedck_commands.specs.FirstFaults.{SubstitutionFault}
 use Rattle.sedck_commands.proofs.substitutions.read_substitution.Goals as goal
 
 pub outside_of-outside-requires : goal.outside_of-outside-requires

@@ -1,9 +1,7 @@
-use Rattle.sedck_commands.proofs.Common.{◌-◌, length, ◌∙◌, unread}
+use Rattle.sedck_commands.proofs.Common.{◌-◌, length, ◌∙◌, unread, IsOfText, TransliterationFault}
 use Rattle.sedck_commands.proofs.ResultLemmas.{if_err_from, if_err_same}
 use Rattle.sedck_commands.proofs.VerbLemmas.{transliterate_read}
-use Rattle.sedck_commands.specs.Faults.{IsOfText}
 use Rattle.sedck_commands.specs.FirstFaults as fault
-use Rattle.sedck_commands.specs.FirstFaults.{TransliterationFault}
 use Rattle.sedck_commands.proofs.substitutions.read_transliteration.Goals as goal
 
 pub returns-clause-read : goal.returns-clause-read

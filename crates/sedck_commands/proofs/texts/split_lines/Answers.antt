@@ -1,5 +1,4 @@
-use Rattle.sedck_commands.proofs.Common.{refl}
-use Rattle.sedck_text.proofs.Cursors.{unread_ahead}
+use Rattle.sedck_commands.proofs.Common.{refl, unread_ahead}
 use Rattle.sedck_commands.proofs.OffsetLemmas.{lines_tail, tail_length, lines_parts}
 use Rattle.sedck_commands.proofs.texts.split_lines.Goals as goal
 

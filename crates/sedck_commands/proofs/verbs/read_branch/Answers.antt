@@ -1,4 +1,4 @@
-use Rattle.std.specs.Prelude.{option_copied}
+use Rattle.sedck_commands.proofs.Common.{option_copied}
 use Rattle.sedck_commands.proofs.VerbCases.{jump_read}
 use Rattle.sedck_commands.proofs.verbs.read_branch.Goals as goal
 

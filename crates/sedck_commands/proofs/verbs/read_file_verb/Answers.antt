@@ -1,5 +1,4 @@
-use Rattle.sedck_commands.proofs.Common.{ap, file_byte}
-use Rattle.sedck_commands.specs.Items.{read, write}
+use Rattle.sedck_commands.proofs.Common.{ap, file_byte, read, write}
 use Rattle.sedck_commands.proofs.verbs.read_file_verb.Goals as goal
 
 pub returns-in-Read-clause-read : goal.returns-in-Read-clause-read

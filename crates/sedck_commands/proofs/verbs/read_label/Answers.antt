@@ -1,5 +1,4 @@
-use Rattle.sedck_commands.proofs.Common.{refl, ◌∙◌, ap, sym, subst, length, is_some, false≢true, unread}
-use Rattle.sedck_commands.specs.Items.{label}
+use Rattle.sedck_commands.proofs.Common.{refl, ◌∙◌, ap, sym, subst, length, is_some, false≢true, unread, label}
 use Rattle.sedck_commands.proofs.ResultLemmas.{if_err_from}
 use Rattle.sedck_commands.proofs.FlagLemmas.{some_of}
 use Rattle.sedck_commands.proofs.FaultLemmas3.{label_begins_there}

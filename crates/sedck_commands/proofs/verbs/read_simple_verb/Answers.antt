@@ -1,4 +1,4 @@
-use Rattle.sedck_commands.specs.Items.{simple}
+use Rattle.sedck_commands.proofs.Common.{simple}
 use Rattle.sedck_commands.proofs.verbs.read_simple_verb.Goals as goal
 
 pub returns-clause-read : goal.returns-clause-read

@@ -1,5 +1,4 @@
-use Rattle.sedck_commands.proofs.Common.{ap, text_byte}
-use Rattle.sedck_commands.specs.Items.{append, change, insert}
+use Rattle.sedck_commands.proofs.Common.{ap, text_byte, append, change, insert}
 use Rattle.sedck_commands.specs.FirstFaults as fault
 use Rattle.sedck_commands.proofs.verbs.read_text_verb.Goals as goal
 

@@ -1,5 +1,4 @@
-use Rattle.sedck_commands.proofs.Common.{◌∷◌, refl, ap, subst, unread, IsForm}
-use Rattle.sedck_commands.specs.Items.{opening}
+use Rattle.sedck_commands.proofs.Common.{◌∷◌, refl, ap, subst, unread, IsForm, opening}
 use Rattle.sedck_commands.specs.FirstFaults as fault
 use Rattle.sedck_commands.proofs.ResultLemmas.{if_err_more}
 use Rattle.sedck_commands.proofs.FormLemmas.{text_listed, file_listed}

@@ -1,5 +1,4 @@
-use Rattle.std.proofs.Common.{Some}
-use Rattle.sedck_engines.specs.Faults.{run_fault}
+use Rattle.sedck_engines.proofs.Common.{Some, run_fault}
 use Rattle.sedck_engines.proofs.Answering.{err_is, judge_refused, checks_to, reported, sliced}
 use Rattle.sedck_engines.proofs.engines.run_check.Goals as goal
 

@@ -1,5 +1,4 @@
-use Rattle.std.proofs.Common.{Some, None}
-use Rattle.sedck_engines.specs.Faults.{script_fault}
+use Rattle.sedck_engines.proofs.Common.{Some, None, script_fault}
 use Rattle.sedck_cert.proofs.Promise.{script_reported}
 use Rattle.sedck_engines.proofs.Answering.{err_is, parse_refused, reports_script_to, reported, sliced}
 use Rattle.sedck_engines.proofs.engines.run_script.Goals as goal

@@ -1,5 +1,4 @@
-use Rattle.std.proofs.Common.{Some, None, ◌∙◌}
-use Rattle.sedck_engines.specs.Faults.{certificate_fault}
+use Rattle.sedck_engines.proofs.Common.{Some, None, ◌∙◌, certificate_fault}
 use Rattle.sedck_engines.proofs.Answering.{err_is, read_refused, upgrades_to, reported, sliced}
 use Rattle.sedck_engines.proofs.engines.run_upgrade.Goals as goal
 

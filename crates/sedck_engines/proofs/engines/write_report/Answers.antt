@@ -1,4 +1,4 @@
-use Rattle.std.proofs.Common.{refl}
+use Rattle.sedck_engines.proofs.Common.{refl}
 use Rattle.sedck_engines.proofs.engines.write_report.Goals as goal
 
 pub returns-in-Ok : goal.returns-in-Ok

@@ -1,5 +1,4 @@
-use Rattle.std.proofs.Common.{◌<◌, ◌≤◌, length, vec_len, arith}
-use Rattle.std.proofs.KnownBytes.{Consumes-trans}
+use Rattle.sedck_engines.proofs.Common.{◌<◌, ◌≤◌, length, vec_len, arith, Consumes-trans}
 use Rattle.std.proofs.lemmas.Grind.{common_steps}
 use Rattle.sedck_engines.proofs.Inputs.{read_to_limit, read_to_end}
 use Rattle.sedck_engines.proofs.input.read_up_to.Goals as goal

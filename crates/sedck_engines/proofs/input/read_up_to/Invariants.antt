@@ -1,5 +1,4 @@
-use Rattle.std.proofs.Common.{◌≡◌, ◌-◌, ◌≤◌, vec_len}
-use Rattle.std.specs.Io.KnownBytes.{Consumes}
+use Rattle.sedck_engines.proofs.Common.{◌≡◌, ◌-◌, ◌≤◌, vec_len, Consumes}
 use Rattle.sedck_engines.proofs.input.read_up_to.Given as goal
 
 abbrev pub invariant-loop-input : goal.invariant-loop-input

@@ -1,11 +1,5 @@
-use Rattle.std.proofs.Common.{◌≡◌, ◌<◌, ◌+◌, ℕ, suc, List, ◌∷◌, ◌++◌, length, get_or, sym, ap, ap₂, ◌∙◌, append_assoc, arith}
-use Rattle.std.proofs.Math.Seq.{drop-cons, drop-length}
-use Rattle.std.specs.Prelude.{drop, codes}
-use Rattle.sedck_flow.specs.Words.{node_words, kind_text}
-use Rattle.sedck_flow.specs.declared.graph.Node.{Node}
+use Rattle.sedck_engines.proofs.Common.{◌≡◌, ◌<◌, ◌+◌, ℕ, suc, List, ◌∷◌, ◌++◌, length, get_or, sym, ap, ap₂, ◌∙◌, append_assoc, arith, drop-cons, drop-length, drop, codes, node_words, kind_text, Node, line, walk_lines}
 use Rattle.sedck_flow.specs.declared.graph.Kind.{Kind}
-use Rattle.sedck_cert.specs.Text.{line}
-use Rattle.sedck_engines.specs.Reports.{walk_lines}
 use Rattle.sedck_engines.proofs.rank.loop_report.Goals as goal
 
 -- the lines from an edge on

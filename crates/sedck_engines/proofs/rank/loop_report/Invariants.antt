@@ -1,6 +1,4 @@
-use Rattle.std.proofs.Common.{◌≡◌, ◌++◌}
-use Rattle.std.specs.Prelude.{drop}
-use Rattle.sedck_engines.specs.Reports.{walk_lines, loop_text}
+use Rattle.sedck_engines.proofs.Common.{◌≡◌, ◌++◌, drop, walk_lines, loop_text}
 use Rattle.sedck_engines.proofs.rank.loop_report.Given as goal
 
 -- the report so far, and the edges to come

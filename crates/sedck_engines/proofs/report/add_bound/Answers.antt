@@ -1,6 +1,4 @@
-use Rattle.std.proofs.Common.{◌≡◌, ℕ, List, ◌++◌, ap, ◌∙◌, append_assoc}
-use Rattle.std.specs.Prelude.{codes, decimal}
-use Rattle.sedck_cert.specs.Text.{line}
+use Rattle.sedck_engines.proofs.Common.{◌≡◌, ℕ, List, ◌++◌, ap, ◌∙◌, append_assoc, codes, decimal, line}
 use Rattle.sedck_engines.proofs.report.add_bound.Goals as goal
 
 -- the words, whichever way their parts are put together

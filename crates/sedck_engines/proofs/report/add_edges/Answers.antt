@@ -1,5 +1,4 @@
-use Rattle.std.proofs.Common.{◌++◌, sym, ap, ◌∙◌, append-nil}
-use Rattle.sedck_engines.specs.Reports.{edge_lines}
+use Rattle.sedck_engines.proofs.Common.{◌++◌, sym, ap, ◌∙◌, append-nil, edge_lines}
 use Rattle.sedck_engines.proofs.report.add_edges.Goals as goal
 
 -- no edge is left to come

@@ -1,5 +1,4 @@
-use Rattle.std.proofs.Common.{◌≡◌, ◌++◌}
-use Rattle.sedck_engines.specs.Reports.{edge_lines}
+use Rattle.sedck_engines.proofs.Common.{◌≡◌, ◌++◌, edge_lines}
 use Rattle.sedck_engines.proofs.report.add_edges.Given as goal
 
 -- the report so far, and the edges to come

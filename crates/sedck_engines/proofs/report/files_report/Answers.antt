@@ -1,7 +1,6 @@
-use Rattle.std.proofs.Common.{◌++◌, ap, ap₂, ◌∙◌}
+use Rattle.sedck_engines.proofs.Common.{◌++◌, ap, ap₂, ◌∙◌, files_text}
 use Rattle.std.proofs.lemmas.Result.{IfOk-weaker}
 use Rattle.sedck_script.specs.Names.{reads, writes}
-use Rattle.sedck_cert.specs.Text.{files_text}
 use Rattle.sedck_cert.proofs.NamesListed.{reads_listed, writes_listed}
 use Rattle.sedck_engines.proofs.report.files_report.Goals as goal
 

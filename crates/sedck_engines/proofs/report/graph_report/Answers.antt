@@ -1,10 +1,5 @@
-use Rattle.std.proofs.Common.{◌≡◌, ◌≤◌, ◌++◌, length, sym, ap, ◌∙◌, arith}
-use Rattle.std.specs.Prelude.{decimal, codes}
-use Rattle.std.proofs.lemmas.List.{length-map}
+use Rattle.sedck_engines.proofs.Common.{◌≡◌, ◌≤◌, ◌++◌, length, sym, ap, ◌∙◌, arith, decimal, codes, length-map, node_count, line, edge_lines}
 use Rattle.sedck_script.specs.View.{command_of}
-use Rattle.sedck_flow.specs.Nodes.{node_count}
-use Rattle.sedck_cert.specs.Text.{line}
-use Rattle.sedck_engines.specs.Reports.{edge_lines}
 use Rattle.sedck_engines.proofs.GraphLines.{one_more, all_nodes}
 use Rattle.sedck_engines.proofs.report.graph_report.Goals as goal
 

@@ -1,8 +1,4 @@
-use Rattle.sedck_expressions.proofs.Common.{◌≡◌, ℕ, ◌+◌, ◌≤◌, List, ◌∷◌, length, drop, get_or, ap, ◌∙◌, arith, err_from_is_err_and, unread, Cursor, HasOneAt, full}
-use Rattle.std.proofs.lemmas.List.{length-drop}
-use Rattle.sedck_expressions.specs.Reading.{after_backslash}
-use Rattle.sedck_expressions.specs.FirstFault.{fault_in}
-use Rattle.sedck_expressions.specs.Private.Gives.{position_of}
+use Rattle.sedck_expressions.proofs.Common.{◌≡◌, ℕ, ◌+◌, ◌≤◌, List, ◌∷◌, length, drop, get_or, ap, ◌∙◌, arith, err_from_is_err_and, unread, Cursor, HasOneAt, full, length-drop, after_backslash, fault_in, position_of}
 use Rattle.sedck_expressions.proofs.OffsetLemmas.{stands_at}
 use Rattle.sedck_expressions.proofs.items.read_escape.Goals as goal
 

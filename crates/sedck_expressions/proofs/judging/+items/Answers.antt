@@ -1,5 +1,4 @@
-use Rattle.sedck_expressions.proofs.Common.{◌+◌, ◌++◌, ◌∷◌, drop, map, refl, sym, ap, subst, ◌∙◌, append_assoc, codes, err_from_is_err_and, unread, trees, tree, Inside, SpellsItem, StopsAt}
-use Rattle.std.proofs.lemmas.List.{drop_more, drop_all}
+use Rattle.sedck_expressions.proofs.Common.{◌+◌, ◌++◌, ◌∷◌, drop, map, refl, sym, ap, subst, ◌∙◌, append_assoc, codes, err_from_is_err_and, unread, trees, tree, Inside, SpellsItem, StopsAt, drop_more, drop_all}
 use Rattle.sedck_expressions.proofs.Along.{IsLeft, IsFirst, read_on, left_more, left_none, none_group, none_repeat, stops_group, stops_repeat, stops_all, first_all, group_cut, reference_stands}
 use Rattle.sedck_expressions.proofs.ViewLemmas.{tree-Byte, tree-Set, tree-Ref, tree-Group, tree-Repeat}
 use Rattle.sedck_expressions.proofs.judging.+items.Goals as goal

@@ -1,6 +1,5 @@
-use Rattle.sedck_expressions.proofs.Common.{◌≡◌, ◌++◌, ap, sym, ◌∙◌, true, length, unread, begins}
+use Rattle.sedck_expressions.proofs.Common.{◌≡◌, ◌++◌, ap, sym, ◌∙◌, true, length, unread, begins, fault_in}
 use Rattle.sedck_expressions.specs.BracketReading.{bracket_at}
-use Rattle.sedck_expressions.specs.FirstFault.{fault_in}
 use Rattle.sedck_expressions.proofs.Along.{second_same}
 use Rattle.sedck_expressions.proofs.WholeBracket.{bracket_again}
 use Rattle.sedck_expressions.proofs.ItemBeginnings.{bracket_front}

@@ -1,11 +1,8 @@
-use Rattle.sedck_expressions.proofs.Common.{◌≡◌, ◌+◌, ◌<◌, ◌≤◌, ◌∷◌, drop, nat_tests, full, Inside, First, ◌++◌, length, map, true, false, refl, sym, ap, ◌∙◌, subst, arith, length-append, err_from_is_err_and, append-nil, unread, groups_in, tree, sequence, at_end, ClosedIs, set}
-use Rattle.std.proofs.lemmas.List.{map_push}
+use Rattle.sedck_expressions.proofs.Common.{◌≡◌, ◌+◌, ◌<◌, ◌≤◌, ◌∷◌, drop, nat_tests, full, Inside, First, ◌++◌, length, map, true, false, refl, sym, ap, ◌∙◌, subst, arith, length-append, err_from_is_err_and, append-nil, unread, groups_in, tree, sequence, at_end, ClosedIs, set, map_push, length-drop, level_of}
 use Rattle.sedck_expressions.proofs.ItemLoop.{groups-push, loop_starts, loop_ends, loop_goes, loop_fails, loop_fails_at, same_left, closed-push, closed_more, group_stops}
 use Rattle.sedck_expressions.specs.declared.tree.Bre.TheVariants as Bre
 use Rattle.sedck_expressions.proofs.ViewLemmas.{tree-Seq, tree-Group}
-use Rattle.std.proofs.lemmas.List.{length-drop}
 use Rattle.sedck_expressions.specs.Reading.{items}
-use Rattle.sedck_expressions.specs.Private.Gives.{level_of}
 use Rattle.sedck_expressions.proofs.parser.+items.Goals as goal
 
 pub read_items-returns-clause-value : goal.read_items-returns-clause-value

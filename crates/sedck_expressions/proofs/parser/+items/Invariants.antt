@@ -1,7 +1,6 @@
-use Rattle.sedck_expressions.proofs.Common.{◌≡◌, ℕ, ◌+◌, ◌*◌, ◌<◌, ◌≤◌, ◌++◌, List, length, map, unread, groups_in, tree, sequence, full, ClosedIs}
+use Rattle.sedck_expressions.proofs.Common.{◌≡◌, ℕ, ◌+◌, ◌*◌, ◌<◌, ◌≤◌, ◌++◌, List, length, map, unread, groups_in, tree, sequence, full, ClosedIs, position_of, level_of}
 use Rattle.sedck_expressions.specs.Shape as shape
 use Rattle.sedck_expressions.specs.Reading.{items}
-use Rattle.sedck_expressions.specs.Private.Gives.{position_of, level_of}
 use Rattle.sedck_expressions.proofs.ItemLoop.{LeftToRead}
 use Rattle.sedck_expressions.proofs.parser.+items.Given as goal
 

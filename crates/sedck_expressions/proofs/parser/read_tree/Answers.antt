@@ -1,9 +1,7 @@
-use Rattle.sedck_expressions.proofs.Common.{◌≡◌, ℕ, ◌+◌, ◌-◌, ◌<◌, Bool, List, [], map, length, Some, Ok, Err, arith, unread, Cursor, whole, sym, ap, ◌∙◌, subst, true, ◌==◌, Bre, err_from_is_err_and, Nil, trees, tree, sequence, Whole, First, Shape, full}
+use Rattle.sedck_expressions.proofs.Common.{◌≡◌, ℕ, ◌+◌, ◌-◌, ◌<◌, Bool, List, [], map, length, Some, Ok, Err, arith, unread, Cursor, whole, sym, ap, ◌∙◌, subst, true, ◌==◌, Bre, err_from_is_err_and, Nil, trees, tree, sequence, Whole, First, Shape, full, ReFault, UnopenedGroup, fault_in}
 use Rattle.sedck_expressions.specs.declared.tree.Bre.TheVariants.{Seq}
-use Rattle.sedck_expressions.specs.declared.fault.ReFault.{ReFault}
-use Rattle.sedck_expressions.specs.declared.fault.ReFault.TheVariants.{UnopenedGroup}
 use Rattle.sedck_expressions.specs.Reading.{read, items}
-use Rattle.sedck_expressions.specs.FirstFault.{fault_in, first_fault}
+use Rattle.sedck_expressions.specs.FirstFault.{first_fault}
 use Rattle.sedck_expressions.proofs.ItemLoop.{fails_then}
 use Rattle.sedck_expressions.proofs.WholeReading.{read-at, whole-some, whole-none, shape_of, only_of, none_of, none_closed}
 use Rattle.sedck_expressions.proofs.ViewLemmas.{tree-Seq}

@@ -1,5 +1,4 @@
-use Rattle.sedck_expressions.proofs.Common.{◌≡◌, false, drop, map, trees, tree}
-use Rattle.sedck_expressions.specs.Misjudged.{is_end_last}
+use Rattle.sedck_expressions.proofs.Common.{◌≡◌, false, drop, map, trees, tree, is_end_last}
 use Rattle.sedck_expressions.proofs.parts.is_end_last.Given as goal
 
 abbrev pub invariant-loop-item : goal.invariant-loop-item

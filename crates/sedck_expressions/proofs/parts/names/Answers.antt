@@ -1,6 +1,5 @@
-use Rattle.sedck_expressions.proofs.Common.{◌≡◌, false, arith, nat_tests, bit_at}
+use Rattle.sedck_expressions.proofs.Common.{◌≡◌, false, arith, nat_tests, bit_at, bit_at_above}
 use Rattle.std.proofs.Common.{nat_lt}
-use Rattle.std.proofs.lemmas.Nat.Bits.{bit_at_above}
 use Rattle.sedck_expressions.proofs.parts.names.Goals as goal
 
 pub returns-else-k-lt16 : goal.returns-else-k-lt16

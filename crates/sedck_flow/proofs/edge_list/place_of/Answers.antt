@@ -1,5 +1,4 @@
-use Rattle.sedck_flow.proofs.Common.{◌≡◌, length, get_or, ap, ◌∙◌, arith, number}
-use Rattle.std.proofs.lemmas.List.{get_or_default}
+use Rattle.sedck_flow.proofs.Common.{◌≡◌, length, get_or, ap, ◌∙◌, arith, number, get_or_default}
 use Rattle.sedck_flow.proofs.EdgeListLemmas.{adds}
 use Rattle.sedck_flow.proofs.edge_list.place_of.Goals as goal
 

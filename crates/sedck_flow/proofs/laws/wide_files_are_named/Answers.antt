@@ -1,6 +1,5 @@
 -- The law is two lemmas on the definitions.
-use Rattle.sedck_flow.specs.Run.{Start}
-use Rattle.sedck_flow.specs.WideRun.{any_locale}
+use Rattle.sedck_flow.proofs.Common.{Start, any_locale}
 use Rattle.sedck_flow.proofs.FilesNamed.{steps_read, steps_write}
 use Rattle.sedck_flow.proofs.laws.wide_files_are_named.Goals as goal
 

@@ -1,5 +1,4 @@
-use Rattle.sedck_flow.proofs.Common.{ap, substitution_of}
-use Rattle.sedck_script.specs.View.{pattern_of}
+use Rattle.sedck_flow.proofs.Common.{ap, substitution_of, pattern_of}
 use Rattle.sedck_flow.proofs.SuccessLemmas.{not_kept, kept, least_of_previous, known_rest}
 use Rattle.sedck_flow.proofs.success.least_rest.Goals as goal
 

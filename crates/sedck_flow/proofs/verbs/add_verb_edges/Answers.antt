@@ -1,5 +1,4 @@
-use Rattle.sedck_flow.proofs.Common.{inl, inr, substitution_of}
-use Rattle.sedck_script.specs.View.{address_of}
+use Rattle.sedck_flow.proofs.Common.{inl, inr, substitution_of, address_of}
 use Rattle.sedck_flow.proofs.VerbLemmas.{drops, reads, substitutes, other_verb}
 use Rattle.sedck_flow.proofs.verbs.add_verb_edges.Goals as goal
 

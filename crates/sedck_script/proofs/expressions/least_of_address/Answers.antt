@@ -1,5 +1,4 @@
-use Rattle.sedck_script.proofs.Common.{ap, ◌∙◌, address_patterns, place_patterns}
-use Rattle.sedck_commands.specs.View.{address_of, place_of}
+use Rattle.sedck_script.proofs.Common.{ap, ◌∙◌, address_patterns, place_patterns, address_of, place_of}
 use Rattle.sedck_script.proofs.ShortestLemmas.{trees_of, trees_of-append, least_of_same, lesser_is_least}
 use Rattle.sedck_script.proofs.expressions.least_of_address.Goals as goal
 

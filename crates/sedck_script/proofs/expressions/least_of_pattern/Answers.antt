@@ -1,5 +1,4 @@
-use Rattle.sedck_script.proofs.Common.{◌∷◌, [], ap, refl, Some, pattern_expressions}
-use Rattle.sedck_commands.specs.View.{pattern_of}
+use Rattle.sedck_script.proofs.Common.{◌∷◌, [], ap, refl, Some, pattern_expressions, pattern_of}
 use Rattle.sedck_script.proofs.ShortestLemmas.{least_of_same, one_has_least}
 use Rattle.sedck_script.proofs.expressions.least_of_pattern.Goals as goal
 

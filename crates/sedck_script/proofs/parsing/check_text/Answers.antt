@@ -1,10 +1,5 @@
-use Rattle.sedck_script.proofs.Common.{◌∙◌, ℕ, List, Some, ap, sym, arith}
-use Rattle.std.proofs.lemmas.Bool.{eqb-true, eq-eqb}
-use Rattle.std.proofs.lemmas.List.{get_or-take, length-take-le}
-use Rattle.std.proofs.lemmas.Option.{slice_get-get_or}
+use Rattle.sedck_script.proofs.Common.{◌∙◌, ℕ, List, Some, ap, sym, arith, eqb-true, eq-eqb, get_or-take, length-take-le, slice_get-get_or, IsFirstZero, IsFirstFault}
 use Rattle.memchr.specs.Find.{IsFirstByte, is_byte}
-use Rattle.sedck_commands.specs.Faults.{IsFirstZero}
-use Rattle.sedck_script.specs.FirstFault.{IsFirstFault}
 use Rattle.sedck_script.proofs.parsing.check_text.Goals as goal
 
 -- the first byte 0 that is found

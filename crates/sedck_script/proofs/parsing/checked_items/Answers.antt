@@ -1,5 +1,4 @@
-use Rattle.sedck_commands.proofs.ResultLemmas.{if_ok_more, if_err_more}
-use Rattle.sedck_script.specs.FirstFault.{IsFirstFault}
+use Rattle.sedck_script.proofs.Common.{if_ok_more, if_err_more, IsFirstFault}
 use Rattle.sedck_script.proofs.parsing.checked_items.Goals as goal
 
 pub returns-clause-allowed : goal.returns-clause-allowed

@@ -1,8 +1,5 @@
-use Rattle.sedck_script.proofs.Common.{refl, ◌≡◌, ◌∙◌, ℕ, List, Option, Some, None, true, map, sym, subst, ap, arith, item_of, if_err_from, Pattern, expressions, command_of, has_previous, item_patterns, has_some}
-use Rattle.std.proofs.lemmas.Bool.{both_ways}
+use Rattle.sedck_script.proofs.Common.{refl, ◌≡◌, ◌∙◌, ℕ, List, Option, Some, None, true, map, sym, subst, ap, arith, item_of, if_err_from, Pattern, expressions, command_of, has_previous, item_patterns, has_some, both_ways, IsFirstEmpty, EmptyOf, LinksFault}
 use Rattle.sedck_script.proofs.ProgramLemmas.{are_commands, first_lost, first_empty, all_known, no_patterns}
-use Rattle.sedck_commands.specs.ReadItems.{IsFirstEmpty, EmptyOf}
-use Rattle.sedck_script.specs.FirstFault.{LinksFault}
 use Rattle.sedck_script.proofs.parsing.commands.Goals as goal
 
 some_empty : (EndsAt : ℕ → Type 0) (ps : List Pattern) (o : Option ℕ) → IsFirstEmpty ps EndsAt o → has_previous ps ≡ true → (place : ℕ) × (o ≡ Some place)

@@ -1,7 +1,4 @@
-use Rattle.sedck_script.proofs.Common.{◌≡◌, ◌∙◌, ℕ, List, ap, sym, refl, length, arith, subst, if_err_from, Item, Items}
-use Rattle.sedck_commands.specs.Locations.{locations_of, AreInOrder}
-use Rattle.sedck_commands.specs.ItemView.{locations_in}
-use Rattle.sedck_commands.specs.declared.location.Location.{Location}
+use Rattle.sedck_script.proofs.Common.{◌≡◌, ◌∙◌, ℕ, List, ap, sym, refl, length, arith, subst, if_err_from, Item, Items, locations_of, AreInOrder, locations_in, Location}
 use Rattle.sedck_script.proofs.Nesting.{resolves_length}
 use Rattle.sedck_script.proofs.OneLocation.{locations_one}
 use Rattle.sedck_script.proofs.FirstFaultIsOne.{first_fault_refuses}

@@ -1,10 +1,8 @@
-use Rattle.sedck_script.proofs.Common.{◌∙◌, ◌↔◌, ℕ, List, map, sym, subst, ap, IsTrue, Program, Item, Items, sorted_names, all_accessed, command_of, IsQuiet, AreCommands, Spells, arith, if_err_from}
+use Rattle.sedck_script.proofs.Common.{◌∙◌, ◌↔◌, ℕ, List, map, sym, subst, ap, IsTrue, Program, Item, Items, sorted_names, all_accessed, command_of, IsQuiet, AreCommands, Spells, arith, if_err_from, IsScriptText, IsFirstFault}
 use Rattle.sedck_script.specs.Private.Fields.{program_from}
-use Rattle.sedck_script.specs.Spelling.{IsScriptText}
 use Rattle.sedck_commands.specs.declared.names.Access.TheVariants.{Read, Write}
 use Rattle.sedck_script.proofs.UniqueScripts.{whole_one}
 use Rattle.sedck_script.proofs.SpelledIsScript.{spelled_script}
-use Rattle.sedck_script.specs.FirstFault.{IsFirstFault}
 use Rattle.sedck_script.proofs.ProgramLemmas.{once_among}
 use Rattle.sedck_script.proofs.parsing.script.Goals as goal
 

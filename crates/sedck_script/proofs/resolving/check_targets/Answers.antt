@@ -1,6 +1,4 @@
-use Rattle.sedck_script.proofs.Common.{sym, subst, if_err_from, ap, ◌∙◌, Some, item_label, item_of}
-use Rattle.std.proofs.lemmas.Option.{slice_get-get_or}
-use Rattle.sedck_commands.specs.ReadItems.{IsItemAt}
+use Rattle.sedck_script.proofs.Common.{sym, subst, if_err_from, ap, ◌∙◌, Some, item_label, item_of, slice_get-get_or, IsItemAt}
 use Rattle.sedck_script.proofs.resolving.check_targets.Goals as goal
 
 pub returns-in_err-check_target-clause-first : goal.returns-in_err-check_target-clause-first

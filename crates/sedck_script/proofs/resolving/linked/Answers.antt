@@ -1,5 +1,4 @@
-use Rattle.sedck_script.proofs.Common.{if_err_from, if_err_more}
-use Rattle.sedck_commands.proofs.ResultLemmas.{if_ok_more}
+use Rattle.sedck_script.proofs.Common.{if_err_from, if_err_more, if_ok_more}
 use Rattle.sedck_script.proofs.ProgramLemmas.{lost_among}
 use Rattle.sedck_script.proofs.resolving.linked.Goals as goal
 

@@ -1,5 +1,4 @@
-use Rattle.sedck_search.proofs.Common.{◌≡◌, ◌+◌, [], ◌∷◌, length, sym, ap, ◌∙◌, subst, arith, slice_get, eqb, if◌then◌else◌, length-map, command_of, node_index, node_count, ArePathLengths}
-use Rattle.std.proofs.lemmas.Bool.{ne_eqb}
+use Rattle.sedck_search.proofs.Common.{◌≡◌, ◌+◌, [], ◌∷◌, length, sym, ap, ◌∙◌, subst, arith, slice_get, eqb, if◌then◌else◌, length-map, command_of, node_index, node_count, ArePathLengths, ne_eqb}
 use Rattle.std.proofs.lemmas.List.{length-append}
 use Rattle.sedck_search.proofs.DistanceLemmas.{first_distance, some_distances, entries_push, eqb_same}
 use Rattle.sedck_search.proofs.distances.distances_to.Goals.{then-index, else-index}

@@ -1,4 +1,5 @@
-use Rattle.sedck_search.specs.Private.Distances.{ArePathLengths, total}
+use Rattle.sedck_search.proofs.Common.{ArePathLengths}
+use Rattle.sedck_search.specs.Private.Distances.{total}
 use Rattle.sedck_search.proofs.distances.settle.Given as goal
 
 abbrev pub invariant-loop-to : goal.invariant-loop-to

@@ -1,6 +1,6 @@
-use Rattle.sedck_search.proofs.Common.{◌≡◌, ◌<◌, ℕ, List, true, false, inl, inr, sym, ap, ◌∙◌, arith, MatchOption, cases_lt, Program, node_index, Node, Edge, Kind, node_same, Closes, IsFirstClosing}
+use Rattle.sedck_search.proofs.Common.{◌≡◌, ◌<◌, ℕ, List, true, false, inl, inr, sym, ap, ◌∙◌, arith, MatchOption, cases_lt, Program, node_index, Node, Edge, Kind, node_same, Closes, IsFirstClosing, is_some}
 use Rattle.std.proofs.Common.{Option, Some, None}
-use Rattle.std.specs.Prelude.{is_some, ◌≢◌}
+use Rattle.std.specs.Prelude.{◌≢◌}
 use Rattle.sedck_cert.proofs.CheckingLemmas.{leaves_below}
 use Rattle.sedck_search.proofs.loops.first_closing.Goals as goal
 

@@ -1,4 +1,4 @@
-use Rattle.std.proofs.Common.{◌∙◌, arith}
+use Rattle.sedck_search.proofs.Common.{◌∙◌, arith}
 use Rattle.sedck_search.proofs.Totals.{bit_count-between}
 use Rattle.sedck_search.proofs.node_set.count_between.Goals as goal
 

@@ -1,5 +1,4 @@
-use Rattle.sedck_search.proofs.Common.{◌≡◌, length}
-use Rattle.sedck_search.specs.Private.Components.{AreIndices}
+use Rattle.sedck_search.proofs.Common.{◌≡◌, length, AreIndices}
 use Rattle.sedck_search.proofs.order.indices.Given as goal
 
 -- the numbers so far

@@ -1,6 +1,4 @@
-use Rattle.sedck_search.proofs.Common.{◌≡◌, length, sym, ap, ◌∙◌, subst, inl, inr, arith, cases_lt, length-map, same_Some, slice_get_past, Command, command_of, IsLastAlone}
-use Rattle.std.proofs.lemmas.Option.{none-some}
-use Rattle.sedck_flow.proofs.EdgesLemmas.{read_command}
+use Rattle.sedck_search.proofs.Common.{◌≡◌, length, sym, ap, ◌∙◌, subst, inl, inr, arith, cases_lt, length-map, same_Some, slice_get_past, Command, command_of, IsLastAlone, none-some, read_command}
 use Rattle.sedck_search.proofs.other_side.asks_for_last.Goals as goal
 
 pub loop-command-preserved : goal.loop-command-preserved

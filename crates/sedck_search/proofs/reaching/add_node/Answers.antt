@@ -1,5 +1,4 @@
-use Rattle.std.specs.Prelude.{not}
-use Rattle.sedck_search.proofs.Common.{◌≡◌, Bool, true, false, sym, ap, ◌∙◌, subst, arith, node_index, HasChanged, AddsNode}
+use Rattle.sedck_search.proofs.Common.{◌≡◌, Bool, true, false, sym, ap, ◌∙◌, subst, arith, node_index, HasChanged, AddsNode, not}
 use Rattle.sedck_search.specs.Private.NodeSet.{has}
 use Rattle.sedck_search.proofs.Frontiers.{added_none, added_new, sets_new}
 use Rattle.sedck_search.proofs.reaching.add_node.Goals as goal

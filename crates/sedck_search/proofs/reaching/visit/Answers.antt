@@ -1,5 +1,4 @@
-use Rattle.sedck_search.proofs.Common.{◌≤◌, ℕ, List, length, sym, subst, inl, inr, Program, Node, Edge, inside, EdgeFilter, Reaches, AreCounts, AreKept, AddsTargets, AreSearchSets}
-use Rattle.sedck_search.specs.Private.Frontier.{AddsTarget}
+use Rattle.sedck_search.proofs.Common.{◌≤◌, ℕ, List, length, sym, subst, inl, inr, Program, Node, Edge, inside, EdgeFilter, Reaches, AreCounts, AreKept, AddsTargets, AreSearchSets, AddsTarget}
 use Rattle.sedck_search.proofs.Counts.{kept_reached}
 use Rattle.sedck_search.proofs.Paths.{index_below, reaches_from}
 use Rattle.sedck_search.proofs.Scans.{scan_next, edge_coming, scan_more}

@@ -1,5 +1,4 @@
-use Rattle.sedck_search.proofs.Common.{◌≡◌, length, sym, ap, ◌∙◌, subst, arith, true≢false, length-map, command_of, Accepts}
-use Rattle.sedck_cert.specs.View.{certificate_of}
+use Rattle.sedck_search.proofs.Common.{◌≡◌, length, sym, ap, ◌∙◌, subst, arith, true≢false, length-map, command_of, Accepts, certificate_of}
 use Rattle.sedck_search.proofs.Ranks.{counts_certificate, counts_accepted}
 use Rattle.sedck_search.proofs.searching.certificate.Goals as goal
 

@@ -1,5 +1,4 @@
-use Rattle.sedck_search.proofs.Common.{◌≡◌, length, ap, ◌∙◌, arith, map}
-use Rattle.std.proofs.Math.Seq.{take-length}
+use Rattle.sedck_search.proofs.Common.{◌≡◌, length, ap, ◌∙◌, arith, map, take-length}
 use Rattle.std.specs.Prelude.{take}
 use Rattle.sedck_search.proofs.searching.names.Goals as goal
 

@@ -1,6 +1,5 @@
-use Rattle.sedck_search.proofs.Common.{◌≡◌, map}
+use Rattle.sedck_search.proofs.Common.{◌≡◌, map, names_of}
 use Rattle.std.specs.Prelude.{take}
-use Rattle.sedck_cert.specs.View.{names_of}
 use Rattle.sedck_search.proofs.searching.names.Given as goal
 
 -- the names so far

@@ -1,7 +1,5 @@
-use Rattle.sedck_search.proofs.Common.{◌≡◌, ◌<◌, ◌+◌, ℕ, min, suc, List, [], ◌∷◌, ◌++◌, length, get_or, sym, ap, ap₂, ◌∙◌, arith, ranks_of_counts, ranks_from}
-use Rattle.std.proofs.Common.{take-suc}
+use Rattle.sedck_search.proofs.Common.{◌≡◌, ◌<◌, ◌+◌, ℕ, min, suc, List, [], ◌∷◌, ◌++◌, length, get_or, sym, ap, ap₂, ◌∙◌, arith, ranks_of_counts, ranks_from, take-suc, length-take}
 use Rattle.std.specs.Prelude.{take}
-use Rattle.std.proofs.lemmas.List.{length-take}
 use Rattle.sedck_search.proofs.Ranks.{positive_ranks, ranks_from-push}
 use Rattle.sedck_search.proofs.searching.ranks_of.Goals.{then-first-eq0, else-first-eq0}
 use Rattle.sedck_search.proofs.searching.ranks_of.Goals as goal

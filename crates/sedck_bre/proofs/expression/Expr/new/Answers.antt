@@ -1,5 +1,4 @@
-use Rattle.sedck_bre.proofs.Common.{◌≡◌, ℕ, ◌≤◌, min, length, arith, subst, are_numbered, cap, IsLeastSize, HasLength, tree, no_bounds, least, IsWellFormed, Tree}
-use Rattle.std.proofs.lemmas.List.{get_or-replicate}
+use Rattle.sedck_bre.proofs.Common.{◌≡◌, ℕ, ◌≤◌, min, length, arith, subst, are_numbered, cap, IsLeastSize, HasLength, tree, no_bounds, least, IsWellFormed, Tree, get_or-replicate}
 use Rattle.sedck_bre.proofs.LeastFloor.{least-floor}
 use Rattle.sedck_bre.proofs.LeastReached.{least-met}
 use Rattle.sedck_bre.proofs.expression.Expr.new.Goals as goal

@@ -1,6 +1,4 @@
-use Rattle.sedck_cert.proofs.Common.{ℕ, List, Bool, true, false, ◌≡◌, ◌≢◌, OnFalse, IsCut}
-use Rattle.std.specs.Bool.{MatchBool}
-use Rattle.std.specs.Cmp.Lexicographic.{told_text}
+use Rattle.sedck_cert.proofs.Common.{ℕ, List, Bool, true, false, ◌≡◌, ◌≢◌, OnFalse, IsCut, MatchBool, told_text}
 use Rattle.sedck_cert.proofs.CutLemmas.{cut_one}
 use Rattle.sedck_cert.proofs.LineLemmas.{no_cut}
 use Rattle.sedck_cert.proofs.reading.frame.next_is.Goals as goal

@@ -1,4 +1,5 @@
-use Rattle.std.specs.Prelude.{decimal, codes, ◌++◌, ◌/◌, ◌%◌}
+use Rattle.sedck_cert.proofs.Common.{◌/◌}
+use Rattle.std.specs.Prelude.{decimal, codes, ◌++◌, ◌%◌}
 use Rattle.sedck_cert.proofs.CutLemmas.{behind_both}
 use Rattle.sedck_cert.proofs.reading.nodes.behind_words.Goals as goal
 

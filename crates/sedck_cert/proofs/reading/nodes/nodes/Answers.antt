@@ -1,5 +1,4 @@
-use Rattle.sedck_cert.proofs.Common.{◌≡◌, ◌⊎◌, inr, suc, ◌+◌, ◌-◌, arith, common_steps, AreWithin, nodes_in, nodes_due, Stops, OutOfMemory, if_err_from}
-use Rattle.std.proofs.lemmas.List.Elements.{All-push}
+use Rattle.sedck_cert.proofs.Common.{◌≡◌, ◌⊎◌, inr, suc, ◌+◌, ◌-◌, arith, common_steps, AreWithin, nodes_in, nodes_due, Stops, OutOfMemory, if_err_from, All-push}
 use Rattle.sedck_cert.proofs.LineLemmas.{leads_stops}
 use Rattle.sedck_cert.proofs.DueLines.{leads_node}
 use Rattle.sedck_cert.proofs.reading.nodes.nodes.Goals as goal

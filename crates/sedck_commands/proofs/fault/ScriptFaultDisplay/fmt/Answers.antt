@@ -1,6 +1,6 @@
-use Rattle.std.proofs.Common.{◌≡◌, ℕ, List, ◌++◌, codes, decimal, append_assoc}
+use Rattle.sedck_commands.proofs.Common.{◌≡◌, ℕ, List, ◌++◌, decimal, append_assoc, fault_words}
+use Rattle.std.proofs.Common.{codes}
 use Rattle.sedck_expressions.specs.FaultWords.{fault_words as expression_fault_words}
-use Rattle.sedck_commands.specs.FaultWords.{fault_words}
 use Rattle.sedck_commands.proofs.fault.ScriptFaultDisplay.fmt.Goals as goal
 
 -- pieces that are written one after another

@@ -1,5 +1,4 @@
-use Rattle.sedck_expressions.proofs.Common.{◌≡◌, ℕ, arith, ◌&&◌, ◌||◌, not, nat_tests, is_digit, is_from}
-use Rattle.sedck_text.specs.Classes.{is_letter}
+use Rattle.sedck_expressions.proofs.Common.{◌≡◌, ℕ, arith, ◌&&◌, ◌||◌, not, nat_tests, is_digit, is_from, is_letter}
 use Rattle.sedck_expressions.proofs.SetLemmas.{just_same}
 use Rattle.sedck_expressions.proofs.brackets.elements.punctuation.Goals as goal
 

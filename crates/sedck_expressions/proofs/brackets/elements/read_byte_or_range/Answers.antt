@@ -1,6 +1,4 @@
-use Rattle.sedck_expressions.proofs.Common.{◌∙◌, sym, ap, refl, subst, drop-drop, ◌>>=◌, range_or_one}
-use Rattle.std.proofs.lemmas.List.{take_rest}
-use Rattle.sedck_expressions.specs.Private.BracketCode.{Reads}
+use Rattle.sedck_expressions.proofs.Common.{◌∙◌, sym, ap, refl, subst, drop-drop, ◌>>=◌, range_or_one, take_rest, Reads}
 use Rattle.sedck_expressions.proofs.brackets.elements.read_byte_or_range.Goals as goal
 
 pub returns-then-begins_range-clause-read : goal.returns-then-begins_range-clause-read

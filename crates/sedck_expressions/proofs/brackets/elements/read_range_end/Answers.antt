@@ -1,5 +1,4 @@
-use Rattle.sedck_expressions.proofs.Common.{err_from_is_err_and}
-use Rattle.std.proofs.lemmas.List.{take_rest}
+use Rattle.sedck_expressions.proofs.Common.{err_from_is_err_and, take_rest}
 use Rattle.sedck_expressions.proofs.OffsetLemmas.{flaw_further}
 use Rattle.sedck_expressions.proofs.brackets.elements.read_range_end.Goals as goal
 

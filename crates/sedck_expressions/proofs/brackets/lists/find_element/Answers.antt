@@ -1,6 +1,5 @@
-use Rattle.sedck_expressions.proofs.Common.{◌≡◌, ℕ, ◌-◌, ◌<◌, ◌≤◌, List, drop, length, Ok, refl, sym, ap, ◌∙◌, arith, unread, Cursor}
+use Rattle.sedck_expressions.proofs.Common.{◌≡◌, ℕ, ◌-◌, ◌<◌, ◌≤◌, List, drop, length, Ok, refl, sym, ap, ◌∙◌, arith, unread, Cursor, element_of}
 use Rattle.std.proofs.Common.{length-drop}
-use Rattle.sedck_expressions.specs.Private.BracketCode.{element_of}
 use Rattle.sedck_expressions.proofs.ElementHolder.{held_by_rest, held_here, held_after}
 use Rattle.sedck_expressions.proofs.brackets.lists.find_element.Goals as goal
 use Rattle.sedck_expressions.proofs.brackets.lists.find_element.Goals.{in-Ok+then-offset, in_default}

@@ -1,5 +1,4 @@
-use Rattle.sedck_expressions.proofs.Common.{◌≡◌, length}
-use Rattle.sedck_expressions.specs.Brackets.{has_symbol}
+use Rattle.sedck_expressions.proofs.Common.{◌≡◌, length, has_symbol}
 use Rattle.sedck_expressions.proofs.brackets.lists.has_symbol.Given as goal
 
 abbrev pub invariant-symbols : goal.invariant-symbols

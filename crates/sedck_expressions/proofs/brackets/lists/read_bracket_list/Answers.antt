@@ -1,8 +1,5 @@
-use Rattle.sedck_expressions.proofs.Common.{refl, ◌≡◌, ◌∙◌, ℕ, List, length, drop, Bool, true, false, Result, sym, subst, ap, rules, begins, unread, Cursor, ByteSet, inside_at, set_at}
-use Rattle.std.proofs.Common.{Bor}
+use Rattle.sedck_expressions.proofs.Common.{refl, ◌≡◌, ◌∙◌, ℕ, List, length, drop, Bool, true, false, Result, sym, subst, ap, rules, begins, unread, Cursor, ByteSet, inside_at, set_at, Bor, ReFault, Gives}
 use Rattle.sedck_expressions.specs.View.{bytes_in}
-use Rattle.sedck_expressions.specs.declared.fault.ReFault.{ReFault}
-use Rattle.sedck_expressions.specs.Private.Gives.{Gives}
 use Rattle.sedck_expressions.proofs.OffsetLemmas.{bracket_is}
 use Rattle.sedck_expressions.proofs.brackets.lists.read_bracket_list.Goals as goal
 

@@ -1,8 +1,5 @@
-use Rattle.sedck_expressions.proofs.Common.{◌∙◌, ◌++◌, ◌∷◌, [], refl, sym, ap, arith, Some, Ok, rules, ◌<◌, length, drop, unread, in_element, is_of}
+use Rattle.sedck_expressions.proofs.Common.{◌∙◌, ◌++◌, ◌∷◌, [], refl, sym, ap, arith, Some, Ok, rules, ◌<◌, length, drop, unread, in_element, is_of, flaw_at, placed, fault_in, element_of}
 use Rattle.std.proofs.Common.{length-drop}
-use Rattle.sedck_expressions.specs.BracketReading.{flaw_at}
-use Rattle.sedck_expressions.specs.FirstFault.{placed, fault_in}
-use Rattle.sedck_expressions.specs.Private.BracketCode.{element_of}
 use Rattle.sedck_expressions.proofs.ElementLoop.{elements_start, elements_end, elements_go, elements_fail}
 use Rattle.sedck_expressions.proofs.SetLoop.{just_push}
 use Rattle.sedck_expressions.proofs.brackets.lists.read_elements.Goals as goal

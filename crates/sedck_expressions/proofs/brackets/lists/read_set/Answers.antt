@@ -1,7 +1,5 @@
-use Rattle.sedck_expressions.proofs.Common.{◌∙◌, ◌-◌, sym, ap, refl, Some, true, false, length, drop, arith, unread, is_of}
-use Rattle.sedck_expressions.specs.BracketReading.{mistaken, holder}
-use Rattle.sedck_expressions.specs.FirstFault.{fault_in}
-use Rattle.sedck_expressions.specs.declared.fault.ReFault.TheVariants.{BadBracket, EmptySet}
+use Rattle.sedck_expressions.proofs.Common.{◌∙◌, ◌-◌, sym, ap, refl, Some, true, false, length, drop, arith, unread, is_of, mistaken, fault_in, BadBracket, EmptySet}
+use Rattle.sedck_expressions.specs.BracketReading.{holder}
 use Rattle.sedck_expressions.proofs.OffsetLemmas.{mistakable_read, inside_read, inside_size, left_at}
 use Rattle.sedck_expressions.proofs.SetLoop.{set_given, set_empty, set_mistakable}
 use Rattle.sedck_expressions.proofs.brackets.lists.read_set.Goals as goal

@@ -1,5 +1,4 @@
-use Rattle.sedck_expressions.proofs.Common.{w64}
-use Rattle.std.proofs.lemmas.Nat.Bits.{bit_at_not}
+use Rattle.sedck_expressions.proofs.Common.{w64, bit_at_not}
 use Rattle.std.proofs.Math.Facts.{Fits-lt-pow}
 use Rattle.sedck_expressions.proofs.brackets.sets.inverted.Goals as goal
 

@@ -1,5 +1,4 @@
-use Rattle.sedck_expressions.proofs.Common.{◌≡◌, length}
-use Rattle.sedck_expressions.specs.BracketReading.{is_closed}
+use Rattle.sedck_expressions.proofs.Common.{◌≡◌, length, is_closed}
 use Rattle.sedck_expressions.proofs.brackets.symbols.is_closed.Given as goal
 
 abbrev pub invariant-ends : goal.invariant-ends

@@ -1,5 +1,4 @@
-use Rattle.sedck_flow.proofs.Common.{map, sym, ap, ◌∙◌, edge_to}
-use Rattle.std.proofs.Common.{add-one}
+use Rattle.sedck_flow.proofs.Common.{map, sym, ap, ◌∙◌, edge_to, add-one}
 use Rattle.sedck_flow.proofs.EdgesLemmas.{drop_next}
 use Rattle.sedck_flow.proofs.edges.EdgesIterator.next.Goals as goal
 

@@ -1,5 +1,4 @@
-use Rattle.std.proofs.Common.{add-one, sym, ◌∙◌}
-use Rattle.sedck_flow.proofs.EdgesLemmas.{drop_next}
+use Rattle.sedck_search.proofs.Common.{add-one, sym, ◌∙◌, drop_next}
 use Rattle.sedck_search.proofs.edge_table.ListedEdgesIterator.next.Goals as goal
 
 pub returns-clause-steps : goal.returns-clause-steps

@@ -1,6 +1,4 @@
-use Rattle.std.proofs.Common.{◌≡◌, ◌≤◌, List, ℕ, subst, sym, ◌∙◌}
-use Rattle.sedck_search.specs.Rows.{bit_count}
-use Rattle.sedck_search.specs.Private.NodeSet.{IsNodeSet, AreZeroBefore, AreZeroFrom}
+use Rattle.sedck_search.proofs.Common.{◌≡◌, ◌≤◌, List, ℕ, subst, sym, ◌∙◌, bit_count, IsNodeSet, AreZeroBefore, AreZeroFrom}
 use Rattle.sedck_search.proofs.NodeBits.{copied}
 use Rattle.sedck_search.proofs.node_set.NodeSet.copy_from.Goals as goal
 

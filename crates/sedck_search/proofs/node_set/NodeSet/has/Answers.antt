@@ -1,5 +1,4 @@
-use Rattle.sedck_search.proofs.Common.{◌/◌, ◌%◌, ap, ◌∙◌, ◌==◌, slice_index}
-use Rattle.std.proofs.lemmas.Nat.Bits.{shr_and_one}
+use Rattle.sedck_search.proofs.Common.{◌/◌, ◌%◌, ap, ◌∙◌, ◌==◌, slice_index, shr_and_one}
 use Rattle.sedck_search.specs.Private.NodeSet.{has}
 use Rattle.sedck_search.proofs.node_set.NodeSet.has.Goals as goal
 

@@ -1,5 +1,6 @@
-use Rattle.std.proofs.Common.{◌≡◌, ◌/◌, subst, false, true, refl, sym, ap, ◌∙◌, set, arith}
-use Rattle.sedck_search.specs.Private.NodeSet.{has, HasChanged}
+use Rattle.sedck_search.proofs.Common.{◌≡◌, ◌/◌, subst, false, true, refl, sym, ap, ◌∙◌, arith, HasChanged}
+use Rattle.std.proofs.Common.{set}
+use Rattle.sedck_search.specs.Private.NodeSet.{has}
 use Rattle.sedck_search.proofs.NodeBits.{inserted, inserted_set, with_bit, inserted_before, inserted_from}
 use Rattle.sedck_search.proofs.NodeSets.{inserted_count, count_within}
 use Rattle.sedck_search.proofs.node_set.NodeSet.insert.Goals as goal

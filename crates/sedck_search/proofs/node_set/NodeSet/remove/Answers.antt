@@ -1,5 +1,6 @@
-use Rattle.std.proofs.Common.{◌≡◌, ◌/◌, subst, false, true, ap, ◌∙◌, set, arith}
-use Rattle.sedck_search.specs.Private.NodeSet.{has, HasChanged}
+use Rattle.sedck_search.proofs.Common.{◌≡◌, ◌/◌, subst, false, true, ap, ◌∙◌, arith, HasChanged}
+use Rattle.std.proofs.Common.{set}
+use Rattle.sedck_search.specs.Private.NodeSet.{has}
 use Rattle.sedck_search.proofs.NodeBits.{removed, removed_set, without_bit, removed_before, removed_from}
 use Rattle.sedck_search.proofs.NodeSets.{removed_count, counts_node}
 use Rattle.sedck_search.proofs.node_set.NodeSet.remove.Goals as goal
