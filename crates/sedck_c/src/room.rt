@@ -43,7 +43,8 @@ pub(crate) fn put_with(status: u32, text: &[u8], room: &mut [u8], needed: &mut u
 /// Puts the certificate's lists, as `sedck files` prints them, and answers the status.
 pub(crate) fn put_lists(alloc: Global, cert: &Cert, room: &mut [u8], needed: &mut usize) -> u32
     ensures needed { (result ≡ MEMORY) ⊎ (needed.new ≡ length (lists_of cert.now)) }
-    ensures put { (result ≡ MEMORY) ⊎ ((result ≡ ACCEPTED) × IsPut (lists_of cert.now) room.new) ⊎ ((result ≡ ROOM) × IsTooSmall room.old needed.new) }
+    ensures put { (result ≡ MEMORY) ⊎ ((result ≡ ACCEPTED) × IsPut (lists_of cert.now) room.new)
+        ⊎ ((result ≡ ROOM) × IsTooSmall room.old needed.new) }
 {
     match lists(alloc, cert) {
         Ok(text) => put_with(ACCEPTED, &text, room, needed),

@@ -34,7 +34,8 @@ fn behind<'a>(text: &'a [u8], word: &[u8]) -> Option<&'a [u8]>
 
 /// The number after the word, if it is at most 4095.
 pub fn count(text: &[u8], word: &[u8]) -> Option<u16>
-    ensures { MatchOption result ((n : ℕ) → n ≤ 4095 → text.now ≡ word.now ++ decimal n → ⊥) (λ n. (n ≤ 4095) × (text.now ≡ word.now ++ decimal n)) }
+    ensures { MatchOption result ((n : ℕ) → n ≤ 4095 → text.now ≡ word.now ++ decimal n → ⊥)
+        (λ n. (n ≤ 4095) × (text.now ≡ word.now ++ decimal n)) }
 {
     number(behind(text, word)?, 4095)
 }
