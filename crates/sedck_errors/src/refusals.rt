@@ -23,7 +23,8 @@ pub fn script_refusal(alloc: Global, text: &[u8], fault: ScriptFault) -> Result<
     requires { IsReportable text.now fault }
     ensures level { IfOk result (λ finding. finding.level ≡ Error) }
     ensures code { IfOk result (λ finding. finding.code ≡ Code.Script fault) }
-    ensures position { IfOk result (λ finding. (offset : ℕ) × IsFaultOffset text.now fault offset × (finding.position ≡ Some (position_in text.now offset))) }
+    ensures position { IfOk result (λ finding. (offset : ℕ) × IsFaultOffset text.now fault offset
+        × (finding.position ≡ Some (position_in text.now offset))) }
 {
     let offset = offset_of(text, fault);
     let spot = Spot {
