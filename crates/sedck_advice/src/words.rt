@@ -33,42 +33,35 @@ pub(crate) fn word_hint(spot: Spot) -> &'static str {
     match (ends_of(spot), copies_in(spot)) {
         (Ends::Other, _) | (_, Copies::Groups) => GROUPS,
         (Ends::Both, _) if spot.is_counted() => COUNTED,
-        (ends, Copies::Nothing) => new_word_hint(ends),
-        (ends, Copies::Whole) => same_word_hint(ends),
+        (ends, copies) => marked_hint(ends, matches!(copies, Copies::Whole)),
     }
 }
 
-/// For an `s` that doesn't copy the word.
-fn new_word_hint(ends: Ends) -> &'static str {
-    match ends {
-        Ends::Start =>
+/// For an `s` that doesn't copy the word, or that copies it by `&`.
+fn marked_hint(ends: Ends, is_copied: bool) -> &'static str {
+    match (ends, is_copied) {
+        (Ends::Start, false) =>
             "for `s/\\<WORD/NEW/g` write `s/^/\\n/`, `s/\\([^[:alnum:]_]\\)WORD/\\1NEW/g` and `s/^\\n//`; each match of WORD must begin and end \
                 with a letter, a digit or `_`; the first `s` sets the flag that `t` tests; in UTF-8 each byte must \
                 be of a character",
-        Ends::End =>
+        (Ends::End, false) =>
             "for `s/WORD\\>/NEW/g` write `s/$/\\n/`, `s/WORD\\([^[:alnum:]_]\\)/NEW\\1/g` and `s/\\n$//`; each match of WORD must begin and end \
                 with a letter, a digit or `_`; the first `s` sets the flag that `t` tests; in UTF-8 each byte must \
                 be of a character",
-        _ =>
+        (_, false) =>
             "for `s/\\bWORD\\b/NEW/g` write `s/.*/\\n&\\n/`, twice `s/\\([^[:alnum:]_]\\)WORD\\([^[:alnum:]_]\\)/\\1NEW\\2/g`, and \
                 `s/^\\n\\(.*\\)\\n$/\\1/`, if NEW has no such word; without `g` only once; each match of WORD must begin and end with a letter, a \
                 digit or `_`; the first `s` sets the flag that `t` tests; in UTF-8 each byte must \
                 be of a character",
-    }
-}
-
-/// For an `s` that copies it by `&`.
-fn same_word_hint(ends: Ends) -> &'static str {
-    match ends {
-        Ends::Start =>
+        (Ends::Start, true) =>
             "for `s/\\<WORD/X&/g` write `s/^/\\n/`, `s/\\([^[:alnum:]_]\\)\\(WORD\\)/\\1X\\2/g` and `s/^\\n//`; each match of WORD must begin and \
                 end with a letter, a digit or `_`; the first `s` sets the flag that `t` tests; in UTF-8 each byte must \
                 be of a character",
-        Ends::End =>
+        (Ends::End, true) =>
             "for `s/WORD\\>/X&/g` write `s/$/\\n/`, `s/\\(WORD\\)\\([^[:alnum:]_]\\)/X\\1\\2/g` and `s/\\n$//`; each match of WORD must begin and \
                 end with a letter, a digit or `_`; the first `s` sets the flag that `t` tests; in UTF-8 each byte must \
                 be of a character",
-        _ =>
+        (_, true) =>
             "for `s/\\bWORD\\b/X&/` write `s/.*/\\n&\\n/`, `s/\\([^[:alnum:]_]\\)\\(WORD\\)\\([^[:alnum:]_]\\)/\\1X\\2\\3/` and \
                 `s/^\\n\\(.*\\)\\n$/\\1/`; with `g` this leaves out words that share a byte between them; each match of WORD must begin and end \
                 with a letter, a digit or `_`; the first `s` sets the flag that `t` tests; in UTF-8 each byte must \
