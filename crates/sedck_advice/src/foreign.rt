@@ -100,12 +100,20 @@ fn is_left_out(line: &[u8]) -> bool {
 
 /// Whether the line begins with a name of at least two bytes and a `=`, as `prefix=/usr` and `CC := cc`.
 fn is_assignment(line: &[u8]) -> bool {
-    let length = first_name(line).len();
+    let length = name_length(line);
     length > 1 && after_any(skipped(line, length), " :?+").starts_with(b"=")
 }
 
 /// Whether the line begins with a name of at least two bytes and a `:`, as `all: sedck`.
 fn is_target(line: &[u8]) -> bool {
-    let length = first_name(line).len();
+    let length = name_length(line);
     length > 1 && byte_at(line, length) == b':'
+}
+
+/// The length of the name with which the line begins. None begins with a digit, as commands with an address do, such as `1iX=1`.
+fn name_length(line: &[u8]) -> usize {
+    if byte_at(line, 0).is_ascii_digit() {
+        return 0;
+    }
+    first_name(line).len()
 }
