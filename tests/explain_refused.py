@@ -24,7 +24,8 @@ ANY_FLAG = ("does the text have the delimiter? Then use another one, as in `s,a/
 SKIPPED = ("for `0~3d` alone in a script write `n`, `n` and `d`; for `1~2d` write `$d`, `N` and `s/.*\\n//`; for `2~3d` put an `n` before these, "
            "and for `1~3d` after them; "
            "in UTF-8 the `s` stops at a byte that is no character")
-STEPS = "for `0~3p` alone in a script write `n`, `n` and `p`; for `2~5p` write `n`, `p`, `n`, `n` and `n`; the command may not delete"
+STEPS = "for `0~3p` alone in a script write `n`, `n` and `p`; for `2~5p` write `n`, `p`, `n`, `n` and `n`; the " \
+    "command may neither delete, as `c` does, nor read a line"
 GNU = "this extension of GNU sed has no equivalent in POSIX: do it outside the script"
 BYTE = "write the byte itself, but a newline as `\\n`, and the delimiter after a backslash"
 WORD = ("match what is next to the word, in UTF-8 only where each byte is of a character: for `/\\<WORD/p` write `/^WORD/b do`, "

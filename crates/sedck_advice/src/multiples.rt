@@ -31,7 +31,8 @@ pub(crate) fn multiples_hint(before: &[u8], behind: &[u8]) -> Option<&'static st
                 and for `1~3d` after them; in UTF-8 the `s` stops at a byte that is no character",
         ),
         _ => Some(
-            "for `0~3p` alone in a script write `n`, `n` and `p`; for `2~5p` write `n`, `p`, `n`, `n` and `n`; the command may not delete",
+            "for `0~3p` alone in a script write `n`, `n` and `p`; for `2~5p` write `n`, `p`, `n`, `n` and `n`; the \
+                command may neither delete, as `c` does, nor read a line",
         ),
     }
 }
@@ -42,7 +43,8 @@ fn later_hint(verb: u8) -> &'static str {
         return "for `5~2d` alone in a script write `1,4b`, `$d`, `N` and `s/.*\\n//`; for `5~3d` put an `n` after these; in UTF-8 the \
             `s` stops at a byte that is no character";
     }
-    "for `5~2p` alone in a script write `1,4b`, `p` and `n`; for `5~3p` put one more `n` after these; the command may not delete"
+    "for `5~2p` alone in a script write `1,4b`, `p` and `n`; for `5~3p` put one more `n` after these; the \
+        command may neither delete, as `c` does, nor read a line"
 }
 
 /// Where a `!` follows the step.
@@ -52,7 +54,8 @@ fn other_lines_hint(behind: &[u8]) -> &'static str {
         return "for `0~3!d` alone in a script write `$d`, `N`, `$d`, `N` and `s/.*\\n//`; for `1~3!d` write `n`, `$!N` and `d`; in UTF-8 \
             the `s` stops at a byte that is no character";
     }
-    "for `0~3!p` alone in a script write `p`, `n`, `p` and `n`; for `1~3!p` write `n`, `p`, `n` and `p`; the command may not delete"
+    "for `0~3!p` alone in a script write `p`, `n`, `p` and `n`; for `1~3!p` write `n`, `p`, `n` and `p`; the \
+        command may neither delete, as `c` does, nor read a line"
 }
 
 /// The number with which the text begins; 0 where it begins with none.
