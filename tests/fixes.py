@@ -88,7 +88,7 @@ WITHOUT = [
     b"s,[,]\\{1,2\\},x,\n",
     b"s/\xe9*//\n", b"s/\xc3*\xa9//\n", b"s/\xed\xa0\x80*//\n", b"s/\xc0\xaf*//\n", b"s/a\xa9\\{2\\}//\n", b"s\xa9\xc3\xb6*\xa9\xa9\n",
     b"s/^\\+a/x/\n", b"s/\\(\\?a\\)/x/\n", b"s/a*\\+/x/\n", b"s/a\\\\*\\+/x/\n", b"s/a\\+*/x/\n", b"s/a\\?\\{2\\}/x/\n", b"s/a\\+\\?/x/\n", b"s/a\\{2\\}\\?/x/\n", b"s:a\\s::\n", b"s1a\\+1b1\n", b"s{a\\+{b{\n", b"s/[\\d]/x/\n", b"s/a**b/x/\n",
-    b"s/a/b/ I\n", b"s/a/b/g g\n", b"s/a/b/2 3\n", b"y/a/b/ g\n", b"s&a&\\0&\n", b"s,a\\{,2\\},x,\n", b"s/a\\|b/x/\n", b"s/\\bx/y/\n", b"p p\n",
+    b"s/a/b/ I\n", b"s/a/b/g g\n", b"s/a/b/2 3\n", b"y/a/b/ g\n", b"s&a&\\0&\n", b"s,a\\{,2\\},x,\n", b"s/a\\|b/x/\n", b"s/a\\Wb/x/M\n", b"/a\\Wb/IM!d\n", b"s/\\bx/y/\n", b"p p\n",
     b"s/[/[:alpha:]]/x/\n", b"s/[a\\/]/[/]/\n", b"s/[]/]/x/\n", b"s/[^]/]/x/\n", b"s|[|]\\||x|\n", b"s,[,]\\{1\\,2\\},x,\n", b"s/[/]\\//\n", b"s/[/]\n", b"s/[/\n]/x/\n", b"s_[_]_x_\n", b"s/[/],|:@%#;~!=/x/\n",
     b"s/[\xc3\xa9/]/x/\n", b"s/a/\\x41/\n", b"s/e=\\$\\?;/x/\n", b"s,e=\\$\\?;,x,\n", b"#now\np\n", b"a hello\n", b"Q\n", b"/a/{p\n",
 ]

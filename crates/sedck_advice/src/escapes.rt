@@ -18,6 +18,8 @@ pub fn escape_hint(spot: Spot) -> &'static str {
         b'd' if !byte_at(spot.rest, 2).is_ascii_digit() => {
             "if a digit is meant write `[[:digit:]]`"
         }
+        b'W' if spot.is_by_lines() =>
+            "do without the flag `M` first, with which `\\W` matches a newline and `[^[:alnum:]_]` doesn't; then for `\\W` write `[^[:alnum:]_]`",
         escaped => letter_hint(escaped),
     }
 }

@@ -123,7 +123,7 @@ fn escape_mend(spot: Spot) -> Option<Mend> {
         b's' => "[[:space:]]",
         b'S' => "[^[:space:]]",
         b'w' => "[[:alnum:]_]",
-        b'W' => "[^[:alnum:]_]",
+        b'W' if !spot.is_by_lines() => "[^[:alnum:]_]",
         _ => return None,
     };
     Some(replaced(2, text))

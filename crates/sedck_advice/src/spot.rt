@@ -105,6 +105,16 @@ impl<'a> Spot<'a> {
         is_written || has_one_of(self.plain_flags(), "p")
     }
 
+    /// Whether the expression has the flag `M` of GNU sed, with which a list such as `[^x]` matches no newline.
+    pub(crate) fn is_by_lines(self) -> bool {
+        if self.is_replaced() {
+            return has_one_of(self.plain_flags(), "Mm");
+        }
+        let behind = self.after_expression();
+        let length = behind.len().saturating_sub(after_any(behind, "IM").len());
+        has_one_of(first_bytes(behind, length), "M")
+    }
+
     /// The replacement of that `s`.
     pub(crate) fn replacement(self) -> &'a [u8] {
         let behind = self.after_expression();
