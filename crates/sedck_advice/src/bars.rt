@@ -9,18 +9,17 @@ pub(crate) fn bar_hint(spot: Spot) -> &'static str {
         return group_hint(spot);
     }
     match spot.purpose() {
-        Purpose::ReplacesAll | Purpose::Replaces if spot.is_meant_later() => AGAIN,
+        Purpose::Range =>
+            "a range needs one expression, as `[ab]` for `a\\|b` or `xa\\{0,1\\}` for `x\\|xa`",
+        _ if spot.is_meant_later() => AGAIN,
         Purpose::ReplacesAll if spot.is_counted() => ONCE,
         Purpose::ReplacesAll if spot.is_reported() => APART,
         Purpose::ReplacesAll =>
             "for `s/a\\|b/x/g` write `s/a/x/g` and `s/b/x/g`, if each match has a byte, and none of one overlaps or makes a match of the other",
         Purpose::Replaces => ONCE,
-        Purpose::Range =>
-            "a range needs one expression, as `[ab]` for `a\\|b` or `xa\\{0,1\\}` for `x\\|xa`",
         Purpose::Unless =>
             "for `/a\\|b/!d` write `/a/b keep`, `/b/b keep`, `d` and `:keep` on lines of their own",
         Purpose::Deletes => "for `/a\\|b/d` write `/a/d` and `/b/d`",
-        Purpose::Selects if spot.is_used_again() => AGAIN,
         Purpose::Selects =>
             "for `/a\\|b/p` write `/a/b do`, `/b/b do`, `b on`, `:do`, `p` and `:on` on lines of their own",
     }
@@ -51,13 +50,13 @@ fn group_hint(spot: Spot) -> &'static str {
         Purpose::Range =>
             "write `\\([ab]\\)` for `\\(a\\|b\\)`, `\\(64\\)\\{0,1\\}` for `\\(\\|64\\)` and `\\(\\.[ch]\\)` for `\\(\\.c\\|\\.h\\)`: a range \
                 needs one expression",
+        _ if spot.is_meant_later() => ALTERNATIVES_AGAIN,
         Purpose::Unless =>
             "write `\\([ab]\\)` for `\\(a\\|b\\)`, `\\(64\\)\\{0,1\\}` for `\\(\\|64\\)` and `\\(\\.[ch]\\)` for `\\(\\.c\\|\\.h\\)`; otherwise \
                 for `/x\\(ab\\|cd\\)/!d` write `/xab/b keep`, `/xcd/b keep`, `d` and `:keep` on lines of their own",
         Purpose::Deletes =>
             "write `\\([ab]\\)` for `\\(a\\|b\\)`, `\\(64\\)\\{0,1\\}` for `\\(\\|64\\)` and `\\(\\.[ch]\\)` for `\\(\\.c\\|\\.h\\)`; otherwise \
                 write one command for each alternative",
-        Purpose::Selects if spot.is_used_again() => AGAIN,
         Purpose::Selects =>
             "write `\\([ab]\\)` for `\\(a\\|b\\)`, `\\(64\\)\\{0,1\\}` for `\\(\\|64\\)` and `\\(\\.[ch]\\)` for `\\(\\.c\\|\\.h\\)`; otherwise \
                 for `/x\\(ab\\|cd\\)/p` write `/xab/b do`, `/xcd/b do`, `b on`, `:do`, `p` and `:on` on lines of their own",
@@ -76,9 +75,6 @@ const ALTERNATIVES_AGAIN: &str =
 
 /// For `\|` in a group of an `s`.
 fn replaced_hint(spot: Spot) -> &'static str {
-    if spot.is_meant_later() {
-        return ALTERNATIVES_AGAIN;
-    }
     let made = spot.replacement();
     let is_last = spot.rest.starts_with(b"\\|$\\)")
         && byte_at(spot.rest, 5) == spot.delimiter()

@@ -1,7 +1,7 @@
 //! What is around a fault, as far as a hint depends on it.
 
 use crate::bytes::{
-    DIGITS, after_any, before_any, byte_at, ends_escaped, first_bytes, has, has_one_of, is_among,
+    DIGITS, after_any, before_any, byte_at, ends_escaped, first_bytes, has_one_of, is_among,
     without_blanks,
 };
 use sedck_parts::{Place, Reading};
@@ -130,20 +130,41 @@ impl<'a> Spot<'a> {
         matches!(self.purpose(), Purpose::Replaces | Purpose::ReplacesAll)
     }
 
-    /// Whether an `s` with an empty expression comes right after the address in which the fault is.
-    pub(crate) fn is_used_again(self) -> bool {
-        after_any(self.after_expression(), " \t\n;{").starts_with(b"s//")
-    }
-
-    /// Whether a later command seems to have an empty expression, which means another one where several commands come in place of the `s`.
+    /// Whether a later command has an empty expression that may stand for this one, and for another one where several commands come in
+    /// its place. One right behind another expression stands for that.
     pub(crate) fn is_meant_later(self) -> bool {
-        let behind = self.flags();
-        for start in EMPTY_STARTS {
-            if has(behind, start) {
-                return true;
+        let (mut reading, behind) = self.from_end();
+        let mut is_empty = true;
+        let mut is_behind_other = false;
+        for byte in behind {
+            let was_inside = reading.is_in_expression();
+            reading = reading.after(*byte);
+            let is_inside = reading.is_in_expression();
+            if was_inside && !is_inside {
+                if is_empty && !is_behind_other {
+                    return true;
+                }
+                is_behind_other = true;
+                is_empty = true;
+            } else if was_inside {
+                is_empty = false;
+            } else if !is_inside && !is_among(*byte, BETWEEN) {
+                is_behind_other = false;
             }
         }
         false
+    }
+
+    /// A reader behind the expression, or behind the whole `s` that it is of, and what is there.
+    fn from_end(self) -> (Reading, &'a [u8]) {
+        if self.is_replaced() {
+            let reading = Reading {
+                place: Place::Flags,
+                ..Reading::SCRIPT
+            };
+            return (reading, self.flags());
+        }
+        (Reading::SCRIPT, self.after_expression())
     }
 
     /// The script from the byte after the fault's first one on.
@@ -183,10 +204,8 @@ impl<'a> Spot<'a> {
     }
 }
 
-/// How a command with an empty expression may begin.
-static EMPTY_STARTS: &'static [&'static str] = &[
-    "\n//", ";//", "{//", "\ns//", ";s//", "{s//", "!s//",
-];
+/// What may be between an expression and one right behind it, as in `/x/,5!{`, `s//y/`.
+const BETWEEN: &str = " \t\n;{!,$0123456789\\s";
 
 /// The flags of `s` but for `w`, with those of GNU sed, and blanks.
 const PLAIN_FLAGS: &str = "0123456789gpIiMme \t";

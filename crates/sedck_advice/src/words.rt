@@ -71,6 +71,9 @@ fn marked_hint(ends: Ends, is_copied: bool) -> &'static str {
 
 /// For an address.
 pub(crate) fn next_to_word(spot: Spot) -> &'static str {
+    if spot.is_meant_later() {
+        return AGAIN;
+    }
     match spot.purpose() {
         Purpose::Range =>
             "match what is next to the word, in UTF-8 only where each byte is of a character: \
@@ -86,7 +89,6 @@ pub(crate) fn next_to_word(spot: Spot) -> &'static str {
                 for `/\\<WORD/!d` write `/^WORD/b keep`, `/[^[:alnum:]_]WORD/b keep`, `d` and `:keep` on lines of \
                 their own; for `/WORD\\>/!d` write `/WORD$/b keep`, `/WORD[^[:alnum:]_]/b keep`, `d` and `:keep`; for both ends the four pairs of \
                 these; each match of WORD must begin and end with a letter, a digit or `_`",
-        _ if spot.is_used_again() => AGAIN,
         _ => "match what is next to the word, in UTF-8 only where each byte is of a character: \
                 for `/\\<WORD/p` write `/^WORD/b do`, `/[^[:alnum:]_]WORD/b do`, `b on`, `:do`, `p` and `:on` on lines \
                 of their own; for `/WORD\\>/p` write `/WORD$/b do`, `/WORD[^[:alnum:]_]/b do`, `b on`, `:do`, `p` and `:on`; for both ends the four \
@@ -104,7 +106,7 @@ pub(crate) const COUNTED: &str =
 
 /// For `\B`.
 pub(crate) fn inner_hint(spot: Spot) -> &'static str {
-    if !spot.is_replaced() && spot.is_used_again() {
+    if spot.is_meant_later() {
         return AGAIN;
     }
     if !spot.is_replaced() {
