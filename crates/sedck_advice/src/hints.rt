@@ -129,10 +129,11 @@ fn is_turned_test(spot: Spot) -> bool {
     let branch = without_blanks(behind_command(spot.rest));
     let label = without_blanks(behind_command(branch));
     let wanted = without_blanks(skipped(first_command(spot.rest), 1));
-    let found = without_blanks(label.strip_prefix(b":").unwrap_or(label));
-    let is_behind = first_command(found) == wanted;
-    let is_last = first_command(label).len() == label.len();
-    has_no_address(spot) && branch.starts_with(b"b") && is_behind && (!wanted.is_empty() || is_last)
+    let is_behind = match label.strip_prefix(b":") {
+        Some(name) => first_command(without_blanks(name)) == wanted,
+        None => label.is_empty() && wanted.is_empty(),
+    };
+    has_no_address(spot) && branch.starts_with(b"b") && is_behind
 }
 
 /// Whether nothing is before the command in its line or block, or only another command.
