@@ -1,7 +1,7 @@
 //! What to write in place of an escape of an expression that is refused.
 
 use crate::bars::bar_hint;
-use crate::bytes::{byte_at, ends_escaped};
+use crate::bytes::{byte_at, ends_escaped, is_among};
 use crate::spot::Spot;
 use crate::words::{inner_hint, word_hint};
 
@@ -11,6 +11,7 @@ pub fn escape_hint(spot: Spot) -> &'static str {
         return list_escape_hint(spot.rest);
     }
     match byte_at(spot.rest, 1) {
+        escaped if spot.is_by_lines() && is_among(escaped, "Wb<>B`'") => BY_LINES,
         b'+' | b'?' => repeat_hint(spot),
         b'|' => bar_hint(spot),
         b'B' => inner_hint(spot),
@@ -18,11 +19,14 @@ pub fn escape_hint(spot: Spot) -> &'static str {
         b'd' if !byte_at(spot.rest, 2).is_ascii_digit() => {
             "if a digit is meant write `[[:digit:]]`"
         }
-        b'W' if spot.is_by_lines() =>
-            "do without the flag `M` first, with which `\\W` matches a newline and `[^[:alnum:]_]` doesn't; then for `\\W` write `[^[:alnum:]_]`",
         escaped => letter_hint(escaped),
     }
 }
+
+/// Beside the flag `M`, with which what the escape becomes would mean something else.
+const BY_LINES: &str =
+    "do without the flag `M` first: match `\\n` where `^` or `$` is at an end of a line inside, and write `[^\\n]` for `.` and `[^x\\n]` for `[^x]`; \
+        then this escape has a hint";
 
 const PLAIN: &str = "write the character without the backslash, or in a bracket list, as in `[%]`";
 
@@ -52,6 +56,8 @@ fn list_escape_hint(rest: &[u8]) -> &'static str {
         b'x' if digit.is_ascii_hexdigit() => BYTE_IN_LIST,
         b'd' =>
             "if a digit is meant write `[[:digit:]]`; GNU sed reads this as a `d`; for a backslash and a `d` write `[\\\\d]`",
+        b'o' | b'x' =>
+            "GNU sed reads this as the letter alone: for a backslash and the letter write two backslashes, as in `[\\\\x]`",
         _ =>
             "GNU sed turns `\\c` and what follows into one byte: for a backslash and the letter write two backslashes, as in `[\\\\c]`",
     }
