@@ -122,9 +122,6 @@ NONE = [
     (b"CC := cc\n", "this looks like a shell script or a makefile"),
     (b"sed -n 's/a/b/p' x\n", "this looks like a shell script or a makefile"),
     (b"prog: prog.c\n\tcc prog.c\n", "this looks like a makefile"),
-    # Commands whose first address is the number of a line.
-    (b"1iprefix=/usr\ns/a\\+/b/\n", "POSIX defines no such escape"),
-    (b"1aall: prog\n\ts/a\\+/b/\n", "POSIX defines no such escape"),
 ]
 
 

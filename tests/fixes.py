@@ -33,6 +33,9 @@ ROWS = [
     ("blanks before g and a number", b"s/a/b/2 \t g\n", b"s/a/b/2g\n", WORDS),
     ("blank before a file's name", b"s/a/b/ w out\n", b"s/a/b/w out\n", WORDS),
     ("plus", b"s/a\\+b/x/\n", b"s/a\\{1,\\}b/x/\n", WORDS),
+    # Neither begins with a name of a shell or of make.
+    ("plus behind a text in the first line", b"1iprefix=/usr\ns/a\\+/b/\n", b"1iprefix=/usr\ns/a\\{1,\\}/b/\n", WORDS),
+    ("plus behind a text in the first line, and a tab", b"1aall: prog\n\ts/a\\+/b/\n", b"1aall: prog\n\ts/a\\{1,\\}/b/\n", WORDS),
     ("plus in an address", b"/^a\\+$/d\n", b"/^a\\{1,\\}$/d\n", WORDS),
     ("question mark behind a group", b"s/\\(aa\\)\\?b/x/g\n", b"s/\\(aa\\)\\{0,1\\}b/x/g\n", WORDS),
     ("plus behind a star that is a byte", b"s/b\\*\\+/x/\n", b"s/b\\*\\{1,\\}/x/\n", WORDS),
