@@ -239,7 +239,7 @@ ROWS = [
     ("Makefile", [], "all:\n\tx=$$(echo $$(sed 's/a/b\\\n/' f))\n\t: '$$(' ; sed 's/a/b\\\n/' f\n\tx=\"$$(sed 's/a/b/ \\\n\t;p' f)\"\n", 5,
      [("2:15", IF, ["s/a/bx/", "f"]), ("4:12", IF, ["s/a/bx/", "f"]), ("6:8", A, ["s/a/b/ ;p", "f"])]),
     # Another program than a shell may run the recipes.
-    ("Makefile", [], "SHELL := /bin/bash -e\nall: SHELL = $(X)\nall:\n\tSHELL=perl sed p f\n", 0, [("4:13", A, ["p", "f"])]),
+    ("Makefile", [], "SHELL := /bin/bash -e\nall: SHELL = $(CONFIG_SHELL)\nall:\n\tSHELL=perl sed p f\n", 0, [("4:13", A, ["p", "f"])]),
     # Dockerfiles, files of continuous integration, spec files, sources of Autoconf.
     ("Dockerfile", [], "FROM a\nRUN a && \\\n    # b\n    sed -i 's/a/b/' f\nRUN [\"sed\", \"p\"]\n", 0, [("4:5", A, ["-i", "s/a/b/", "f"]), ("5:6", A, ["p"])]),
     ("Dockerfile", [], 'FROM a\nRUN ["sed", "-n", "s/a b/$x*/", "f", \\\n "~"]\nCMD [ "sh" , "-c" , "sed p f" ]\nHEALTHCHECK CMD ["sed","d","$f"]\n', 0,
@@ -649,6 +649,22 @@ UNREAD = [
     ("Makefile", "define T\nall:\n\tsed 's/x$$//' f\n\tx=$$(sed p f)\nendef\n$(eval $(T))\n", ["3:2", "4:7"]),
     ("Makefile", "all: export SHELL = /usr/bin/python3 # x\nall:\n\tsed p f\nX := $(shell sed d f)\n", ["3:2", "4:14"]),
     ("Makefile", "SHELL != command -v zsh\nall:\n\tsed p f\n", ["3:2"]), ("Makefile", "SHELL := $(shell command -v bash)\nall:\n\tsed p f\n", []),
+    # A shell that is known only by variables, or that `define` or `$(eval ..)` sets.
+    ("Makefile", "Z = zsh\nSHELL = $(Z)\nall:\n\tsed p f\n", ["4:2"]), ("Makefile", "SHELL = $(Z)\nall:\n\tsed p f\n", ["3:2"]), ("Makefile", "Z = bash\nSHELL = $(Z)\nall:\n\tsed p f\n", []),
+    ("Makefile", "Z = bash\nZ = python3\nSHELL = $(Z)\nall:\n\tsed p f\n", ["5:2"]), ("Makefile", "all: SHELL = $(Z)\nall:\n\tsed p f\n", ["3:2"]), ("Makefile", "SHELL = @SHELL@\nall:\n\tsed p f\n", []),
+    ("Makefile", "define SHELL\nzsh\nendef\nall:\n\tsed p f\n", ["5:2"]), ("Makefile", "define SHELL\n/bin/bash\nendef\nall:\n\tsed p f\n", []),
+    ("Makefile", "$(eval SHELL = zsh)\nall:\n\tsed p f\n", ["3:2"]), ("Makefile", "$(eval SHELL := /bin/sh)\nall:\n\tsed p f\n", []),
+    # The name of a sed that make puts together, or takes out of a value.
+    ("Makefile", "S = $(join se,d)\nall:\n\t$(S) p f\n", ["3:2"]), ("Makefile", "all: S = $(join se,d)\nall:\n\t$(S) p f\n", ["3:2"]), ("Makefile", "S = $(join ca,t)\nall:\n\t$(S) p f\n", []),
+    ("Makefile", "all:\n\t$(x_$(Y)SED) p f\n", ["2:2"]), ("Makefile", "x_yS = sed\nall:\n\t$(x_$(Y)S) p f\n", ["3:2"]), ("Makefile", "x_yT = cat\nall:\n\t$(x_$(Y)T) p f\n", []),
+    ("Makefile", "T = /usr/bin/sed\nall:\n\t$(notdir $(T)) p f\n", ["3:2"]), ("Makefile", "T = cat\nall:\n\t$(notdir $(T)) p f\n", []),
+    ("Makefile", "E = ed\nall:\n\ts$(E) p f\n\tcommand s$(E) p f\n", ["3:2", "4:10"]), ("Makefile", "E = at\nall:\n\tc$(E) p f\n", []),
+    ("Makefile", "X = sed\nall:\n\t$(value X) p f\n", ["3:2"]), ("Makefile", "Y = sed\nX = $(value Y)\nall:\n\t$(X) p f\n", ["4:2"]),
+    # Names of variables for others, tables, and parts of values in shells.
+    ("a.ksh", "nameref n=x; x=sed; $n p f\n", ["1:21"]), ("a.bash", "declare -n n=x; x=sed; $n p f\n", ["1:24"]), ("a.bash", "typeset -n n=x; x=sed; command $n p f\n", ["1:32"]),
+    ("a.bash", "f() { local -n n=$1; $n p f; }; x=sed; f x\n", ["1:22"]), ("a.bash", "declare -n n=x; x=cat; $n p f\n", []),
+    ("a.bash", "declare -A T; T[s]=sed; ${T[s]} p f\n", ["1:25"]), ("a.bash", "T[1]=cat; ${T[1]} p f\n", []),
+    ("a.sh", "x=/bin/sed; y=$(basename $x); $y p f\n", ["1:31"]), ("a.sh", "x=/bin/cat; y=$(basename $x); $y p f\n", []), ("a.sh", "x=se; ${x}d p f\n", ["1:7"]),
     ("a.spec", "%post -p /usr/bin/zsh\nsed p f\n%pre -p /bin/bash\nsed p f\n%preun -p /usr/bin/fish\nsed p f\n%postun -p <lua>\nos.execute('sed p f')\n%posttrans -p /sbin/ldconfig\n", ["2:1", "6:1", "8:13"]),
     ("Dockerfile", "FROM a\nSHELL [\"/bin/zsh\", \"-c\"]\nRUN sed p f\nFROM b\nRUN sed p f\n", ["3:5"]),
     ("Dockerfile", "FROM a\nRUN sh <<E\"O\"F\nsed ':x;bx' f\nEOF\nRUN sed p f\n", ["3:1"]),

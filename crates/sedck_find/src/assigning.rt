@@ -14,7 +14,8 @@ use sedck_shell::{Pattern, ShellCommand, ShellWord};
 #[derive(Clone, Copy)]
 enum Utility {
     /// Assignments to variables of the shell, where others stay as they are, or to variables of its own.
-    Declaring { is_own: bool },
+    /// Names that refer to other variables may be among the latter.
+    Declaring { is_own: bool, refers: bool },
     /// Variables that it is given by their names.
     Setting,
     /// One that is the first operand ..
@@ -38,8 +39,27 @@ enum Utility {
 }
 
 static UTILITIES: &'static [(Utility, &'static str)] = &[
-    (Utility::Declaring { is_own: false }, "export readonly"),
-    (Utility::Declaring { is_own: true }, "local declare typeset"),
+    (
+        Utility::Declaring {
+            is_own: false,
+            refers: false,
+        },
+        "export readonly",
+    ),
+    (
+        Utility::Declaring {
+            is_own: true,
+            refers: false,
+        },
+        "local declare typeset",
+    ),
+    (
+        Utility::Declaring {
+            is_own: true,
+            refers: true,
+        },
+        "nameref",
+    ),
     (Utility::Setting, "read unset mapfile readarray"),
     (Utility::SettingFirst, "for select"),
     (Utility::SettingSecond, "getopts"),
@@ -139,7 +159,7 @@ impl Names<'_> {
             Utility::Hashing => Ok(self.note_hashed(operands)),
             // There variables are make's.
             _ if self.is_make() => Ok(()),
-            Utility::Declaring { is_own } => self.note_declared(operands, is_own),
+            Utility::Declaring { is_own, refers } => self.note_declared(operands, is_own, refers),
             Utility::Setting => self.note_names(operands),
             Utility::SettingFirst => self.note_loop(operands),
             Utility::SettingSecond => self.note_names(second),
@@ -187,7 +207,8 @@ impl Names<'_> {
             _ => None,
         };
         let name = known_bytes(self.alloc, name)?;
-        self.note(&name, value, is_sed)
+        self.note(&name, value, is_sed)?;
+        self.note_begin(&name, after(&word.units, b'=').unwrap_or(&[]))
     }
 
     /// A value, if the file has each of its bytes, or has a variable in its place.
@@ -241,16 +262,22 @@ impl Names<'_> {
             let is_value = word.pattern == Pattern::None && !has_hole(&word.units);
             let value = self.written_value(&word.units)?.filter(|_| is_value);
             self.note(&name, value, self.begins_with_sed(&word.units))?;
+            self.note_begin(&name, &word.units)?;
         }
         Ok(())
     }
 
     /// Notes the operands of a utility that declares variables. An option may change values; `-n` makes a name refer to another one.
-    fn note_declared(&mut self, operands: &[ShellWord], is_own: bool) -> Result<()> {
-        let mut stands = true;
+    fn note_declared(&mut self, operands: &[ShellWord], is_own: bool, refers: bool) -> Result<()> {
+        let mut stands = !refers;
+        let mut refers = refers;
         for word in operands {
             let units = word.units.as_slice();
             let name = variable_of(units);
+            refers = refers || (is_own && has_letter(units, "n"));
+            if refers && !is_option(units) {
+                self.note_reference(word)?;
+            }
             if is_option(units) {
                 stands = stands && is_word_in(units, "-x -r");
             } else if name.is_empty() || begins_open(rest(units, name.len())) {
@@ -268,6 +295,17 @@ impl Names<'_> {
         }
         if is_own && !stands {
             self.note_open(operands.first().map_or(0, |word| word.start));
+        }
+        Ok(())
+    }
+
+    /// Notes that the name refers to another one, if that is in the word; it may also be set later, to any.
+    fn note_reference(&mut self, word: &ShellWord) -> Result<()> {
+        let target = variable_of(after(&word.units, b'=').unwrap_or(&[]));
+        for name in [variable_of(&word.units), target] {
+            let name = known_bytes(self.alloc, name)?;
+            self.refers_to_sed |= is_sed_variable(&name);
+            self.references.insert(name, ())?;
         }
         Ok(())
     }

@@ -5,7 +5,7 @@ use crate::found::{
     Assumptions, Followed, Found, FoundCall, FoundScript, KnownValue, OpenHole, Role, Unknown,
 };
 use crate::macros::Macros;
-use crate::mentions::{editor_in, mention_in};
+use crate::mentions::{call_in, editor_in, mention_in};
 use crate::names::Names;
 use crate::overwriting::{overwritten_by, runs_elsewhere};
 use crate::parts::{Part, Runner, parts_of};
@@ -71,6 +71,9 @@ pub fn calls_in<'a>(
         open: None,
         may_fix_locale: false,
         functions: BTreeMap::new(alloc),
+        references: BTreeMap::new(alloc),
+        refers_to_sed: false,
+        shells: Vec::new(alloc),
         settings: settings_of(alloc, file)?,
         macros: Macros::of(alloc, kind, file)?,
         lines: line_starts(alloc, file)?,
@@ -93,17 +96,20 @@ fn read_file(names: Names<'_>) -> Result<Texts<'_>> {
         inner: Vec::new(alloc),
         left: file.len().saturating_mul(4),
         unread: Vec::new(alloc),
+        mentions: Vec::new(alloc),
     };
     match kind {
         Kind::Shell => texts.read(Text::Whole(file), false)?,
         _ => read_host(&mut texts)?,
     }
     texts.read_inner()?;
-    if kind != Kind::Make {
-        texts.names.note_expansions()?;
+    match kind {
+        Kind::Make => texts.names.note_evaluated_shells()?,
+        _ => texts.names.note_expansions()?,
     }
     texts.names.is_read = true;
     texts.names.build_values()?;
+    texts.names.mark_made()?;
     Ok(texts)
 }
 
@@ -130,6 +136,14 @@ fn found_in(texts: &Texts<'_>) -> Result<Found> {
         }
         add_mentions(&mut unread, names, held, &parts)?;
     }
+    // Texts that no shell of POSIX's may run aren't understood.
+    if names.has_foreign_shell()? {
+        for call in &calls {
+            unread.push(call.start)?;
+        }
+        unread.extend_from_slice(&texts.mentions)?;
+        calls = Vec::new(names.alloc);
+    }
     calls.sort_by_key(|call| call.start)?;
     unread.sort()?;
     unread.dedup();
@@ -153,6 +167,7 @@ fn read_host(texts: &mut Texts<'_>) -> Result<()> {
     let host = host_of(texts.names.alloc, texts.names.kind, texts.names.file)?;
     texts.unread.extend_from_slice(&host.unread)?;
     for text in &host.texts {
+        texts.mentions.extend(call_in(text))?;
         texts.read(Text::Units(text), false)?;
     }
     for assignment in &host.assignments {
@@ -171,6 +186,9 @@ fn read_assignment(texts: &mut Texts<'_>, assignment: &Assignment) -> Result<()>
     };
     let is_sed = names.begins_with_sed(&assignment.value);
     names.note(&assignment.name, value, is_sed)?;
+    names.note_begin(&assignment.name, &assignment.value)?;
+    names.note_shell(assignment)?;
+    texts.mentions.extend(call_in(&assignment.value))?;
     texts.read(Text::Units(&assignment.value), true)
 }
 

@@ -1,12 +1,13 @@
 //! What may call sed where no call is found: words of a command that is unknown, texts that it may run, and values that others run.
 
 use crate::assigning::is_assignment;
+use crate::made::makes_sed;
 use crate::names::Names;
 use crate::parts::{Part, Runner};
 use crate::programs::{LONGEST, Program, is_sed_path, is_sed_word};
 use crate::units::{
-    after, begins_name, has_any, has_hole, hole_of, is_letters, is_one_in, is_option, is_word_in,
-    last_part, lone_hole, rest, variable_of,
+    after, begins_name, has_any, hole_of, is_letters, is_option, is_word_in, last_part, lone_hole,
+    rest, variable_of,
 };
 use crate::values::Value;
 use sedck_origin::{Result, Unit, begins_with, byte_at, hole_name, is_name_byte, is_text};
@@ -28,10 +29,6 @@ const EDITORS: &str = "EDITOR VISUAL FCEDIT PAGER BROWSER LESSOPEN GIT_EDITOR \
     GIT_SEQUENCE_EDITOR GIT_PAGER MANPAGER SUDO_EDITOR SYSTEMD_EDITOR KUBE_EDITOR SVN_EDITOR \
     HGEDITOR PROMPT_COMMAND GIT_EXTERNAL_DIFF functions aliases galiases saliases BASH_ALIASES";
 
-/// Functions of make's that put texts together, or choose one.
-const JOINING: &str = "join addprefix addsuffix subst patsubst word wordlist firstword lastword \
-    filter sort value";
-
 /// The offset of what may call sed in this part of a command, where it is none of a sed. In prose, and in a value of make's, a word after
 /// the name of a sed must look like an option or a script.
 pub(crate) fn mention_in(names: &Names<'_>, part: &Part, is_strict: bool) -> Result<Option<usize>> {
@@ -48,7 +45,7 @@ pub(crate) fn mention_in(names: &Names<'_>, part: &Part, is_strict: bool) -> Res
     let Program::Other = part.program else {
         return Ok(None);
     };
-    if has_value(names, &name.units) || (!others.is_empty() && names_sed(names, &name.units)) {
+    if has_value(names, &name.units) || (!others.is_empty() && makes_sed(names, &name.units)?) {
         return Ok(Some(name.start));
     }
     Ok(text_in(name, open, is_word_in(called, RUNNING)))
@@ -63,8 +60,9 @@ fn word_in(names: &Names, words: &[ShellWord], runner: Runner, is_strict: bool) 
             None => runner == Runner::Adding,
         };
         let is_sed = is_called && is_sed_word(names, &word.units);
-        let is_value = lone_hole(&word.units).is_some_and(|hole| hole.way.is_split());
-        if is_sed || (is_value && has_value(names, &word.units)) {
+        let hole = lone_hole(&word.units).filter(|hole| hole.way.is_split());
+        let is_made = is_called && hole.is_some_and(|hole| names.is_made_at(hole));
+        if is_sed || is_made || (hole.is_some() && has_value(names, &word.units)) {
             return Some(word.start);
         }
     }
@@ -114,38 +112,6 @@ pub(crate) fn editor_in(words: &[ShellWord]) -> Option<usize> {
     let runs_sed = |units: &[Unit]| has_call(units) || after(units, b'=').is_some_and(is_sed_path);
     let editor = assignments.find(|word| is_editor(&word.units) && runs_sed(&word.units));
     editor.map(|word| word.start)
-}
-
-/// Whether a name that is unknown has `sed` written in it: after its holes, or in the place of one.
-fn names_sed(names: &Names<'_>, units: &[Unit]) -> bool {
-    let end = rest(units, units.len().saturating_sub(3));
-    let mut holes = units.iter().take(LONGEST).filter_map(hole_of);
-    let is_in_hole = holes.any(|hole| {
-        let written = names.written_hole(hole);
-        let written = written.get(..LONGEST).unwrap_or(written);
-        writes_sed(written) || makes_sed(names, written)
-    });
-    is_in_hole || (has_hole(units) && begins_with(end, "sed"))
-}
-
-/// Whether the name of a sed may be made in place of what is written: by a function of make's that has its letters, or by a variable that has
-/// other bytes than letters in its name, as `$(do-subst)`; in ksh by a variable in a variable, and in bash by one that has another's name.
-fn makes_sed(names: &Names<'_>, written: &[u8]) -> bool {
-    let inner = rest(written, 2);
-    let name = hole_name(written).unwrap_or(&[]);
-    let others = rest(inner, name.len());
-    if !names.is_make() {
-        return written.starts_with(b"${") && (inner.starts_with(b"!") || others.starts_with(b"."));
-    }
-    let end = inner.iter().position(|byte| b": \t$)}".contains(byte));
-    let used = inner.get(..end.unwrap_or(0)).unwrap_or(&[]);
-    names.may_be_sed(used) || (is_one_in(name, JOINING) && has_letters_of_sed(others))
-}
-
-/// Whether a text without references has the letters of that name, or another one has it in one piece.
-fn has_letters_of_sed(text: &[u8]) -> bool {
-    let is_plain = !text.contains(&b'$') && b"sed".iter().all(|letter| text.contains(letter));
-    is_plain || text.windows(3).any(|part| part == b"sed".as_slice())
 }
 
 /// Whether the file sets a variable of these units to a value that has a call of sed.
@@ -215,7 +181,13 @@ fn begins_call(units: &[Unit], index: usize) -> bool {
 
 /// Whether the units have `sed` as a word, with a blank after it.
 fn has_call(units: &[Unit]) -> bool {
-    (0..units.len()).any(|index| begins_call(units, index))
+    call_in(units).is_some()
+}
+
+/// The offset of the first `sed` among the units that is a word, with a blank after it.
+pub(crate) fn call_in(units: &[Unit]) -> Option<usize> {
+    let place = (0..units.len()).find(|index| begins_call(units, *index))?;
+    units.get(place).map(|unit| unit.start())
 }
 
 /// Whether the value has `sed` as a word, which may be the last one.

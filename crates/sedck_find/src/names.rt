@@ -20,6 +20,10 @@ pub(crate) struct Fact {
     pub are_all: bool,
     /// Whether a value that it is given somewhere begins with the name of a sed.
     pub is_sed: bool,
+    /// Whether it may have that of one which is put together.
+    pub is_made: bool,
+    /// How its values begin that begin with what is unknown.
+    pub open_words: Vec<Vec<Unit>>,
 }
 
 /// What is known of the variables of a file.
@@ -41,6 +45,12 @@ pub(crate) struct Names<'a> {
     pub may_fix_locale: bool,
     /// The names of functions and of aliases.
     pub functions: BTreeMap<Vec<u8>, ()>,
+    /// The names that refer to other variables, and those of the latter.
+    pub references: BTreeMap<Vec<u8>, ()>,
+    /// Whether one of them has a sed by its own name.
+    pub refers_to_sed: bool,
+    /// Where a makefile sets its shell to what isn't all written there.
+    pub shells: Vec<Hole>,
     pub settings: Settings,
     pub macros: Macros<'a>,
     /// The offset of each line's first byte.
@@ -56,6 +66,8 @@ impl<'a> Names<'a> {
                 values: Vec::new(self.alloc),
                 are_all: true,
                 is_sed: false,
+                is_made: false,
+                open_words: Vec::new(self.alloc),
             };
             self.facts.insert(Vec::from_slice(self.alloc, name)?, fact)?;
         }
@@ -69,8 +81,9 @@ impl<'a> Names<'a> {
         };
         let value = Value::new(self.alloc, units);
         let is_new = !fact.values.iter().any(|one| one.is_same(&value, file));
-        fact.are_all = fact.are_all && (!is_new || fact.values.len() < MOST);
-        if is_new && fact.are_all {
+        let has_room = fact.values.len() < MOST;
+        fact.are_all = fact.are_all && (!is_new || has_room);
+        if is_new && has_room {
             fact.values.push(value)?;
         }
         Ok(())
@@ -143,6 +156,19 @@ impl<'a> Names<'a> {
         let are_whole = fact.are_all && !fact.values.iter().any(|one| one.has_hole);
         let is_known = self.is_read && are_whole && !is_other && !may_split;
         is_known.then_some(fact.values.as_slice())
+    }
+
+    /// The values of the variable that are known; none where these aren't all of them, if they must be.
+    pub fn written_values(&self, name: &[u8], must_be_all: bool) -> &[Value] {
+        let mut assumed = self.assumed.variables.iter();
+        if let Some(place) = assumed.position(|one| one.name == name) {
+            let given = self.given.get(place..place.saturating_add(1));
+            return given.unwrap_or(&[]);
+        }
+        match self.facts.get(name) {
+            Some(fact) if fact.are_all || !must_be_all => fact.values.as_slice(),
+            _ => &[],
+        }
     }
 
     /// The value that replaces the hole in all cases.

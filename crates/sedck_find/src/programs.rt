@@ -78,7 +78,7 @@ static PROGRAMS: &'static [(Program, &'static str)] = &[
 ];
 
 /// The names of seds.
-const SEDS: &str = "sed gsed ssed";
+pub(crate) const SEDS: &str = "sed gsed ssed";
 
 /// The names of variables that have the path of a shell.
 const SHELL_VARIABLES: &str = "SHELL CONFIG_SHELL BASH POSIX_SHELL";

@@ -49,6 +49,8 @@ pub(crate) struct Texts<'a> {
     pub left: usize,
     /// The offsets of what isn't understood.
     pub unread: Vec<usize>,
+    /// Where the texts of a file that isn't a shell script may call sed, whatever runs them.
+    pub mentions: Vec<usize>,
 }
 
 impl Texts<'_> {
@@ -211,8 +213,14 @@ fn may_call(words: &[ShellWord]) -> bool {
     words.iter().any(|word| {
         let next = rest(&word.units, 1);
         let is_open = begins_open(&word.units) && (next.is_empty() || begins_open(next));
-        is_open || word.units.windows(3).any(|part| is_text(part, "sed"))
+        is_open || is_pieced(&word.units) || word.units.windows(3).any(|part| is_text(part, "sed"))
     })
+}
+
+/// Whether the name of a sed may be put together in the word: it has what is unknown, and in its last part no other bytes than such a name.
+fn is_pieced(units: &[Unit]) -> bool {
+    let mut part = last_part(units).iter();
+    has_hole(units) && part.all(|unit| unit.byte().is_none_or(|byte| b"gsed".contains(&byte)))
 }
 
 /// Whether a command with this name hands its standard input to a shell.
