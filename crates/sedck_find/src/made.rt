@@ -39,15 +39,7 @@ impl Names<'_> {
     /// Marks the variables that may have the name of a sed which is put together, also by way of others.
     pub fn mark_made(&mut self) -> Result<()> {
         for _ in 0..ROUNDS {
-            let mut made = Vec::new(self.alloc);
-            let has_sed = self.has_sed();
-            for (name, fact) in self.facts.iter() {
-                // Another name for a variable is one for any that has a sed.
-                let is_other = has_sed && self.references.get(name.as_slice()).is_some();
-                if !fact.is_made && (is_other || self.begins_made(fact)?) {
-                    made.push(Vec::from_slice(self.alloc, name)?)?;
-                }
-            }
+            let made = self.newly_made()?;
             if made.is_empty() {
                 break;
             }
@@ -58,6 +50,19 @@ impl Names<'_> {
             }
         }
         Ok(())
+    }
+
+    /// The variables that are marked by way of those that are marked already. Another name for a variable is one for any that has a sed.
+    fn newly_made(&self) -> Result<Vec<Vec<u8>>> {
+        let mut made = Vec::new(self.alloc);
+        let has_sed = self.has_sed();
+        for (name, fact) in self.facts.iter() {
+            let is_other = has_sed && self.references.get(name.as_slice()).is_some();
+            if !fact.is_made && (is_other || self.begins_made(fact)?) {
+                made.push(Vec::from_slice(self.alloc, name)?)?;
+            }
+        }
+        Ok(made)
     }
 
     /// Whether a variable of the file has the name of a sed, or another name refers to one that has it by its own.
