@@ -542,6 +542,9 @@ TEXTS = [Row("told: " + name, text, run, WRITES, file, files, due=FOUND) for nam
     ("$=x", "a.sh", "zsh a.sh", "#!/bin/zsh\nx='sed -n'\n$=x wevil f\n", {}),
     ("always", "a.sh", "zsh a.sh", "#!/bin/zsh\n{ : } always { sed wevil f }\n", {}),
     ("${ }", "a.sh", "ksh a.sh", "#!/bin/ksh\necho ${ sed wevil f; }\n", {}),
+    # Names that are put together.
+    ("a name of two parts", "Makefile", "make", "S = s\nall:\n\t@$(S)ed wevil f\n", {}),
+    ("a name of two parts of a shell", "a.sh", "sh a.sh", "x=se; ${x}d wevil f\n", {}),
     # Files that a sed runs.
     ("a first line with sed", "a.sh", "sed -f a.sh f", "#!/bin/sed -f\nw evil\n", {}),
 ]] + [Row("told: YAML, %r" % text, text, file="ci.yml", due=FOUND) for text in [
@@ -572,8 +575,8 @@ NEVER = [Row("never looked at: " + name, text, run, WRITES, file, files, due=ACC
     ("a text in place of a file", "a.sh", "bash a.sh", "bash <(echo sed wevil f)\n", {}),
     ("a file that is written", "a.sh", "sh a.sh", "cat > x.sh <<E\nsed wevil f\nE\nsh x.sh\n", {}),
     ("another language", "a.sh", "sh a.sh", "awk 'BEGIN { system(\"sed wevil f\") }'\n", {}),
-    ("a name of two parts", "Makefile", "make", "S = s\nall:\n\t@$(S)ed wevil f\n", {}),
-    ("a name of two parts of a shell", "a.sh", "sh a.sh", "x=se; ${x}d wevil f\n", {}),
+    ("a name of two parts", "Makefile", "make S=s", "all:\n\t@$(S)ed wevil f\n", {}),
+    ("a variable of make's that eval sets", "Makefile", "make", "$(eval S = sed)\nall:\n\t@$(S) wevil f\n", {}),
     ("the end of a command", "a.sh", "sh a.sh", "run() { \"$@\" wevil f; }\nrun sed\n", {}),
     ("a text for a command", "a.sh", "sh a.sh", "run() { sh -c \"$1\"; }\nrun 'sed wevil f'\n", {}),
     ("a source of Autoconf", "configure.ac", "sh made.sh", "setarch x86_64 sed wevil f\n", {"made.sh": "setarch x86_64 sed wevil f\n"}),
