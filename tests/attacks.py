@@ -545,6 +545,9 @@ TEXTS = [Row("told: " + name, text, run, WRITES, file, files, due=FOUND) for nam
     # Names that are put together.
     ("a name of two parts", "Makefile", "make", "S = s\nall:\n\t@$(S)ed wevil f\n", {}),
     ("a name of two parts of a shell", "a.sh", "sh a.sh", "x=se; ${x}d wevil f\n", {}),
+    ("a name before what is nothing", "a.sh", "sh a.sh", "/bin/sed$EXEEXT wevil f\n", {}),
+    ("a name before what is nothing for make", "Makefile", "make", "all:\n\t@/bin/sed$(EXEEXT) wevil f\n", {}),
+    ("a name of a loop's word", "a.sh", "sh a.sh", "for p in cat sed; do Q=/bin/$p$e; done\n$Q wevil f\n", {}),
     # Files that a sed runs.
     ("a first line with sed", "a.sh", "sed -f a.sh f", "#!/bin/sed -f\nw evil\n", {}),
 ]] + [Row("told: YAML, %r" % text, text, file="ci.yml", due=FOUND) for text in [

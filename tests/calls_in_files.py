@@ -665,6 +665,20 @@ UNREAD = [
     ("a.bash", "f() { local -n n=$1; $n p f; }; x=sed; f x\n", ["1:22"]), ("a.bash", "declare -n n=x; x=cat; $n p f\n", []),
     ("a.bash", "declare -A T; T[s]=sed; ${T[s]} p f\n", ["1:25"]), ("a.bash", "T[1]=cat; ${T[1]} p f\n", []),
     ("a.sh", "x=/bin/sed; y=$(basename $x); $y p f\n", ["1:31"]), ("a.sh", "x=/bin/cat; y=$(basename $x); $y p f\n", []), ("a.sh", "x=se; ${x}d p f\n", ["1:7"]),
+    # What is after the name of a sed may be nothing. `${x+y}` gives no value of x.
+    ("a.sh", "./sed$EXEEXT p f\n\"$d/sed\"${e} p f\nsed$$ p f\nsed$x-a p f\n", ["1:1", "2:1"]), ("Makefile", "all:\n\t./sed/sed$(EXEEXT) p f\n", ["2:2"]),
+    ("a.sh", "y=se; x=${y}d\nif ${x+:} false; then :; fi\n", []), ("a.sh", "y=sed\n${x+$y} p f\n", ["2:1"]), ("a.sh", "n=sed; Q=$d/$n\n$Q p f\n", ["2:1"]),
+    # Calls in values of make's are found there: words that come after them matter.
+    ("Makefile", "X = f=`echo a | sed p`;\nall:\n\t$(X) echo $$f\n", []), ("Makefile", "X = echo a | env sed\nall:\n\t$(X) p f\n", ["3:2"]),
+    ("Makefile", "X = echo a | sed p\nall:\n\t$(X)\n\t$(X) -i f\n", ["4:2"]), ("Makefile", "X = f=`echo a | sed --unknown p`;\n", ["1:17"]),
+    ("Makefile", "PACKAGES = sed grep\nX = echo a | sed 'p\nall:\n\t$(X)\n", ["2:18"]), ("a.sh", "X='env sed p f'\n$X\n", ["2:1"]),
+    # In a loop its variable has a word of the loop.
+    ("a.sh", "for n in cat sed; do T=$d/$n$e\n\"$T\" p f\ndone\n", ["2:1"]), ("a.sh", "for n in sed; do T=$d/$n; done\nfor n in cat tac; do R=$d/$n; $R p f; done\n", []),
+    ("a.sh", "for n in sed\ndo # it's done\n  for q in a; do :; done; T=$d/$n\ndone\nfor n in cat; do R=$d/$n; done\n$R p f\n$T p f\n", ["7:1"]),
+    ("a.sh", "for n in cat; do read n; T=$d/$n; done\nfor n in sed; do :; done\n$T p f\n", ["3:1"]), ("a.sh", "for n in sed; do T=$d/$n.o; $T p f; done\n", []),
+    # As in scripts that Autoconf makes: the compiler is no sed.
+    ("a.sh", "for p in sed gsed; do S=$d/$p$e\ndone\np=`echo \"$p\" | sed 's,a,b,'`\nfor p in gcc cc; do C=$t$p\ndone\nCC=$C\n$CC -c x.c\nif ${C+:} false; then :; fi\n\"$S\" -f x f\n", ["9:1"]),
+    ("a.sh", "n=cat; n=sed; T=$d/$n$e; $T p f\n", ["1:26"]), ("a.sh", "for n in cat; do T=$d/$n; done; for n in sed; do :; done; $T p f\n", []),
     ("a.spec", "%post -p /usr/bin/zsh\nsed p f\n%pre -p /bin/bash\nsed p f\n%preun -p /usr/bin/fish\nsed p f\n%postun -p <lua>\nos.execute('sed p f')\n%posttrans -p /sbin/ldconfig\n", ["2:1", "6:1", "8:13"]),
     ("Dockerfile", "FROM a\nSHELL [\"/bin/zsh\", \"-c\"]\nRUN sed p f\nFROM b\nRUN sed p f\n", ["3:5"]),
     ("Dockerfile", "FROM a\nRUN sh <<E\"O\"F\nsed ':x;bx' f\nEOF\nRUN sed p f\n", ["3:1"]),

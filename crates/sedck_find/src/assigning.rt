@@ -264,7 +264,7 @@ impl Names<'_> {
             self.note(&name, value, self.begins_with_sed(&word.units))?;
             self.note_begin(&name, &word.units)?;
         }
-        Ok(())
+        self.note_body(&name, first.start, values)
     }
 
     /// Notes the operands of a utility that declares variables. An option may change values; `-n` makes a name refer to another one.
@@ -363,7 +363,7 @@ impl Names<'_> {
 }
 
 /// Whether the bytes begin with the sign of an assignment.
-fn begins_sign(bytes: &[u8]) -> bool {
+pub(crate) fn begins_sign(bytes: &[u8]) -> bool {
     bytes.starts_with(b"=") || bytes.starts_with(b":=")
 }
 

@@ -5,7 +5,7 @@ use crate::found::{
     Assumptions, Followed, Found, FoundCall, FoundScript, KnownValue, OpenHole, Role, Unknown,
 };
 use crate::macros::Macros;
-use crate::mentions::{call_in, editor_in, mention_in};
+use crate::mentions::{call_in, editor_in, looks_called, mention_in};
 use crate::names::Names;
 use crate::overwriting::{overwritten_by, runs_elsewhere};
 use crate::parts::{Part, Runner, parts_of};
@@ -73,6 +73,8 @@ pub fn calls_in<'a>(
         functions: BTreeMap::new(alloc),
         references: BTreeMap::new(alloc),
         refers_to_sed: false,
+        loops: BTreeMap::new(alloc),
+        reach: file.len().saturating_mul(16),
         shells: Vec::new(alloc),
         settings: settings_of(alloc, file)?,
         macros: Macros::of(alloc, kind, file)?,
@@ -128,6 +130,7 @@ fn found_in(texts: &Texts<'_>) -> Result<Found> {
         cases: 1,
         chosen: None,
         starts: BTreeMap::new(names.alloc),
+        unread: Vec::new(names.alloc),
     };
     for held in &texts.held {
         let parts = parts_of(names, &held.command.words)?;
@@ -136,6 +139,7 @@ fn found_in(texts: &Texts<'_>) -> Result<Found> {
         }
         add_mentions(&mut unread, names, held, &parts)?;
     }
+    unread.extend_from_slice(&filler.unread)?;
     // Texts that no shell of POSIX's may run aren't understood.
     if names.has_foreign_shell()? {
         for call in &calls {
@@ -219,6 +223,8 @@ fn add_call(
         if !held.is_value || !matches!(&call.script, FoundScript::Refused(_)) {
             filler.starts.insert(start, ())?;
             calls.push(call)?;
+        } else if part.others.first().is_some_and(looks_called) {
+            filler.unread.push(start)?;
         }
         if case.saturating_add(1) >= filler.cases {
             break;

@@ -9,6 +9,7 @@ mod calls;
 mod conditions;
 mod found;
 mod holes;
+mod loops;
 mod macros;
 mod made;
 mod mending;

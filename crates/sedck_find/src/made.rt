@@ -3,9 +3,9 @@
 use crate::mentions::writes_sed;
 use crate::names::{Fact, Names};
 use crate::programs::{LONGEST, SEDS, is_sed_variable};
-use crate::units::{has_hole, hole_of, is_one_in, rest};
+use crate::units::{has_hole, hole_of, is_one_in, is_word_in, known_part, last_part, rest};
 use crate::values::{MOST, is_blank};
-use sedck_origin::{Hole, Result, Unit, begins_with, hole_name};
+use sedck_origin::{Hole, Result, Unit, begins_with, hole_name, is_name_byte};
 
 /// Functions of make's that put texts together, or choose one.
 const JOINING: &str = "join addprefix addsuffix subst patsubst word wordlist firstword lastword \
@@ -52,13 +52,15 @@ impl Names<'_> {
         Ok(())
     }
 
-    /// The variables that are marked by way of those that are marked already. Another name for a variable is one for any that has a sed.
+    /// The variables that are marked by way of those that are marked already, but for those that have the name of a sed by themselves. Another
+    /// name for a variable is one for any that has a sed.
     fn newly_made(&self) -> Result<Vec<Vec<u8>>> {
         let mut made = Vec::new(self.alloc);
         let has_sed = self.has_sed();
         for (name, fact) in self.facts.iter() {
             let is_other = has_sed && self.references.get(name.as_slice()).is_some();
-            if !fact.is_made && (is_other || self.begins_made(fact)?) {
+            let is_known = fact.is_made || fact.is_sed;
+            if !is_known && (is_other || self.begins_made(fact)?) {
                 made.push(Vec::from_slice(self.alloc, name)?)?;
             }
         }
@@ -91,7 +93,7 @@ impl Names<'_> {
             .is_some_and(|name| self.is_made(name))
     }
 
-    fn is_made(&self, name: &[u8]) -> bool {
+    pub fn is_made(&self, name: &[u8]) -> bool {
         self.facts.get(name).is_some_and(|fact| fact.is_made)
     }
 
@@ -109,7 +111,10 @@ pub(crate) fn makes_sed(names: &Names<'_>, word: &[Unit]) -> Result<bool> {
     if !has_hole(word) {
         return Ok(false);
     }
-    if begins_with(end, "sed") || holes.any(|hole| gives_sed(names, written_part(names, hole))) {
+    if begins_with(end, "sed")
+        || has_open_end(names, word)
+        || holes.any(|hole| gives_sed_at(names, word, hole))
+    {
         return Ok(true);
     }
     for case in 0..MOST {
@@ -118,6 +123,32 @@ pub(crate) fn makes_sed(names: &Names<'_>, word: &[Unit]) -> Result<bool> {
         }
     }
     Ok(false)
+}
+
+/// Whether the name of a sed is written at the end of the word, and after it what may be nothing, as in `sed$EXEEXT`.
+fn has_open_end(names: &Names<'_>, word: &[Unit]) -> bool {
+    let part = last_part(word);
+    let known = known_part(part);
+    let mut others = rest(part, known.len()).iter();
+    let may_vanish = |unit: &Unit| {
+        let written = hole_of(unit).map(|hole| names.written_hole(hole));
+        let first = written.and_then(|written| written.get(1));
+        first.is_some_and(|first| is_name_byte(*first) || b"{(".contains(first))
+    };
+    is_word_in(known, SEDS) && others.all(|unit| may_vanish(unit))
+}
+
+/// Whether the hole in the word gives the name of a sed. In a loop that sets it, it does so by a word of the loop, and as the whole name.
+fn gives_sed_at(names: &Names<'_>, word: &[Unit], hole: Hole) -> bool {
+    let Some(one) = names.loop_at(hole) else {
+        return gives_sed(names, written_part(names, hole));
+    };
+    let part = last_part(word);
+    let mut units = part.iter();
+    let is_inside = part
+        .first()
+        .is_some_and(|first| first.start() <= hole.start);
+    one.has_sed && is_inside && units.all(|unit| unit.byte().is_none())
 }
 
 /// What the file has in place of the hole; of one that is the line of an assignment only the value.
@@ -152,9 +183,10 @@ fn expanded(names: &Names<'_>, word: &[Unit], case: usize) -> Result<Vec<u8>> {
     let mut text = Vec::new(names.alloc);
     for unit in word.iter().take(LONGEST) {
         match *unit {
-            Unit::Hole(hole) => {
-                add_expanded(names, &mut text, written_part(names, hole), case, false)?;
-            }
+            Unit::Hole(hole) => match names.loop_at(hole) {
+                Some(one) => one.add_word(&mut text, case)?,
+                None => add_expanded(names, &mut text, written_part(names, hole), case, false)?,
+            },
             Unit::Byte(byte, _) | Unit::Escape(byte, _) => text.push(byte)?,
         }
     }
@@ -203,7 +235,7 @@ fn reference_at(text: &[u8], is_make: bool) -> (&[u8], usize) {
     }
 }
 
-/// Whether a text is the name of a sed, or may give one by a reference that begins it. What is before a name may be nothing.
+/// Whether a text is the name of a sed, or may give one by a reference that begins it. What is before or after a name may be nothing.
 fn is_sed_text(names: &Names<'_>, text: &[u8]) -> bool {
     let is_open = text.starts_with(b"$") || text.starts_with(b"`");
     let mut words = text.split(|byte| matches!(*byte, b' ' | b'\t' | b'\n'));
@@ -213,8 +245,17 @@ fn is_sed_text(names: &Names<'_>, text: &[u8]) -> bool {
         words.next().unwrap_or(text)
     };
     let mut parts = first.rsplit(|byte| b"/)}".contains(byte));
-    let is_named = parts.next().is_some_and(|part| is_one_in(part, SEDS));
+    let is_named = parts.next().is_some_and(|part| is_sed_name(part));
     is_named || (is_open && gives_sed(names, text))
+}
+
+/// Whether this is the name of a sed, after which variables may be whose values are unknown.
+fn is_sed_name(part: &[u8]) -> bool {
+    let end = part.iter().position(|byte| *byte == b'$');
+    let end = end.unwrap_or(part.len());
+    let mut others = rest(part, end).iter();
+    let are_names = others.all(|byte| *byte == b'$' || is_name_byte(*byte));
+    is_one_in(part.get(..end).unwrap_or(part), SEDS) && are_names && !part.ends_with(b"$")
 }
 
 /// Whether a reference may give the name of a sed.
@@ -309,9 +350,10 @@ fn shell_gives_sed(names: &Names<'_>, text: &[u8]) -> bool {
     match text {
         [b'$', b'{', inner @ ..] => {
             let others = rest(inner, name.len());
-            let is_whole = others.len() == 1
-                || others.starts_with(b"+")
-                || others.starts_with(b":+");
+            let is_whole = others.len() == 1;
+            if is_alternative(others) {
+                return writes_sed(others) || writes_value_of_sed(names, others);
+            }
             inner.starts_with(b"!")
                 || others.starts_with(b".")
                 || names.is_made(name)
@@ -324,6 +366,11 @@ fn shell_gives_sed(names: &Names<'_>, text: &[u8]) -> bool {
         [b'$', ..] => names.is_made(name),
         _ => writes_sed(text),
     }
+}
+
+/// Whether this is after a variable in braces for a text in place of its value, as in `${NAME+TEXT}` (XCU 2.6.2).
+pub(crate) fn is_alternative(others: &[u8]) -> bool {
+    others.starts_with(b"+") || others.starts_with(b":+")
 }
 
 /// Whether the text is a command that writes what it is given.

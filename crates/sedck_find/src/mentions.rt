@@ -1,7 +1,7 @@
 //! What may call sed where no call is found: words of a command that is unknown, texts that it may run, and values that others run.
 
 use crate::assigning::is_assignment;
-use crate::made::makes_sed;
+use crate::made::{is_alternative, makes_sed};
 use crate::names::Names;
 use crate::parts::{Part, Runner};
 use crate::programs::{LONGEST, Program, is_sed_path, is_sed_word};
@@ -9,7 +9,7 @@ use crate::units::{
     after, begins_name, has_any, hole_of, is_letters, is_option, is_word_in, last_part, lone_hole,
     rest, variable_of,
 };
-use crate::values::Value;
+use crate::values::{Value, is_blank};
 use sedck_origin::{Result, Unit, begins_with, byte_at, hole_name, is_name_byte, is_text};
 use sedck_shell::ShellWord;
 
@@ -45,7 +45,9 @@ pub(crate) fn mention_in(names: &Names<'_>, part: &Part, is_strict: bool) -> Res
     let Program::Other = part.program else {
         return Ok(None);
     };
-    if has_value(names, &name.units) || (!others.is_empty() && makes_sed(names, &name.units)?) {
+    let has_words = !others.is_empty();
+    let is_open = has_words || part.run.runner == Runner::Adding;
+    if has_value(names, &name.units, is_open) || (has_words && makes_sed(names, &name.units)?) {
         return Ok(Some(name.start));
     }
     Ok(text_in(name, open, is_word_in(called, RUNNING)))
@@ -55,14 +57,16 @@ pub(crate) fn mention_in(names: &Names<'_>, part: &Part, is_strict: bool) -> Res
 /// such words.
 fn word_in(names: &Names, words: &[ShellWord], runner: Runner, is_strict: bool) -> Option<usize> {
     for (index, word) in words.iter().enumerate() {
-        let is_called = match words.get(index.saturating_add(1)) {
+        let next = words.get(index.saturating_add(1));
+        let is_called = match next {
             Some(next) => !is_strict || looks_called(next),
             None => runner == Runner::Adding,
         };
         let is_sed = is_called && is_sed_word(names, &word.units);
         let hole = lone_hole(&word.units).filter(|hole| hole.way.is_split());
         let is_made = is_called && hole.is_some_and(|hole| names.is_made_at(hole));
-        if is_sed || is_made || (hole.is_some() && has_value(names, &word.units)) {
+        let is_open = next.is_some() || is_called;
+        if is_sed || is_made || (hole.is_some() && has_value(names, &word.units, is_open)) {
             return Some(word.start);
         }
     }
@@ -114,16 +118,44 @@ pub(crate) fn editor_in(words: &[ShellWord]) -> Option<usize> {
     editor.map(|word| word.start)
 }
 
-/// Whether the file sets a variable of these units to a value that has a call of sed.
-fn has_value(names: &Names<'_>, units: &[Unit]) -> bool {
+/// Whether the file sets a variable of these units to a value that has a call of sed. Calls in values of make's are found where these are set,
+/// if they are commands, so that such a one matters only where it is open: where words may be added to it.
+fn has_value(names: &Names<'_>, units: &[Unit], is_open: bool) -> bool {
     let mut holes = units.iter().take(LONGEST).filter_map(hole_of);
     holes.any(|hole| {
-        let name = hole_name(names.written_hole(hole)).unwrap_or(&[]);
-        names
-            .facts
-            .get(name)
-            .is_some_and(|fact| fact.values.iter().any(has_name))
+        let written = names.written_hole(hole);
+        let name = hole_name(written).unwrap_or(&[]);
+        let may_run = |value: &Value| {
+            let may_add = is_open && !is_ended(value);
+            has_name(value) && (may_add || !names.is_make() || has_inner_call(value))
+        };
+        let fact = names.facts.get(name);
+        !is_alternative(rest(written, name.len().saturating_add(2)))
+            && fact.is_some_and(|fact| fact.values.iter().any(|value| may_run(value)))
     })
+}
+
+/// Whether a call of sed is in the value elsewhere than where a command begins, so that it isn't found as one.
+fn has_inner_call(value: &Value) -> bool {
+    let units = value.units.get(..LONGEST).unwrap_or(&value.units);
+    (0..units.len()).any(|index| {
+        let before = units.get(..index).unwrap_or(&[]);
+        begins_call(units, index) && !begins_command(before)
+    })
+}
+
+/// Whether a command begins after these units of a value.
+fn begins_command(before: &[Unit]) -> bool {
+    let mut units = before.iter().rev();
+    let last = units.find(|unit| !is_blank(unit));
+    last.is_none_or(|last| { last.byte().is_some_and(|byte| b"|;&(`{".contains(&byte)) })
+}
+
+/// Whether no word can be added to the last command of the value, since a sign after it ends it.
+fn is_ended(value: &Value) -> bool {
+    let mut units = value.units.iter().rev();
+    let last = units.find(|unit| !is_blank(unit));
+    last.is_some_and(|last| matches!(last.byte(), Some(b';' | b'`' | b')')))
 }
 
 /// Whether what is written in place of a hole has the name `sed`. In a command that is one which writes the name, and no call.
@@ -205,7 +237,7 @@ fn is_command_option(units: &[Unit]) -> bool {
 }
 
 /// Whether the word after a name looks like an option or a script: it begins with a hyphen, is quoted or has a slash.
-fn looks_called(word: &ShellWord) -> bool {
+pub(crate) fn looks_called(word: &ShellWord) -> bool {
     let mut units = word.units.iter();
     let has_slash = units.any(|unit| matches!(*unit, Unit::Byte(b'/', _)));
     word.is_quoted || has_slash || is_option(&word.units)

@@ -1,6 +1,7 @@
 //! What is known of the variables of a file.
 
 use crate::found::{Assumptions, Followed};
+use crate::loops::Loop;
 use crate::macros::Macros;
 use crate::settings::Settings;
 use crate::units::{bytes_of, hole_of, is_one_in};
@@ -49,6 +50,10 @@ pub(crate) struct Names<'a> {
     pub references: BTreeMap<Vec<u8>, ()>,
     /// Whether one of them has a sed by its own name.
     pub refers_to_sed: bool,
+    /// The loops over words that are known, by their variables.
+    pub loops: BTreeMap<Vec<u8>, Vec<Loop>>,
+    /// How many bytes may be looked at yet for the ends of loops, so that the time stays linear.
+    pub reach: usize,
     /// Where a makefile sets its shell to what isn't all written there.
     pub shells: Vec<Hole>,
     pub settings: Settings,

@@ -234,7 +234,9 @@ fn called_by_name(written: &[u8], names: &Names<'_>) -> Program {
         _ if writes_sed(written) || is_one_in(written, "%{__sed} %__sed") => Program::Sed,
         Some(name) if is_sed_variable(name) || names.may_be_sed(name) => Program::Sed,
         Some(name) if is_one_in(name, SHELL_VARIABLES) => Program::Shell,
-        Some(name) if is_one_in(name, PREFIXES) => Program::Wrapper(Wrapper::PREFIX),
+        Some(name) if is_one_in(name, PREFIXES) && !names.is_made(name) => {
+            Program::Wrapper(Wrapper::PREFIX)
+        }
         _ => Program::Other,
     }
 }

@@ -1,7 +1,7 @@
 //! The texts of a file, and those in them that are handed to a shell.
 
 use crate::assigning::may_fix_locale;
-use crate::mentions::may_have_call;
+use crate::mentions::{call_in, may_have_call};
 use crate::names::Names;
 use crate::parts::{Part, parts_of};
 use crate::programs::Program;
@@ -62,7 +62,12 @@ impl Texts<'_> {
     /// Reads a text in this form.
     fn read_as(&mut self, text: Text, form: Form, is_value: bool) -> Result<()> {
         let read = read_shell(self.names.alloc, text, form)?;
-        if !is_value {
+        // A value may be no shell text.
+        let is_text = match text {
+            Text::Units(units) => !is_value || call_in(units).is_some(),
+            Text::Whole(_) => true,
+        };
+        if is_text {
             self.unread.extend_from_slice(&read.unread)?;
         }
         for name in &read.functions {

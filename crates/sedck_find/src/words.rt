@@ -107,6 +107,8 @@ pub(crate) struct Filler<'a> {
     pub chosen: Option<&'a [u8]>,
     /// Where the names of the calls are in the file that were found.
     pub starts: BTreeMap<usize, ()>,
+    /// Where those are of calls in values that are refused; a value may be no shell text.
+    pub unread: Vec<usize>,
 }
 
 impl<'a> Filler<'a> {
