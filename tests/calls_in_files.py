@@ -678,6 +678,8 @@ UNREAD = [
     ("a.sh", "for n in cat; do read n; T=$d/$n; done\nfor n in sed; do :; done\n$T p f\n", ["3:1"]), ("a.sh", "for n in sed; do T=$d/$n.o; $T p f; done\n", []),
     # As in scripts that Autoconf makes: the compiler is no sed.
     ("a.sh", "for p in sed gsed; do S=$d/$p$e\ndone\np=`echo \"$p\" | sed 's,a,b,'`\nfor p in gcc cc; do C=$t$p\ndone\nCC=$C\n$CC -c x.c\nif ${C+:} false; then :; fi\n\"$S\" -f x f\n", ["9:1"]),
+    ("a.sh", "for n in sed gsed; do :; done\nfor n in cat tac; do set dummy $n; \"$d/$n\" -c x; done\n", []), ("a.sh", "C=`echo \" $C\" | cat $SED`\n$C -c x\n", []),
+    ("a.sh", "x=sed; y=`echo $x | tr -d a`; $y p f\n", ["1:31"]),
     ("a.sh", "n=cat; n=sed; T=$d/$n$e; $T p f\n", ["1:26"]), ("a.sh", "for n in cat; do T=$d/$n; done; for n in sed; do :; done; $T p f\n", []),
     ("a.spec", "%post -p /usr/bin/zsh\nsed p f\n%pre -p /bin/bash\nsed p f\n%preun -p /usr/bin/fish\nsed p f\n%postun -p <lua>\nos.execute('sed p f')\n%posttrans -p /sbin/ldconfig\n", ["2:1", "6:1", "8:13"]),
     ("Dockerfile", "FROM a\nSHELL [\"/bin/zsh\", \"-c\"]\nRUN sed p f\nFROM b\nRUN sed p f\n", ["3:5"]),

@@ -361,7 +361,9 @@ fn shell_gives_sed(names: &Names<'_>, text: &[u8]) -> bool {
                 || (!is_whole && names.may_give_sed(name))
         }
         [b'$', b'(', command @ ..] | [b'`', command @ ..] => {
-            writes_sed(text) || (is_writing(command) && writes_value_of_sed(names, command))
+            let mut commands = command.split(|byte| b"|;&\n".contains(byte));
+            let first = commands.next().unwrap_or(command);
+            writes_sed(text) || (is_writing(first) && writes_value_of_sed(names, first))
         }
         [b'$', ..] => names.is_made(name),
         _ => writes_sed(text),

@@ -129,6 +129,9 @@ fn has_value(names: &Names<'_>, units: &[Unit], is_open: bool) -> bool {
             let may_add = is_open && !is_ended(value);
             has_name(value) && (may_add || !names.is_make() || has_inner_call(value))
         };
+        if let Some(one) = names.loop_at(hole) {
+            return one.has_sed;
+        }
         let fact = names.facts.get(name);
         !is_alternative(rest(written, name.len().saturating_add(2)))
             && fact.is_some_and(|fact| fact.values.iter().any(|value| may_run(value)))
