@@ -71,9 +71,11 @@ pub fn calls_in<'a>(
         open: None,
         may_fix_locale: false,
         functions: BTreeMap::new(alloc),
+        definitions: Vec::new(alloc),
         references: BTreeMap::new(alloc),
         refers_to_sed: false,
         loops: BTreeMap::new(alloc),
+        open_loops: BTreeMap::new(alloc),
         reach: file.len().saturating_mul(16),
         shells: Vec::new(alloc),
         settings: settings_of(alloc, file)?,
@@ -110,6 +112,7 @@ fn read_file(names: Names<'_>) -> Result<Texts<'_>> {
         _ => texts.names.note_expansions()?,
     }
     texts.names.is_read = true;
+    texts.names.note_open_loops()?;
     texts.names.build_values()?;
     texts.names.mark_made()?;
     Ok(texts)

@@ -6,6 +6,7 @@ use crate::units::{begins_name, has_any, has_hole, is_one_in, known_bytes, rest}
 use crate::values::{MOST, SPECIAL};
 use sedck_origin::{Hole, Result, is_name_byte};
 use sedck_shell::{Pattern, ShellWord};
+use std::collections::BTreeMap;
 
 /// How many bytes after the beginning of a loop its end is looked for.
 const REACH: usize = 65_536;
@@ -40,20 +41,18 @@ impl Names<'_> {
     /// Notes a loop of the variable over these words, if they are known and nothing in its body names the variable but to use it. The file
     /// has the name that `for` sets at this offset.
     pub fn note_body(&mut self, name: &[u8], offset: usize, words: &[ShellWord]) -> Result<()> {
-        let text = rest(self.file, offset);
-        let text = text.get(..REACH).unwrap_or(text);
-        if text.len() > self.reach || !words.iter().all(is_known) {
+        if !words.iter().all(is_known) {
             return Ok(());
         }
-        let body = body_of(text);
-        let (begin, end) = body.unwrap_or((0, text.len()));
-        self.reach = self.reach.saturating_sub(end);
-        if body.is_none() || may_set(text.get(begin..end).unwrap_or(&[]), name) {
+        let Some((start, end)) = self.body_at(offset, "do", "done") else {
+            return Ok(());
+        };
+        if may_set(self.file.get(start..end).unwrap_or(&[]), name) {
             return Ok(());
         }
         let mut one = Loop {
-            start: offset.saturating_add(begin),
-            end: offset.saturating_add(end),
+            start,
+            end,
             words: Vec::new(self.alloc),
             has_sed: words.iter().any(|word| self.begins_with_sed(&word.units)),
         };
@@ -70,12 +69,86 @@ impl Names<'_> {
         }
     }
 
+    /// Where the file has the first text after the offset that is between these words and has as many of each.
+    fn body_at(&mut self, offset: usize, opener: &str, closer: &str) -> Option<(usize, usize)> {
+        let text = rest(self.file, offset);
+        let text = text.get(..REACH).unwrap_or(text);
+        if text.len() > self.reach {
+            return None;
+        }
+        let body = body_of(text, opener, closer);
+        let end = body.map_or(text.len(), |body| body.1);
+        self.reach = self.reach.saturating_sub(end);
+        body.map(|(start, end)| (offset.saturating_add(start), offset.saturating_add(end)))
+    }
+
+    /// Notes in the bodies of which loops a function may run that sets the variable.
+    pub fn note_open_loops(&mut self) -> Result<()> {
+        if self.loops.is_empty() || self.functions.is_empty() {
+            return Ok(());
+        }
+        let set = self.set_by_functions()?;
+        let mut open = BTreeMap::new(self.alloc);
+        for (name, loops) in self.loops.iter() {
+            let may_be_set = match &set {
+                Some(set) => set.get(name.as_slice()).is_some(),
+                None => true,
+            };
+            for one in loops {
+                if may_be_set && self.runs_function(one) {
+                    open.insert(one.start, ())?;
+                }
+            }
+        }
+        self.open_loops = open;
+        Ok(())
+    }
+
+    /// The variables of loops that a function of the file may set; none where that isn't known.
+    fn set_by_functions(&mut self) -> Result<Option<BTreeMap<Vec<u8>, ()>>> {
+        let file = self.file;
+        let mut set = BTreeMap::new(self.alloc);
+        for number in 0..self.definitions.len() {
+            let offset = self.definitions.get(number).copied().unwrap_or(0);
+            if !begins_function(rest(file, offset)) {
+                return Ok(None);
+            }
+            let Some((start, end)) = self.body_at(offset, "{", "}") else {
+                return Ok(None);
+            };
+            let body = file.get(start..end).unwrap_or(&[]);
+            for index in 0..body.len() {
+                let name = set_name_at(body, index);
+                if self.loops.get(name).is_some() {
+                    set.insert(Vec::from_slice(self.alloc, name)?, ())?;
+                }
+            }
+        }
+        Ok(Some(set))
+    }
+
+    /// Whether the body of the loop has the name of a function or an alias as a word.
+    fn runs_function(&self, one: &Loop) -> bool {
+        let body = self.file.get(one.start..one.end).unwrap_or(&[]);
+        let mut words = body.split(|byte| b" \t\n;&|()`\"'${}".contains(byte));
+        words.any(|word| self.functions.get(word).is_some())
+    }
+
     /// The loop in whose body the hole is the variable that it sets.
     pub fn loop_at(&self, hole: Hole) -> Option<&Loop> {
         let loops = self.loops.get(self.variable_at(hole)?)?;
         let mut loops = loops.iter().take(MANY);
-        loops.find(|one| one.start <= hole.start && hole.start < one.end)
+        let one = loops.find(|one| one.start <= hole.start && hole.start < one.end)?;
+        self.open_loops.get(&one.start).is_none().then_some(one)
     }
+}
+
+/// Whether a text that begins with the name of a function has its definition, with a body in braces: it is no alias.
+fn begins_function(text: &[u8]) -> bool {
+    let brace = text.iter().position(|byte| *byte == b'{').unwrap_or(0);
+    let head = text.get(..brace).unwrap_or(&[]);
+    let mut signs = head.iter().filter(|byte| b"=;|&<>#'\"`$(".contains(byte));
+    brace > 0 && signs.next().is_none_or(|sign| *sign == b'(') && signs.next().is_none()
 }
 
 /// Whether a shell sets a variable to the word as it is.
@@ -84,8 +157,8 @@ fn is_known(word: &ShellWord) -> bool {
     word.pattern == Pattern::None && !is_special && !has_hole(&word.units)
 }
 
-/// Where the body of a loop begins and ends in the text, by its `do` and its `done`.
-fn body_of(text: &[u8]) -> Option<(usize, usize)> {
+/// Where the body of a loop or a function begins and ends in the text, by these words.
+fn body_of(text: &[u8], opener: &str, closer: &str) -> Option<(usize, usize)> {
     let mut depth = 0usize;
     let mut begin = 0usize;
     let mut from = 0usize;
@@ -96,10 +169,10 @@ fn body_of(text: &[u8]) -> Option<(usize, usize)> {
         if quote != 0 || next != 0 || b" \t\n;&|()`".contains(byte) {
             let word = text.get(from..index).unwrap_or(&[]);
             from = index.saturating_add(1);
-            if is_one_in(word, "do") {
+            if is_one_in(word, opener) {
                 begin = if depth == 0 { index } else { begin };
                 depth = depth.saturating_add(1);
-            } else if is_one_in(word, "done") {
+            } else if is_one_in(word, closer) {
                 if depth <= 1 {
                     return (depth == 1).then_some((begin, index));
                 }
@@ -108,7 +181,7 @@ fn body_of(text: &[u8]) -> Option<(usize, usize)> {
         }
         quote = next;
     }
-    let is_last = depth == 1 && is_one_in(rest(text, from), "done");
+    let is_last = depth == 1 && is_one_in(rest(text, from), closer);
     is_last.then_some((begin, text.len()))
 }
 
@@ -124,16 +197,23 @@ fn quote_after(quote: u8, byte: u8, is_escaped: bool, is_first: bool) -> u8 {
     }
 }
 
-/// Whether a body may set the variable: it has the name otherwise than in `$NAME` or `${NAME`, or before the sign of an assignment.
+/// Whether a body may set the variable.
 fn may_set(body: &[u8], name: &[u8]) -> bool {
-    (0..body.len()).any(|index| {
-        let text = rest(body, index);
-        let after = rest(text, name.len());
-        let before = body.get(..index).unwrap_or(&[]);
-        let is_used = before.ends_with(b"$") || before.ends_with(b"${");
-        text.starts_with(name)
-            && begins_name(body, index)
-            && !after.first().is_some_and(|byte| is_name_byte(*byte))
-            && (!is_used || begins_sign(after))
-    })
+    (0..body.len()).any(|index| set_name_at(body, index) == name)
+}
+
+/// The name that begins at the index of the text, unless that only uses a variable, as `$NAME` and `${NAME}` do; nothing where there is none.
+fn set_name_at(text: &[u8], index: usize) -> &[u8] {
+    if !begins_name(text, index) {
+        return &[];
+    }
+    let others = rest(text, index);
+    let end = others.iter().position(|byte| !is_name_byte(*byte));
+    let end = end.unwrap_or(others.len());
+    let before = text.get(..index).unwrap_or(&[]);
+    let is_used = before.ends_with(b"$") || before.ends_with(b"${");
+    if is_used && !begins_sign(rest(others, end)) {
+        return &[];
+    }
+    others.get(..end).unwrap_or(others)
 }

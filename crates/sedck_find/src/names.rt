@@ -46,13 +46,17 @@ pub(crate) struct Names<'a> {
     pub may_fix_locale: bool,
     /// The names of functions and of aliases.
     pub functions: BTreeMap<Vec<u8>, ()>,
+    /// The offsets at which these are defined.
+    pub definitions: Vec<usize>,
     /// The names that refer to other variables, and those of the latter.
     pub references: BTreeMap<Vec<u8>, ()>,
     /// Whether one of them has a sed by its own name.
     pub refers_to_sed: bool,
     /// The loops over words that are known, by their variables.
     pub loops: BTreeMap<Vec<u8>, Vec<Loop>>,
-    /// How many bytes may be looked at yet for the ends of loops, so that the time stays linear.
+    /// The offsets of the bodies of those in which a function may set the variable.
+    pub open_loops: BTreeMap<usize, ()>,
+    /// How many bytes may be looked at yet for the ends of bodies, so that the time stays linear.
     pub reach: usize,
     /// Where a makefile sets its shell to what isn't all written there.
     pub shells: Vec<Hole>,
@@ -112,6 +116,8 @@ impl<'a> Names<'a> {
 
     /// Notes the name of a function or an alias. Any may be run where it is unknown, or is a word before a command that not each shell reserves.
     pub fn note_function(&mut self, name: &[Unit]) -> Result<()> {
+        self.definitions
+            .push(name.first().map_or(0, |first| first.start()))?;
         match bytes_of(self.alloc, name)? {
             Some(name) if !is_one_in(&name, "time coproc") => {
                 self.functions.insert(name, ())?;
