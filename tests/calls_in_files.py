@@ -685,6 +685,8 @@ UNREAD = [
     ("a.sh", "g() { f; }\nf ()\n{\n  read tool\n}\nfor tool in sed; do :; done\nd=/bin; for tool in cat; do g; \"$d/$tool\" -n p x; done\n", ["7:32"]),
     ("a.sh", "alias g='tool=sed'\nd=/bin; for tool in sed cat; do :; done; for tool in cat; do g; \"$d/$tool\" -n p x; done\n", ["2:65"]),
     ("a.sh", "f() { echo \"$tool\"; }\nd=/bin; for tool in cat; do f; T=$d/$tool; $T -n p x; done; for tool in sed; do f; done\n", []),
+    ("a.sh", "x=sed; t=\"$y$x\"; \"$t\" -n f\n", ["1:18"]), ("a.sh", "d=/bin\nfor T in ls $d/sed; do\n\"$y$T\" -n p x\ndone\n", ["3:1"]),
+    ("a.bash", "declare -n n=x; n=sed; $x p f\n", ["1:24"]),
     ("a.spec", "%post -p /usr/bin/zsh\nsed p f\n%pre -p /bin/bash\nsed p f\n%preun -p /usr/bin/fish\nsed p f\n%postun -p <lua>\nos.execute('sed p f')\n%posttrans -p /sbin/ldconfig\n", ["2:1", "6:1", "8:13"]),
     ("Dockerfile", "FROM a\nSHELL [\"/bin/zsh\", \"-c\"]\nRUN sed p f\nFROM b\nRUN sed p f\n", ["3:5"]),
     ("Dockerfile", "FROM a\nRUN sh <<E\"O\"F\nsed ':x;bx' f\nEOF\nRUN sed p f\n", ["3:1"]),

@@ -299,12 +299,13 @@ impl Names<'_> {
         Ok(())
     }
 
-    /// Notes that the name refers to another one, if that is in the word; it may also be set later, to any.
+    /// Notes that the name refers to another one, if that is in the word; it may also be set later, to any. Either sets both.
     fn note_reference(&mut self, word: &ShellWord) -> Result<()> {
         let target = variable_of(after(&word.units, b'=').unwrap_or(&[]));
         for name in [variable_of(&word.units), target] {
             let name = known_bytes(self.alloc, name)?;
             self.refers_to_sed |= is_sed_variable(&name);
+            self.note(&name, None, false)?;
             self.references.insert(name, ())?;
         }
         Ok(())

@@ -52,15 +52,15 @@ impl Names<'_> {
         Ok(())
     }
 
-    /// The variables that are marked by way of those that are marked already, but for those that have the name of a sed by themselves. Another
-    /// name for a variable is one for any that has a sed.
+    /// The variables that are marked by way of those that are marked already, but for those whose values show the name of a sed. Another name
+    /// for a variable is one for any that has a sed.
     fn newly_made(&self) -> Result<Vec<Vec<u8>>> {
         let mut made = Vec::new(self.alloc);
         let has_sed = self.has_sed();
         for (name, fact) in self.facts.iter() {
             let is_other = has_sed && self.references.get(name.as_slice()).is_some();
-            let is_known = fact.is_made || fact.is_sed;
-            if !is_known && (is_other || self.begins_made(fact)?) {
+            let is_marked = fact.is_made || (fact.is_sed && !fact.hides_sed);
+            if !is_marked && (is_other || fact.hides_sed || self.begins_made(fact)?) {
                 made.push(Vec::from_slice(self.alloc, name)?)?;
             }
         }
@@ -182,15 +182,34 @@ fn value_in<'a>(names: &Names<'a>, hole: Hole) -> &'a [u8] {
 fn expanded(names: &Names<'_>, word: &[Unit], case: usize) -> Result<Vec<u8>> {
     let mut text = Vec::new(names.alloc);
     for unit in word.iter().take(LONGEST) {
+        let mut part = Vec::new(names.alloc);
         match *unit {
             Unit::Hole(hole) => match names.loop_at(hole) {
-                Some(one) => one.add_word(&mut text, case)?,
-                None => add_expanded(names, &mut text, written_part(names, hole), case, false)?,
+                Some(one) => one.add_word(&mut part, case)?,
+                None => add_expanded(names, &mut part, written_part(names, hole), case, false)?,
             },
-            Unit::Byte(byte, _) | Unit::Escape(byte, _) => text.push(byte)?,
+            Unit::Byte(byte, _) | Unit::Escape(byte, _) => part.push(byte)?,
         }
+        // What is unknown before a name may be nothing, or a folder.
+        if begins_in_name(&part) && ends_in_reference(&text) {
+            text.push(b'/')?;
+        }
+        text.extend_from_slice(&part)?;
     }
     Ok(text)
+}
+
+/// Whether the bytes begin with one of a name.
+fn begins_in_name(bytes: &[u8]) -> bool {
+    bytes.first().is_some_and(|first| is_name_byte(*first))
+}
+
+/// Whether the text ends with a dollar sign and a name.
+fn ends_in_reference(text: &[u8]) -> bool {
+    let mut parts = text.rsplit(|byte| !is_name_byte(*byte));
+    let name = parts.next().unwrap_or(&[]);
+    let before = text.get(..text.len().saturating_sub(name.len()));
+    !name.is_empty() && before.is_some_and(|before| before.ends_with(b"$"))
 }
 
 /// Adds what is written, with values in place of variables; it may be that only variables count all of whose values are known.

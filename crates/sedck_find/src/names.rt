@@ -21,7 +21,9 @@ pub(crate) struct Fact {
     pub are_all: bool,
     /// Whether a value that it is given somewhere begins with the name of a sed.
     pub is_sed: bool,
-    /// Whether it may have that of one which is put together.
+    /// Whether such a value isn't written.
+    pub hides_sed: bool,
+    /// Whether it may have the name of a sed which is put together.
     pub is_made: bool,
     /// How its values begin that begin with what is unknown.
     pub open_words: Vec<Vec<Unit>>,
@@ -75,6 +77,7 @@ impl<'a> Names<'a> {
                 values: Vec::new(self.alloc),
                 are_all: true,
                 is_sed: false,
+                hides_sed: false,
                 is_made: false,
                 open_words: Vec::new(self.alloc),
             };
@@ -84,6 +87,7 @@ impl<'a> Names<'a> {
             return Ok(());
         };
         fact.is_sed |= is_sed;
+        fact.hides_sed |= is_sed && value.is_none();
         let Some(units) = value else {
             fact.are_all = false;
             return Ok(());
