@@ -715,6 +715,15 @@ def unread():
             _, out, _ = run(folder, "--calls", name)
             if out.count(b"[not-understood]") != len(due):
                 fail("%s %r: text %r" % (name, text, out))
+    # The hint speaks of variables where the name of the command has one. What is assumed of it counts.
+    for text, given, hint in (("x=sed; run $x -n p f\n", [], "--assume NAME=VALUE"), ("x=sed; t=$d$x; \"$t\" -n p\n", [], "--assume NAME=VALUE"), ("run sed -n p $f\n", [], "close what is open"),
+                              ("x=sed; run $x -n p f\n", ["--assume", "x=sed"], "--assume NAME=VALUE"), ("x=sed; run $x -n p f\n", ["--assume", "x=cat"], None)):
+        _, _, last = explained(text, "a.sh", *given)
+        with tempfile.TemporaryDirectory() as folder:
+            Path(folder, "a.sh").write_text(text)
+            out = run(folder, *given, "--calls", "a.sh")[1].decode()
+        if last["unread"] != (hint is not None) or (hint or "0 calls of sed") not in out or out.count("hint:") != (hint is not None):
+            fail("the hint on %r with %s: %s" % (text, given, out))
 
 
 def scripts_below():

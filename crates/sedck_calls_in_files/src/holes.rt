@@ -364,11 +364,25 @@ pub(crate) fn unread_warning(
     requires { position ≡ position_in file.now position.offset }
     ensures { IfOk result (λ findings. All (IsFindingIn file.now) findings.items) }
 {
+    let hint = if begins_with_value(file, position.offset) {
+        "write the name of the command as it is, or give the values of its variables with --assume NAME=VALUE"
+    } else {
+        "close what is open, if anything is, or write the call where it can be read"
+    };
     let words = (
         "what begins here isn't understood, and calls of sed in it or after it may be missed",
-        "close what is open, if anything is, or write the call where it can be read",
+        hint,
     );
     warning_at(alloc, file, position, Code::NotUnderstood, words)
+}
+
+/// Whether the word that begins at the offset of the file has a variable in it.
+fn begins_with_value(file: &[u8], offset: usize) -> bool {
+    let text = file.get(offset..).unwrap_or(&[]);
+    let mut words = text.split(|byte| b" \t\n;&|<>`".contains(byte));
+    let word = words.next().unwrap_or(&[]);
+    let mut pairs = word.windows(2);
+    pairs.any(|pair| pair.starts_with(b"$") && !pair.ends_with(b"("))
 }
 
 /// The warning of a script that is unknown.

@@ -132,9 +132,9 @@ fn has_value(names: &Names<'_>, units: &[Unit], is_open: bool) -> bool {
         if let Some(one) = names.loop_at(hole) {
             return one.has_sed;
         }
-        let fact = names.facts.get(name);
-        !is_alternative(rest(written, name.len().saturating_add(2)))
-            && fact.is_some_and(|fact| fact.values.iter().any(|value| may_run(value)))
+        let mut values = names.written_values(name, false).iter();
+        let is_replaced = is_alternative(rest(written, name.len().saturating_add(2)));
+        !is_replaced && values.any(|value| may_run(value))
     })
 }
 

@@ -104,7 +104,17 @@ impl<'a> Names<'a> {
 
     /// Whether the variable may have the name of a sed, which the file gives it somewhere.
     pub fn may_be_sed(&self, name: &[u8]) -> bool {
-        self.facts.get(name).is_some_and(|fact| fact.is_sed)
+        match self.given_for(name) {
+            Some(given) => given.iter().any(|one| self.begins_with_sed(&one.units)),
+            None => self.facts.get(name).is_some_and(|fact| fact.is_sed),
+        }
+    }
+
+    /// The value of the variable that was given with the call of this program.
+    fn given_for(&self, name: &[u8]) -> Option<&[Value]> {
+        let mut assumed = self.assumed.variables.iter();
+        let place = assumed.position(|one| one.name == name)?;
+        self.given.get(place..place.saturating_add(1))
     }
 
     /// Notes that a command at the offset may set variables which it doesn't name, and may make some read-only.
@@ -158,9 +168,8 @@ impl<'a> Names<'a> {
     /// more often.
     pub fn values_of(&self, hole: Hole) -> Option<&[Value]> {
         let name = self.variable_at(hole)?;
-        let mut assumed = self.assumed.variables.iter();
-        if let Some(place) = assumed.position(|one| one.name == name) {
-            return self.given.get(place..place.saturating_add(1));
+        if let Some(given) = self.given_for(name) {
+            return Some(given);
         }
         // A template's `@NAME@`, and in a makefile a variable of the shell, aren't set by the file.
         let is_template = self.file.get(hole.start) == Some(&b'@');
@@ -175,10 +184,8 @@ impl<'a> Names<'a> {
 
     /// The values of the variable that are known; none where these aren't all of them, if they must be.
     pub fn written_values(&self, name: &[u8], must_be_all: bool) -> &[Value] {
-        let mut assumed = self.assumed.variables.iter();
-        if let Some(place) = assumed.position(|one| one.name == name) {
-            let given = self.given.get(place..place.saturating_add(1));
-            return given.unwrap_or(&[]);
+        if let Some(given) = self.given_for(name) {
+            return given;
         }
         match self.facts.get(name) {
             Some(fact) if fact.are_all || !must_be_all => fact.values.as_slice(),
