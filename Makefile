@@ -5,7 +5,7 @@ RT ?= rt
 PREFIX ?= /usr/local
 
 .PHONY: all build sedck lib demo try page try-page test docs examples rows explain-tests refusals streams tools-tests calls-tests wrapper-tests \
-	page-tests library-tests integration-tests archive-tests bench planted seds matchers states changes measures probe install dist clean
+	page-tests library-tests integration-tests archive-tests bench planted seds matchers states changes shells measures probe install dist clean
 
 # One target after the other, also under `make -j`: proofs want all processors and much memory, and tests have limits of time.
 .NOTPARALLEL:
@@ -143,6 +143,11 @@ planted:
 states: probe
 	@echo "Holding every step of every sed that is found against the model (100,000 steps take a few minutes) ..."
 	python3 tests/seds/seds_states.py crates/sedck_probe/out/sedck_probe $(STATES)
+
+# More arguments in SHELLS, such as `--files 20000 --jobs 3`, `--seed 5` or `--show`.
+shells: build
+	@echo "Running drawn files with calls of sed in every shell and make that is found (2,000 take a few minutes) ..."
+	python3 tests/seds/seds_calls.py build/sedck-explain $(SHELLS)
 
 measures:
 	python3 tools/measures.py
