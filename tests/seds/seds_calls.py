@@ -105,7 +105,8 @@ class Draw:
                         "cat <<E\n$( %s\n)\nE" % inner, "while :; do\n%s\nbreak\ndone" % inner, "! %s" % self.call(), "eval '%s'" % inner.replace("'", "'\\''"))
 
     def assignment(self):
-        return self.one("%s=%s", "%s=%s", "export %s=%s", "%s=%s :", "%s=%s; readonly z", ": ${%s=%s}") % (self.name(), self.value())
+        whole = ": ${%s=%s}" % (self.name(), self.one("sed", "cat", "$d/sed", "p"))
+        return self.one(whole, *(form % (self.name(), self.value()) for form in ("%s=%s", "%s=%s", "export %s=%s", "%s=%s :", "%s=%s; readonly z")))
 
     def function_call(self):
         functions = (["f", "g", "f p"], ["g"], [":"])[self.level]
