@@ -16,6 +16,7 @@ LISTS = "the lists of `y` differ in length, have an escape other than `\\\\`, `\
 INTERVAL = "an interval is \\{m\\}, \\{m,\\} or \\{m,n\\} with numbers up to 255"
 
 SPLIT = "split the script into several that run one after another"
+CONTROL = "remove this control character: a terminal may obey it, and BusyBox skips some before a name"
 RETURN = "the line ends in a carriage return: save the file with Unix line endings"
 MARK = "the file begins with a byte order mark: save it without one"
 ANY_ADDRESS = "an address is a line number, `$`, or an expression between delimiters"
@@ -171,7 +172,8 @@ REFUSED = [
     (b"#!/bin/sed\r\np\r\n", 2, 2, "extra-text", "unexpected carriage return", RETURN),
     (b"w out\\\np\n", 1, 6, "extra-text", "unexpected backslash at the end of the line",
      "BusyBox joins this line with the next one: end the name or the comment with another character"),
-    (b"w \fout\n", 1, 3, "extra-text", "unexpected control character", "BusyBox skips this character: begin the name with another one"),
+    *[(b"w " + name + b"\n", 1, 3 + at, "extra-text", "unexpected control character", CONTROL) for name, at in [
+        (b"\fout", 0), (b"a\x1b[1Ab", 1), (b"\x7f", 0), (b"a\t\x01", 2), (b"\xc3\xa9\xc2\x9b", 2), (b"\xc2\x80", 0)]],
     (b"s//x/\n", 1, 3, "no-previous-expression", "an empty expression repeats the one used last, and the script has none", "write the expression"),
     (b"s|a\\|b|c|\n", 1, 4, "escaped-delimiter", "this delimiter can't be escaped: seds differ on what it then means",
      "use a delimiter that isn't in the expression"),

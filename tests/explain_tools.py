@@ -142,6 +142,7 @@ OF_HINTS = {
     "FAULTS.md#bad-flag-the-flags-e-and-m": ["`^` and `$` match only"],
     "FAULTS.md#missing-text-one-that-begins-with-a-backslash": ["seds differ on a text"],
     "FAULTS.md#extra-text-a-byte-at-the-end-of-a-line": ["the line ends in a carriage return", "BusyBox joins"],
+    "FAULTS.md#extra-text-a-control-character-in-a-name": ["remove this control character"],
     "FAULTS.md#bad-escape-a-bar": ["a range needs"],
     "FAULTS.md#bad-escape-a-bar-and-another-command": ["for `/a\\|b/p`"],
     "FAULTS.md#bad-escape-classes-of-letters-and-blanks": ["for `\\%s` write" % letter for letter in "sSwW"],

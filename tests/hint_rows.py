@@ -413,7 +413,7 @@ NARROWED = [
     Row("comment with a backslash at its end", "s/a/b/ # c\\\ns/b/c/\n", "BusyBox joins this line with the next one", "s/a/b/ # c\ns/b/c/\n",
         ("a\n", "b\n", "ab\n")),
     Row("name with a backslash at its end", "w out\\\ns/b/c/\n", "BusyBox joins this line with the next one", "w out\ns/b/c/\n", ("a\n", "b\n", "ab\n")),
-    Row("name with a form feed", "w \fout\ns/b/c/\n", "BusyBox skips this character", "w out\ns/b/c/\n", ("a\n", "b\n", "ab\n")),
+    Row("name with a form feed", "w \fout\ns/b/c/\n", "remove this control character", "w out\ns/b/c/\n", ("a\n", "b\n", "ab\n")),
 ]
 
 ROWS = NARROWED + REPLACED + ESCAPES + BARS + ADDRESSES + COMMANDS + LOOPS

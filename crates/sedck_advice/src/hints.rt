@@ -58,7 +58,7 @@ fn file_hint(rest: &[u8]) -> Option<&'static str> {
     }
     if rest.starts_with(b"\r") {
         return Some(
-            "BusyBox ends a line at a carriage return: remove it, or save the file with Unix line endings",
+            "BusyBox ends a comment at a carriage return, and a terminal obeys it in a name: remove it, or save the file with Unix line endings",
         );
     }
     if rest.starts_with(BYTE_ORDER_MARK) {
@@ -507,8 +507,8 @@ fn end_hint(spot: Spot) -> &'static str {
     }
     let Reading { place, command, .. } = spot.in_script();
     let byte = byte_at(spot.rest, 0);
-    if byte == 11 || byte == 12 {
-        return "BusyBox skips this character: begin the name with another one";
+    if is_control(byte, byte_at(spot.rest, 1)) {
+        return "remove this control character: a terminal may obey it, and BusyBox skips some before a name";
     }
     match place {
         Place::Flags if is_among(byte, "gpw0123456789IimMe") =>
@@ -524,6 +524,11 @@ fn end_hint(spot: Spot) -> &'static str {
         }
         _ => "end each command with a newline or a `;`",
     }
+}
+
+/// Whether a control character begins with these bytes, which is one byte or two of UTF-8.
+fn is_control(first: u8, second: u8) -> bool {
+    first < 32 || first == 127 || (first == 194 && second >= 128 && second <= 159)
 }
 
 fn delimiter_hint(rest: &[u8]) -> &'static str {

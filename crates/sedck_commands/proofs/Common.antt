@@ -30,7 +30,6 @@ pub use Rattle.sedck_commands.specs.Private.Alike.{Name, Flags, IsExpression, Is
 pub use Rattle.sedck_commands.specs.Private.Forms.{text_byte, file_byte, jump_byte, IsForm}
 pub use Rattle.sedck_commands.specs.Private.Keeping.{kept_from, kept_with, may_keep}
 pub use Rattle.sedck_commands.specs.Private.LabelReading.{BranchText}
-pub use Rattle.sedck_commands.specs.Private.NameReading.{is_skipped}
 pub use Rattle.sedck_commands.specs.Private.PieceReading.{IsFirstEscape, as_written, IsPiece, IsReadUpTo, IsWrittenUpTo, list_escape, PatternText, escaped}
 pub use Rattle.sedck_commands.specs.Private.Progress.{IsProgress, NotesLabel, IsFront}
 pub use Rattle.sedck_commands.specs.Private.Reading.{EndsIn, EndsFlags}

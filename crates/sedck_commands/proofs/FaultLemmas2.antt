@@ -1,9 +1,11 @@
 -- Where a text begins of which it is said what is wrong with it.
-use Rattle.sedck_commands.proofs.Common.{◌≡◌, ◌≢◌, ◌∙◌, ℕ, suc, ◌+◌, ◌-◌, ◌<◌, ◌≤◌, Bool, true, false, not, List, [], ◌∷◌, ◌++◌, Some, length, get_or, take, drop, refl, ap, sym, arith, length-append, length-drop, eq-eqb, nil_from_length, not_from_false, is_blank, is_digit, is_ending, is_continued, is_newline, is_skipped, IsEmptyOr, Longest, unread, unread_length, IsAhead, Bor, Cursor, get_or-take, length-take-le, IsFirstByte, is_byte, BeginsAt, CommentFault, NameFault, begins_flag, ExtraText}
+use Rattle.sedck_commands.proofs.Common.{◌≡◌, ◌≢◌, ◌∙◌, ℕ, suc, ◌+◌, ◌-◌, ◌<◌, ◌≤◌, Bool, true, false, not, List, [], ◌∷◌, ◌++◌, Some, length, get_or, take, drop, refl, ap, sym, arith, length-append, length-drop, eq-eqb, nil_from_length, not_from_false, is_blank, is_digit, is_ending, is_continued, is_newline, IsEmptyOr, Longest, unread, unread_length, IsAhead, Bor, Cursor, get_or-take, length-take-le, IsFirstByte, is_byte, BeginsAt, CommentFault, begins_flag, ExtraText}
 use Rattle.std.proofs.lemmas.Grind.{get_or_default_zero}
 use Rattle.sedck_commands.proofs.LineBytes.{continued_last}
 use Rattle.sedck_commands.proofs.CommentLemmas.{return_cut}
+use Rattle.sedck_commands.proofs.ControlLemmas.{control_cut}
 use Rattle.sedck_commands.specs.FirstFaults as fault
+use Rattle.sedck_commands.specs.FirstFaults.{FirstControl}
 
 -- what hasn't been read begins at the cursor's offset
 pub begins_here : (cursor : Cursor) {whole : Bor (List ℕ)} {cut : List ℕ} {offset : ℕ} → cursor.whole ≡ whole → unread cursor ≡ cut → offset ≡ cursor.at
@@ -54,16 +56,26 @@ no_line {begins} {line} {rest} run none = go begins (rw (sym (run.cut ∙ ap (λ
     go [] h = tt
     go (b ∷ text) h = not_not (is_newline b) h
 
--- a name whose first byte some seds skip
-pub skipped_fault : (begins : Cursor) {whole : Bor (List ℕ)} {text blanks : List ℕ} (name rest : List ℕ) {opening offset : ℕ} → begins.whole ≡ whole
-    → Longest is_blank text blanks (unread begins) → unread begins ≡ name ++ rest → 1 ≤ length name → is_skipped (get_or name 0 0) ≡ true
-    → offset ≡ begins.at → NameFault (length whole.now) opening text (ExtraText offset)
-skipped_fault begins [] rest same l cut some h at = absurd (omega (arith, some))
-skipped_fault begins (b ∷ name) rest same l cut some h at = fault.NameFault.skipped (rw cut at l) h (begins_here begins same cut at)
+-- the first control character of a name begins within what has been read
+pub control_within : (begins rest : Cursor) {name control : List ℕ} → IsAhead begins (length name) rest → FirstControl name control → length control ≤ rest.at
+control_within begins rest {control = control} ahead f =
+    let k = control_cut f in omega (arith, ahead.at, ap length k.1 ∙ length-append k.0 control)
 
-pub first_plain : (test : ℕ → Bool) (name : List ℕ) → test (get_or name 0 0) ≡ false → IsEmptyOr (λ b. not (test b)) name
-first_plain test [] h = tt
-first_plain test (b ∷ name) h = not_from_false (test b) h
+-- where the first control character of a name begins
+pub control_begins : (begins rest : Cursor) {whole : Bor (List ℕ)} {name control : List ℕ} {offset : ℕ} → begins.whole ≡ whole
+    → IsAhead begins (length name) rest → FirstControl name control → offset ≡ rest.at
+    → BeginsAt (length whole.now) (control ++ unread rest) (offset - length control)
+control_begins begins rest {name = name} {control = control} same ahead f at =
+    let k = control_cut f in
+    omega (
+      arith,
+      unread_length rest,
+      ap (λ w. length w.now) (ahead.whole ∙ same),
+      ahead.at,
+      length-append control (unread rest),
+      ap length k.1 ∙ length-append k.0 control,
+      at,
+    )
 
 -- a byte that begins no flag, and no end of the flags
 pub no_flag_byte : (b : ℕ) → b ≢ 103 → b ≢ 112 → b ≢ 119 → is_digit b ≡ false → is_blank b ≡ false → is_ending b ≡ false → begins_flag b ≡ false

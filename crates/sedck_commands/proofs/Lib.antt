@@ -5,6 +5,7 @@ pub mod FirstBytes
 pub mod NumberLemmas
 pub mod CommandEnds
 pub mod CommentLemmas
+pub mod ControlLemmas
 pub mod OffsetLemmas
 pub mod TextEnds
 pub mod PartLemmas

@@ -1,9 +1,5 @@
 -- Where a byte of a line is in the whole text.
-use Rattle.sedck_commands.proofs.Common.{◌≡◌, ℕ, true, false, Bool, Option, ◌+◌, ◌-◌, ◌<◌, inl, inr, Some, List, [], ◌∷◌, ◌++◌, length, get_or, refl, ap, sym, ◌∙◌, subst, length-append, arith, get_or-append_seam, false≢true, eqb-true, eqb_tells, IsTrue, begins, is_continued, is_skipped, is_extra, MatchOption}
-
--- a byte that may not be in a name
-pub skipped_extra : (b : ℕ) → is_skipped b ≡ true → IsTrue (is_extra b)
-skipped_extra b h = grind (arith, h)
+use Rattle.sedck_commands.proofs.Common.{◌≡◌, ℕ, true, false, Bool, Option, ◌+◌, ◌-◌, ◌<◌, inl, inr, Some, List, [], ◌∷◌, ◌++◌, length, get_or, refl, ap, sym, ◌∙◌, subst, length-append, arith, get_or-append_seam, false≢true, eqb-true, eqb_tells, IsTrue, begins, is_continued, MatchOption}
 
 -- the last byte of such a line is a backslash
 pub continued_cut : (line : List ℕ) → is_continued line ≡ true → (front : List ℕ) × (line ≡ front ++ 92 ∷ [])

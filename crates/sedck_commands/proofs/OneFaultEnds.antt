@@ -1,8 +1,10 @@
 -- Ends of commands, comments, texts and names have one fault at most, and can't be read where they have one.
-use Rattle.sedck_commands.proofs.Common.{◌≡◌, ℕ, ◌<◌, true, not, List, [], ◌∷◌, ◌++◌, length, refl, ap, sym, ◌∙◌, inl, inr, arith, false≢true, both_ways, not-true, is_newline, is_continued, IsEmptyOr, Longest, Ends, Name, HasNoInnerReturn, ScriptFault, longest_one, Contains, Contains-append_right, EndsFlags, BeginsAt, EndFault, EndFlagsFault, CommentFault, TextFault, NameFault, ExtraText}
-use Rattle.sedck_bre.specs.Brackets.{is_from}
+use Rattle.sedck_commands.proofs.Common.{◌≡◌, ℕ, ◌<◌, true, false, not, List, [], ◌∷◌, ◌++◌, length, refl, ap, sym, ◌∙◌, inl, inr, arith, false≢true, both_ways, not-true, is_newline, is_continued, IsEmptyOr, Longest, Ends, Name, HasNoInnerReturn, ScriptFault, longest_one, Contains, Contains-append_right, EndsFlags, BeginsAt, EndFault, EndFlagsFault, CommentFault, TextFault, NameFault, ExtraText}
 use Rattle.sedck_commands.specs.FirstFaults as o
+use Rattle.sedck_commands.specs.FirstFaults.{FirstControl}
+use Rattle.sedck_commands.specs.ReadAlike.{has_control}
 use Rattle.sedck_commands.proofs.CommandEnds.{no_end}
+use Rattle.sedck_commands.proofs.ControlLemmas.{control_has, control_one, control_some}
 use Rattle.sedck_commands.proofs.FirstBytes.{heads, tails}
 use Rattle.sedck_commands.proofs.UniqueParts.{ends_one}
 use Rattle.sedck_commands.proofs.UniqueItems.{longest_along}
@@ -73,30 +75,30 @@ here_over (b ∷ text) h = record { cut = refl; passes = refl; stops = rw h refl
 no_line : {text name rest : List ℕ} → IsEmptyOr is_newline text → Longest (λ b. not (is_newline b)) text name rest → 0 < length name → ⊥
 no_line {text} h l some = omega (arith, some, ap length (longest_one l (here_over text h)).0)
 
-skipped_over : (b : ℕ) → is_from 11 13 b ≡ true → is_newline b ≡ true → ⊥
-skipped_over b h g = grind (arith, h, g)
-
--- a name that begins with no byte that seds skip
-no_skipped : (b : ℕ) (behind name rest : List ℕ) → is_from 11 13 b ≡ true → Longest (λ b. not (is_newline b)) (b ∷ behind) name rest → 0 < length name
-    → IsEmptyOr (λ b. not (is_from 11 13 b)) name → ⊥
-no_skipped b behind [] rest h l some plain = omega (arith, some)
-no_skipped b behind (c ∷ name) rest h l some plain = both_ways (is_from 11 13 c) (not-true (is_from 11 13 c) plain) (ap (is_from 11 13) (sym (heads l.cut)) ∙ h)
+-- a name without a control character
+no_control : {name other behind : List ℕ} → FirstControl name behind → name ≡ other → has_control other ≡ false → ⊥
+no_control f same plain = false≢true (sym (ap has_control same ∙ plain) ∙ control_has f)
 
 pub file_one : {size opening : ℕ} {text : List ℕ} {f g : ScriptFault} → NameFault size opening text f → NameFault size opening text g → f ≡ g
 file_one (o.missing l h) (o.missing m i) = refl
-file_one (o.missing l h) (o.skipped {b = b} m v b') = absurd (skipped_over b v (rw (longest_one l m).1 at h))
+file_one (o.missing l h) (o.control m k f a) = absurd (no_line (rw (longest_one l m).1 at h) k (control_some _ f))
 file_one (o.missing l h) (o.joined m k some plain more c a) = absurd (no_line (rw (longest_one l m).1 at h) k some)
-file_one (o.skipped {b = b} l v a) (o.missing m h) = absurd (skipped_over b v (rw (longest_one m l).1 at h))
-file_one (o.skipped l v a) (o.skipped m w b) = ap ExtraText (at_one (longest_one l m).1 a b)
-file_one (o.skipped l v a) (o.joined m k some plain more c b) = absurd (no_skipped _ _ _ _ v (longest_along (sym (longest_one l m).1) k) some plain)
+file_one (o.control l k f a) (o.missing m h) = absurd (no_line (rw (longest_one m l).1 at h) k (control_some _ f))
+file_one (o.control l k f a) (o.control m j g b) =
+    let lines = longest_one (longest_along (longest_one l m).1 k) j in
+    let behind = control_one (rw lines.0 at f) g in
+    ap ExtraText (at_one (λ i. behind i ++ lines.1 i) a b)
+file_one (o.control l k f a) (o.joined m j some plain more c b) =
+    absurd (no_control f (longest_one (longest_along (longest_one l m).1 k) j).0 plain)
 file_one (o.joined l k some plain more c a) (o.missing m h) = absurd (no_line (rw (longest_one m l).1 at h) k some)
-file_one (o.joined l k some plain more c a) (o.skipped m v b) = absurd (no_skipped _ _ _ _ v (longest_along (longest_one l m).1 k) some plain)
+file_one (o.joined l k some plain more c a) (o.control m j f b) =
+    absurd (no_control f (longest_one (longest_along (longest_one m l).1 j) k).0 plain)
 file_one (o.joined l k some plain more c a) (o.joined m j some' plain' more' d b) =
     ap ExtraText (omega (arith, at_one (longest_one (longest_along (longest_one l m).1 k) j).1 a b))
 
 pub file_not : {size opening : ℕ} {text name rest : List ℕ} {f : ScriptFault} → NameFault size opening text f → Name text name rest → ⊥
 file_not (o.missing l h) n = no_line (rw (longest_one l n.skipped).1 at h) n.run n.some
-file_not (o.skipped l v a) n = no_skipped _ _ _ _ v (longest_along (longest_one n.skipped l).1 n.run) n.some n.alike.plain
+file_not (o.control l k f a) n = no_control f (longest_one (longest_along (longest_one l n.skipped).1 k) n.run).0 n.alike.plain
 file_not (o.joined l k some plain more c a) n =
     let same = longest_one (longest_along (longest_one l n.skipped).1 k) n.run in
     elim n.alike.over [

@@ -5,7 +5,8 @@ use Rattle.sedck_commands.specs.Faults.{IsUnread}
 use Rattle.sedck_commands.proofs.UniqueVerbs.{NoVerb}
 use Rattle.sedck_commands.proofs.OffsetLemmas.{tail_cut, tail_tail, tail_behind, ends_tail}
 use Rattle.sedck_commands.proofs.TextEnds.{whole_from, byte_at}
-use Rattle.sedck_commands.proofs.LineBytes.{continued_cut, skipped_extra}
+use Rattle.sedck_commands.proofs.LineBytes.{continued_cut}
+use Rattle.sedck_commands.proofs.ControlLemmas.{control_byte, control_cut}
 use Rattle.sedck_commands.proofs.VerbCases.{no_text, no_name}
 use Rattle.sedck_commands.proofs.UniqueItems.{place_first}
 use Rattle.sedck_commands.proofs.FirstBytes.{heads}
@@ -56,6 +57,10 @@ module _ {whole text behind : List ℕ} {b : ℕ} (h : EndsIn whole text) (e : t
   name_placed {opening} listed a (o.missing l n) =
       verb_stands opening listed (grind (arith, listed)) a
       (no_name b listed (λ name r m. file_not {size = length whole} {opening = opening} (o.missing l n) m))
-  name_placed listed a (o.skipped {b = c} l s at) = (c, byte_at _ (tail_tail (tail_behind h e) (tail_cut l)) refl at, skipped_extra c s)
+  name_placed listed a (o.control {rest = rest} {behind = control} l m f at) =
+      let front = control_cut f in
+      let byte = control_byte f m.passes in
+      let cut = m.cut ∙ ap (λ t. t ++ rest) front.1 ∙ append_assoc front.0 control rest in
+      (byte.0, byte_at _ (tail_tail (tail_tail (tail_behind h e) (tail_cut l)) (front.0, cut)) (ap (λ t. t ++ rest) byte.2) at, byte.3)
   name_placed listed a (o.joined {name = name} {rest = rest} l m some plain more c at) =
       joined_placed name rest _ (rw m.cut at (tail_tail (tail_behind h e) (tail_cut l))) c at

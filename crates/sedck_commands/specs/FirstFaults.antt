@@ -3,15 +3,14 @@
 -- the flag or the address that opens the part. This project's own.
 use Rattle.std.specs.Prelude.{◌≡◌, ◌≢◌, ℕ, ◌+◌, ◌<◌, ◌≤◌, Bool, true, false, not, ◌||◌, ◌&&◌, ◌==◌, if◌then◌else◌, IsTrue, List, [], ◌∷◌, ◌++◌, length, Option, Contains, ◌⊎◌}
 use Rattle.std.specs.List.{list_any}
-use Rattle.sedck_text.specs.Bytes.{ascii, vertical_tab, carriage_return}
+use Rattle.sedck_text.specs.Bytes.{ascii, carriage_return}
 use Rattle.sedck_text.specs.Text.{is_in, one_of, begins}
 use Rattle.sedck_text.specs.Classes.{is_mark}
-use Rattle.sedck_bre.specs.Brackets.{is_from}
 use Rattle.sedck_expressions.specs.declared.fault.ReFault.{ReFault}
 use Rattle.sedck_commands.specs.Cuts.{newline, backslash, is_newline, is_blank, is_digit, is_label_byte, is_separator, is_ending, can_be_escaped, is_delimiter, is_continued, IsEmptyOr, Longest}
 use Rattle.sedck_commands.specs.BracketLists.{BracketList, BracketsClose}
 use Rattle.sedck_commands.specs.Program.{Pattern, Place, Address, NoAddress, One, Two, Part, Group, Verb, Label}
-use Rattle.sedck_commands.specs.ReadAlike.{is_misread, greatest_group, HasGroups, begins_braced_comment, IsNoComment, HasNoInnerReturn, read_alike}
+use Rattle.sedck_commands.specs.ReadAlike.{is_misread, begins_control, has_control, greatest_group, HasGroups, begins_braced_comment, IsNoComment, HasNoInnerReturn, read_alike}
 use Rattle.sedck_commands.specs.Parts.{Ends, Number, DelimitedExpression, ExpressionText, IsPatternIn, DelimitedList, FirstList, EscapedPart, is_plain, Replacement, GivenText, PlaceText}
 use Rattle.sedck_commands.specs.Items.{WrittenVerb, Known, JumpTo, Opening, Simple, VerbText, CommandText, Item, Written, Closing}
 use Rattle.sedck_commands.specs.Labels.{commands_among, IsLabelOf}
@@ -48,13 +47,19 @@ pub data TextFault (opening : ℕ) (text : List ℕ) : ScriptFault → Type 0 wh
   missing : {blanks begins : List ℕ} → Longest is_blank text blanks begins → ((bytes rest : List ℕ) → GivenText begins bytes rest → ⊥)
       → TextFault opening text (MissingText opening)
 
--- After blanks there is no name, or one that some seds read otherwise: its first byte is one that they skip, or its line is joined with the next one.
+-- the first control character of the text but a tab, with what is after it
+pub data FirstControl : List ℕ → List ℕ → Type 0 where
+  here : {text : List ℕ} → begins_control text ≡ true → FirstControl text text
+  later : {b : ℕ} {text behind : List ℕ} → begins_control (b ∷ text) ≡ false → FirstControl text behind → FirstControl (b ∷ text) behind
+
+-- After blanks there is no name, or one with a control character but a tab, the first of which is reported, or one whose line is joined with the next one.
 pub data NameFault (size opening : ℕ) (text : List ℕ) : ScriptFault → Type 0 where
   missing : {blanks rest : List ℕ} → Longest is_blank text blanks rest → IsEmptyOr is_newline rest → NameFault size opening text (MissingName opening)
-  skipped : {blanks behind : List ℕ} {b offset : ℕ} → Longest is_blank text blanks (b ∷ behind) → is_from vertical_tab carriage_return b ≡ true
-      → BeginsAt size (b ∷ behind) offset → NameFault size opening text (ExtraText offset)
+  control : {blanks begins name rest behind : List ℕ} {offset : ℕ} → Longest is_blank text blanks begins
+      → Longest (λ b. not (is_newline b)) begins name rest → FirstControl name behind → BeginsAt size (behind ++ rest) offset
+      → NameFault size opening text (ExtraText offset)
   joined : {blanks begins name rest : List ℕ} {offset : ℕ} → Longest is_blank text blanks begins → Longest (λ b. not (is_newline b)) begins name rest
-      → 0 < length name → IsEmptyOr (λ b. not (is_from vertical_tab carriage_return b)) name → 0 < length rest → is_continued name ≡ true
+      → 0 < length name → has_control name ≡ false → 0 < length rest → is_continued name ≡ true
       → BeginsAt size rest (offset + 1) → NameFault size opening text (ExtraText offset)
 
 -- ---- Parts between delimiters

@@ -7,7 +7,6 @@ pub mod Forms
 pub mod Keeping
 pub mod LabelReading
 pub mod Locating
-pub mod NameReading
 pub mod PieceReading
 pub mod Progress
 pub mod Reading

@@ -1,8 +1,8 @@
 -- What is refused since no sed takes it, since some sed reads it otherwise than the standard has it, or since a matcher gets it wrong. Mostly this
 -- project's own (docs/GRAMMAR.md): no promise rests on it, since a yes speaks of the text as the grammar reads it, with nothing of this asked.
-use Rattle.std.specs.Prelude.{◌≡◌, ◌≢◌, ℕ, ◌≤◌, length, Contains, Bool, true, false, not, ◌&&◌, ◌||◌, ◌==◌, if◌then◌else◌, List, [], ◌∷◌, ◌++◌, IsTrue, ◌⊎◌}
+use Rattle.std.specs.Prelude.{◌≡◌, ◌≢◌, ℕ, ◌≤◌, nat_lt, length, Contains, Bool, true, false, not, ◌&&◌, ◌||◌, ◌==◌, if◌then◌else◌, List, [], ◌∷◌, ◌++◌, IsTrue, ◌⊎◌}
 use Rattle.sedck_text.specs.Text.{is_in, one_of, begins}
-use Rattle.sedck_text.specs.Bytes.{vertical_tab, carriage_return, ascii}
+use Rattle.sedck_text.specs.Bytes.{tab, carriage_return, ascii}
 use Rattle.sedck_bre.specs.Brackets.{is_from}
 use Rattle.sedck_expressions.specs.Misjudged.{is_misjudged}
 use Rattle.sedck_commands.specs.Cuts.{backslash, is_newline, is_letter, is_digit, is_continued, IsEmptyOr, Longest}
@@ -47,10 +47,25 @@ pub record ClosesBrackets (delimiter : ℕ) (text rest : List ℕ) : Type 0 wher
   pub cut : text ≡ written ++ delimiter ∷ rest
   pub closed : BracketsClose written []
 
--- A name begins with no vertical tab, form feed or carriage return, which BusyBox skips. Where a line follows, it doesn't end in an odd number of
--- backslashes, since BusyBox joins these lines: in `r a\` and a line `w F` it sees one command, and we two.
+-- a byte begins the text that is the second one of a control character, from U+0080 to U+009F in UTF-8
+abbrev pub ends_control : List ℕ → Bool
+ends_control [] = false
+ends_control (b ∷ text) = is_from 128 159 b
+
+-- a control character but a tab begins the text
+abbrev pub begins_control : List ℕ → Bool
+begins_control [] = false
+begins_control (b ∷ text) = (nat_lt b 32 && not (b == tab)) || ((b == 127) || ((b == 194) && ends_control text))
+
+abbrev pub has_control : List ℕ → Bool
+has_control [] = false
+has_control (b ∷ text) = begins_control (b ∷ text) || has_control text
+
+-- A name has no control character but a tab: a terminal obeys some of them, so that it would show another list of files, and BusyBox skips some before a
+-- name. Where a line follows, it doesn't end in an odd number of backslashes, since BusyBox joins these lines: in `r a\` and a line `w F` it sees one
+-- command, and we two.
 pub record IsNameAlike (name rest : List ℕ) : Type 0 where
-  pub plain : IsEmptyOr (λ b. not (is_from vertical_tab carriage_return b)) name
+  pub plain : has_control name ≡ false
   pub over : (rest ≡ []) ⊎ (is_continued name ≡ false)
 
 -- ---- Comments and blocks

@@ -50,7 +50,7 @@ pub enum ScriptFault {
     TooDeep { place: usize },
     /// The 4,096th command. Place: its verb.
     TooManyCommands { place: usize },
-    /// A byte that may not follow a command, as in `p p`, or a carriage return inside a comment. Place: that byte.
+    /// A byte that may not follow a command, as in `p p`, a carriage return inside a comment, or a control character in a name. Place: that byte.
     ExtraText { place: usize },
     /// An empty expression in a script where every one is empty, as in `s//x/`. Place: after its opening delimiter.
     NoPreviousExpression { place: usize },

@@ -1,11 +1,11 @@
 //! Names of files, as commands give them.
 
-ghost use Rattle.std.specs.Prelude.{◌≡◌, length, IfOk, IfErr};
+ghost use Rattle.std.specs.Prelude.{◌≡◌, false, ◌∷◌, length, IfOk, IfErr, MatchOption};
 ghost use Rattle.sedck_commands.specs.Cuts.{is_continued};
 ghost use Rattle.sedck_commands.specs.Private.Alike.{Name};
-ghost use Rattle.sedck_commands.specs.FirstFaults.{NameFault};
+ghost use Rattle.sedck_commands.specs.ReadAlike.{begins_control, has_control};
+ghost use Rattle.sedck_commands.specs.FirstFaults.{FirstControl, NameFault};
 ghost use Rattle.sedck_text.specs.Cursors.{unread};
-ghost use Rattle.sedck_commands.specs.Private.NameReading.{is_skipped};
 
 use crate::fault::ScriptFault;
 use sedck_text::{Class, Cursor};
@@ -35,11 +35,30 @@ pub fn is_continued(line: &[u8]) -> bool
     }
 }
 
-/// Whether some seds skip the byte before a name.
-fn is_skipped(byte: u8) -> bool
-    ensures { result ≡ is_skipped byte }
+/// Whether a control character but a tab is there: a byte, or two that are one in UTF-8.
+fn begins_control(first: u8, behind: &[u8]) -> bool
+    ensures { result ≡ begins_control (first ∷ behind.now) }
 {
-    matches!(byte, 11..=13)
+    match first {
+        b'\t' => false,
+        0..=31 | 127 => true,
+        194 => matches!(behind, [128..=159, ..]),
+        _ => false,
+    }
+}
+
+/// The first control character but a tab, with what is after it.
+fn first_control(name: &[u8]) -> Option<&[u8]>
+    ensures { MatchOption result (has_control name.now ≡ false) (λ behind. FirstControl name.now behind.now) }
+{
+    let mut rest = name;
+    'bytes: while let [first, behind @ ..] = rest {
+        if begins_control(*first, behind) {
+            return Some(rest);
+        }
+        rest = behind;
+    }
+    None
 }
 
 /// The file name after the blanks at the start, and the text from the end of its line on. The opening is that of the verb or the
@@ -54,12 +73,12 @@ pub fn read_name<'a>(
 {
     let begins = text.skip(Class::Blank);
     let (name, rest) = begins.split(Class::Except(b'\n'));
-    let [first, ..] = name else {
+    if name.is_empty() {
         return Err(ScriptFault::MissingName { place: opening });
-    };
-    if is_skipped(*first) {
+    }
+    if let Some(control) = first_control(name) {
         return Err(ScriptFault::ExtraText {
-            place: begins.offset(),
+            place: rest.offset() - control.len(),
         });
     }
     if !rest.unread().is_empty() && is_continued(name) {

@@ -193,7 +193,7 @@ fn extra_reason(rest: &[u8]) -> &'static str {
     match (rest.first(), rest.get(1)) {
         (Some(b'\r'), _) => "unexpected carriage return",
         (Some(b'\\'), Some(b'\n')) => "unexpected backslash at the end of the line",
-        (Some(11 | 12), _) => "unexpected control character",
+        (Some(0..=31 | 127), _) | (Some(194), Some(128..=159)) => "unexpected control character",
         _ => "unexpected text after a command",
     }
 }

@@ -51,7 +51,8 @@ FAULTS.md#bad-label-a-brace-in-an-inner-block BusyBox reads the `}`
 FAULTS.md#bad-label-a-brace-in-an-inner-block in a nested block
 FAULTS.md#extra-text-an-argument an exit status
 FAULTS.md#extra-text-a-byte-at-the-end-of-a-line BusyBox joins
-FAULTS.md#extra-text-a-byte-at-the-end-of-a-line BusyBox ends a line
+FAULTS.md#extra-text-a-byte-at-the-end-of-a-line BusyBox ends a comment
+FAULTS.md#extra-text-a-control-character-in-a-name remove this control character
 FAULTS.md#extra-text-a-byte-at-the-end-of-a-line the line ends in a carriage return
 FAULTS.md#bad-escape-classes-of-letters-and-blanks for `\\s`
 FAULTS.md#bad-escape-classes-of-letters-and-blanks for `\\S`
