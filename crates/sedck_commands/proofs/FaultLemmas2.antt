@@ -1,5 +1,5 @@
 -- Where a text begins of which it is said what is wrong with it.
-use Rattle.sedck_commands.proofs.Common.{◌≡◌, ◌≢◌, ◌∙◌, ℕ, suc, ◌+◌, ◌-◌, ◌<◌, ◌≤◌, Bool, true, false, not, List, [], ◌∷◌, ◌++◌, Some, length, get_or, take, drop, refl, ap, sym, arith, length-append, length-drop, eq-eqb, nil_from_length, not_from_false, is_blank, is_digit, is_ending, is_continued, is_newline, IsEmptyOr, Longest, unread, unread_length, IsAhead, Bor, Cursor, get_or-take, length-take-le, IsFirstByte, is_byte, BeginsAt, CommentFault, begins_flag, ExtraText}
+use Rattle.sedck_commands.proofs.Common.{◌≡◌, ◌≢◌, ◌∙◌, ℕ, suc, ◌+◌, ◌-◌, ◌<◌, ◌≤◌, Bool, true, false, not, List, [], ◌∷◌, ◌++◌, Some, length, take, drop, refl, ap, sym, arith, length-append, length-drop, eq-eqb, nil_from_length, is_blank, is_digit, is_ending, is_continued, is_newline, IsEmptyOr, Longest, unread, unread_length, IsAhead, Bor, Cursor, get_or-take, length-take-le, IsFirstByte, is_byte, BeginsAt, CommentFault, begins_flag, ExtraText}
 use Rattle.std.proofs.lemmas.Grind.{get_or_default_zero}
 use Rattle.sedck_commands.proofs.LineBytes.{continued_last}
 use Rattle.sedck_commands.proofs.CommentLemmas.{return_cut}

@@ -1,5 +1,5 @@
 -- Ends of commands, comments, texts and names have one fault at most, and can't be read where they have one.
-use Rattle.sedck_commands.proofs.Common.{◌≡◌, ℕ, ◌<◌, true, false, not, List, [], ◌∷◌, ◌++◌, length, refl, ap, sym, ◌∙◌, inl, inr, arith, false≢true, both_ways, not-true, is_newline, is_continued, IsEmptyOr, Longest, Ends, Name, HasNoInnerReturn, ScriptFault, longest_one, Contains, Contains-append_right, EndsFlags, BeginsAt, EndFault, EndFlagsFault, CommentFault, TextFault, NameFault, ExtraText}
+use Rattle.sedck_commands.proofs.Common.{◌≡◌, ℕ, ◌<◌, false, not, List, [], ◌∷◌, ◌++◌, length, refl, ap, sym, ◌∙◌, inl, inr, arith, false≢true, is_newline, is_continued, IsEmptyOr, Longest, Ends, Name, HasNoInnerReturn, ScriptFault, longest_one, Contains, Contains-append_right, EndsFlags, BeginsAt, EndFault, EndFlagsFault, CommentFault, TextFault, NameFault, ExtraText}
 use Rattle.sedck_commands.specs.FirstFaults as o
 use Rattle.sedck_commands.specs.FirstFaults.{FirstControl}
 use Rattle.sedck_commands.specs.ReadAlike.{has_control}

@@ -15,13 +15,13 @@ second_case false A B is m = m
 -- ---- Characters
 
 -- so many bytes are due until the text is a character, and not before
-abbrev Lacks : List ℕ → ℕ → Type 0
+abbrev pub Lacks : List ℕ → ℕ → Type 0
 Lacks c zero = c ≡ []
 Lacks c (suc zero) = (b : ℕ) → goes_on b ≡ true → is_character (c ++ b ∷ []) ≡ true
 Lacks c (suc (suc k)) = (b : ℕ) → goes_on b ≡ true → (is_character (c ++ b ∷ []) ≡ false) × Lacks (c ++ b ∷ []) (suc k)
 
 -- after its first byte
-abbrev Starts : ℕ → ℕ → Type 0
+abbrev pub Starts : ℕ → ℕ → Type 0
 Starts b zero = is_character (b ∷ []) ≡ true
 Starts b (suc k) = (is_character (b ∷ []) ≡ false) × Lacks (b ∷ []) (suc k)
 
@@ -63,7 +63,7 @@ starts_at b false false false x y z g = (
   ),
 )
 
-starts : (b : ℕ) → goes_on b ≡ false → Starts b (bytes_due b)
+pub starts : (b : ℕ) → goes_on b ≡ false → Starts b (bytes_due b)
 starts b g = starts_at b (nat_lt b 192) (nat_lt b 224) (nat_lt b 240) refl refl refl g
 
 pub low_byte : (b : ℕ) → is_high b ≡ false → is_character (b ∷ []) ≡ true
@@ -93,7 +93,7 @@ AllWide ts = (due : ℕ) (begun : List ℕ) → Lacks begun due → one_splits t
 low_widens : (b : ℕ) → is_high b ≡ false → Widens (MatchesCharacter (b ∷ [])) (WideMatch (Byte b))
 low_widens b low e w f m = first_case (is_character (b ∷ [])) ((w ≡ b ∷ []) × (f ≡ e)) (Unit {0}) (low_byte b low) m
 
-none_due : (due : ℕ) (begun : List ℕ) → Lacks begun due → nat_lt 0 due ≡ false → begun ≡ []
+pub none_due : (due : ℕ) (begun : List ℕ) → Lacks begun due → nat_lt 0 due ≡ false → begun ≡ []
 none_due zero begun lacks h = lacks
 none_due (suc k) begun lacks h = absurd (grind (arith, nat_tests, h))
 
@@ -124,7 +124,7 @@ begins : (b : ℕ) (ts : Trees) → AllWide ts → (due : ℕ) → Starts b due 
 begins b ts wide zero is safe e w f m = whole b ts wide [] is safe e w f m
 begins b ts wide (suc k) (isnt, lacks) safe e w f m = partly b ts wide [] k isnt lacks safe e w f m
 
-less : (k : ℕ) → suc (suc k) - 1 ≡ suc k
+pub less : (k : ℕ) → suc (suc k) - 1 ≡ suc k
 less k = omega arith
 
 goes : (b : ℕ) (ts : Trees) → AllWide ts → (due : ℕ) (begun : List ℕ) → Lacks begun due → goes_on b ≡ true → (due == 0) ≡ false
@@ -174,7 +174,7 @@ mutual
   pub widens : (t : Tree) → splits_character t ≡ false → Widens (CharacterMatch t) (WideMatch t)
   widens (Byte b) h e w f m = low_widens b h e w f m
   widens Any h e w f (one, same) = (not_empty w one, same)
-  widens (Set words) h e w f (one, same) = (not_empty w one, same)
+  widens (Set words) h e w f m = m
   widens (Group k body) h e w f (d, g, before, inside, is) = (d, g, before, widens body h d w g inside, is)
   widens (Seq ts) h e w f m =
       let (rest, same, found) = all_widen ts 0 [] refl h e w f m in

@@ -22,7 +22,7 @@ none_has test (y ∷ xs) x none has =
     one_of_two test y x (Contains xs x) first (Contains-cons_cases y xs x has) (none_has test xs x others)
 
 -- none of a command's patterns has an expression that splits a character
-abbrev AreWhole : List Pattern → Type 0
+abbrev pub AreWhole : List Pattern → Type 0
 AreWhole found = list_any splits_character (flat_map pattern_expressions found) ≡ false
 
 whole_parts : (one other : List Pattern) → AreWhole (one ++ other) → AreWhole one × AreWhole other
@@ -43,7 +43,7 @@ all_whole (c ∷ commands) none =
     whole_join (address_patterns c.address ++ verb_patterns c.verb) (patterns commands) split (all_whole commands others)
 
 -- the expression that a pattern stands for
-stands_whole : (p : Program) → IsByteSafe p → (pattern : Pattern) (tree : Tree) → AreWhole (pattern ∷ []) → StandsFor p pattern tree
+pub stands_whole : (p : Program) → IsByteSafe p → (pattern : Pattern) (tree : Tree) → AreWhole (pattern ∷ []) → StandsFor p pattern tree
     → splits_character tree ≡ false
 stands_whole p safe (Expression own) tree none is =
     subst (λ t. splits_character t ≡ false) (sym is) (or_parts (splits_character own) false none).0
@@ -56,7 +56,7 @@ one_byte : ℕ → List ℕ
 one_byte b = b ∷ []
 
 -- the characters of a text of bytes below 128 are its bytes
-low_characters : (text : List ℕ) → list_any is_high text ≡ false → characters_from [] text ≡ map (λ b. b ∷ []) text
+pub low_characters : (text : List ℕ) → list_any is_high text ≡ false → characters_from [] text ≡ map (λ b. b ∷ []) text
 low_characters [] low = refl
 low_characters (b ∷ text) low =
     let (first, others) = or_parts (is_high b) (list_any is_high text) low in
@@ -67,7 +67,7 @@ some_byte : (o : Option ℕ) (c : List ℕ) → option_map (λ b. b ∷ []) o �
 some_byte None c is = absurd (none-some c is)
 some_byte (Some b) c is = (b, refl, sym (same_Some (b ∷ []) c is))
 
-byte_at : (text : List ℕ) → list_any is_high text ≡ false → (i : ℕ) (c : List ℕ) → slice_get (characters_from [] text) i ≡ Some c
+pub byte_at : (text : List ℕ) → list_any is_high text ≡ false → (i : ℕ) (c : List ℕ) → slice_get (characters_from [] text) i ≡ Some c
     → (b : ℕ) × (slice_get text i ≡ Some b) × (c ≡ b ∷ [])
 byte_at text low i c is = some_byte (slice_get text i) c
     (sym (slice_get-map (λ b. b ∷ []) text i) ∙ ap (λ cs. slice_get cs i) (sym (low_characters text low)) ∙ is)
@@ -114,14 +114,14 @@ verb_widens p safe (Transliterate from to) none low =
     λ old new h. transliterates_wide from to both.0 both.1 old new h
 verb_widens p safe _ none low = tt
 
-command_at : (p : Program) → IsByteSafe p → (at : ℕ) (c : Command) → slice_get p.commands at ≡ Some c → AreWhole (verb_patterns c.verb) × (replaces_byte c.verb ≡ false)
+pub command_at : (p : Program) → IsByteSafe p → (at : ℕ) (c : Command) → slice_get p.commands at ≡ Some c → AreWhole (verb_patterns c.verb) × (replaces_byte c.verb ≡ false)
 command_at p safe at c is =
     let has : Contains p.commands c = (at, slice_get_within p.commands at c is, get_or_from_slice_get p.commands at c c is) in
     let (split, low) = or_parts (list_any splits_character (command_expressions c)) (replaces_byte c.verb)
     (none_has depends_on_characters p.commands c safe has) in
     ((whole_parts (address_patterns c.address) (verb_patterns c.verb) split).1, low)
 
-characters_widen : (p : Program) → IsByteSafe p → Widens p utf_8 any_locale
+pub characters_widen : (p : Program) → IsByteSafe p → Widens p utf_8 any_locale
 characters_widen p safe = record {
   selects = λ pattern text h. tt;
   verbs = λ at c is. let here = command_at p safe at c is in verb_widens p safe c.verb here.0 here.1;

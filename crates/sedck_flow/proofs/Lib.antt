@@ -23,5 +23,7 @@ pub mod VerbLemmas
 pub mod EdgesLemmas
 pub mod CharacterMatches
 pub mod CharacterRuns
+pub mod ByteMatches
+pub mod ByteRuns
 pub mod Accents
 pub mod ExampleProofs

@@ -1,6 +1,6 @@
 -- What an expression matches by characters of UTF-8, where a byte above 127 is a part of a character (XBD 6.1, 7.3.1, 9.2; RFC 3629, section 3), as
 -- GNU sed, BusyBox and others match in such a locale.
-use Rattle.std.specs.Prelude.{◌≡◌, ◌⊎◌, ℕ, ◌&&◌, Bool, false, IsTrue, MatchBool, List, [], ◌∷◌, ◌++◌, length, nat_lt}
+use Rattle.std.specs.Prelude.{◌≡◌, ◌≢◌, ◌⊎◌, ℕ, ◌&&◌, Bool, false, IsTrue, MatchBool, List, [], ◌∷◌, ◌++◌, length, nat_lt}
 use Rattle.sedck_expressions.specs.Tree.{Tree, Trees, Byte, Any, Set, Group, Seq, Repeat, Nil, Then}
 use Rattle.sedck_bre.specs.Match.{Groups, with_text, unset, IsWithin, Times, Match}
 
@@ -19,7 +19,7 @@ is_character (a ∷ b ∷ c ∷ []) = nat_lt 223 a && nat_lt a 240 && is_tail b 
 is_character (a ∷ b ∷ c ∷ d ∷ []) = nat_lt 239 a && is_tail b && is_tail c && is_tail d
 is_character _ = false
 
--- what `.` and a list take: one character, or one byte, as of a text that isn't UTF-8
+-- what `.` takes: one character, or one byte, as of a text that isn't UTF-8
 abbrev pub IsOne : List ℕ → Type 0
 IsOne w = IsTrue (is_character w) ⊎ (length w ≡ 1)
 
@@ -30,11 +30,12 @@ abbrev pub MatchesCharacter : List ℕ → Groups → List ℕ → Groups → Ty
 MatchesCharacter c e w e' = MatchBool (is_character c) ((w ≡ c) × (e' ≡ e)) (Unit {0})
 
 abbrev mutual
-  -- as in `Match`, but that `.` and a list take a character, and a byte is a part of the character that it stands in
+  -- As in `Match`, but that `.` takes a character, and a byte is a part of the character that it stands in. A list takes any text that isn't empty, since
+  -- in some locales a collating element has several characters (XBD 9.3.5): in Danish `[^x]` takes `aa`.
   pub CharacterMatch : Tree → Groups → List ℕ → Groups → Type 0
   CharacterMatch (Byte b) e w e' = MatchesCharacter (b ∷ []) e w e'
   CharacterMatch Any e w e' = IsOne w × (e' ≡ e)
-  CharacterMatch (Set bytes) e w e' = IsOne w × (e' ≡ e)
+  CharacterMatch (Set bytes) e w e' = (w ≢ []) × (e' ≡ e)
   CharacterMatch (Group k body) e w e' = (d f : Groups) × ((d ≡ e) ⊎ (d ≡ unset body e)) × CharacterMatch body d w f × (e' ≡ with_text f k w)
   CharacterMatch (Seq ts) e w e' = CharacterMatchAll [] ts e w e'
   CharacterMatch (Repeat body least most) e w e' = (n : ℕ) × IsWithin least most n × Times (CharacterMatch body) n e w e'

@@ -1,6 +1,6 @@
 //! What is proved of runs and the flow graph alone. The functions do nothing: their contracts are the laws.
 
-ghost use Rattle.sedck_flow.specs.Laws.{NodesAreNumbered, StepsFollowEdges, KindsAgree, LiteralKindsStay, EdgesWereThere, EdgesStayInside, RunsGoOn, FilesAreNamed, RunsAreWide, WideStepsFollowEdges, WideFilesAreNamed, WideRunsGoOn, CharacterMatchesAreWide, CharacterRunsAreWide, AccentsAreSplit};
+ghost use Rattle.sedck_flow.specs.Laws.{NodesAreNumbered, StepsFollowEdges, KindsAgree, LiteralKindsStay, EdgesWereThere, EdgesStayInside, RunsGoOn, FilesAreNamed, RunsAreWide, WideStepsFollowEdges, WideFilesAreNamed, WideRunsGoOn, CharacterMatchesAreWide, CharacterRunsAreWide, RunsAreByCharacters, CharacterRunsGoOn, AccentsAreSplit};
 ghost use Rattle.sedck_flow.specs.Examples.{ExamplesHold};
 
 /// The index of a node is its position in the order of nodes, and each number is the index of one node.
@@ -82,6 +82,18 @@ pub fn character_matches_are_wide()
 #[tactic(auto, using(crate::proofs::CharacterRuns::character_run_wide))]
 pub fn character_runs_are_wide()
     ensures { CharacterRunsAreWide }
+{}
+
+/// Each run of POSIX of a script that is byte safe is a run by characters: these leave none of them out.
+#[tactic(auto, using(crate::proofs::ByteRuns::run_by_characters))]
+pub fn runs_are_by_characters()
+    ensures { RunsAreByCharacters }
+{}
+
+/// A run by characters, of a script that is byte safe, can take a further step where it hasn't ended.
+#[tactic(auto, using(crate::proofs::ByteRuns::character_run_goes_on))]
+pub fn character_runs_go_on()
+    ensures { CharacterRunsGoOn }
 {}
 
 /// An expression that isn't byte safe may match, by characters, what it doesn't match in a wide way.
