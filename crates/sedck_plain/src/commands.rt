@@ -1,20 +1,20 @@
 //! Commands, each with its addresses, its `!` and what its verb takes.
 
 use crate::delimiters::delimiter;
+use crate::expressions::Written;
 use crate::printed::Printed;
 use crate::substitutions::{pattern_text, push_substitution, push_transliteration};
 use sedck_script::{Address, Command, Place, Verb};
-use std::slice::Iter;
 
 /// Adds the addresses of the command, and its `!`.
-pub(crate) fn push_addresses(lists: &mut Iter<u8>, out: &mut Printed, command: &Command) {
+pub(crate) fn push_addresses(written: &mut Written, out: &mut Printed, command: &Command) {
     match &command.address {
         Address::None => {}
-        Address::One(place) => push_place(lists, out, place),
+        Address::One(place) => push_place(written, out, place),
         Address::Two(from, to) => {
-            push_place(lists, out, from);
+            push_place(written, out, from);
             out.push(b",");
-            push_place(lists, out, to);
+            push_place(written, out, to);
         }
     }
     if command.negated {
@@ -22,12 +22,12 @@ pub(crate) fn push_addresses(lists: &mut Iter<u8>, out: &mut Printed, command: &
     }
 }
 
-fn push_place(lists: &mut Iter<u8>, out: &mut Printed, place: &Place) {
+fn push_place(written: &mut Written, out: &mut Printed, place: &Place) {
     match place {
         Place::Line(n) => out.push_number(*n),
         Place::Last => out.push(b"$"),
         Place::Context(pattern) => {
-            let expression = pattern_text(out.alloc, lists, pattern);
+            let expression = pattern_text(out.alloc, written, pattern);
             let delimiter = delimiter(&expression.bytes, b"", &[]);
             if delimiter != b'/' {
                 out.push(b"\\");
@@ -40,7 +40,7 @@ fn push_place(lists: &mut Iter<u8>, out: &mut Printed, place: &Place) {
 
 /// Adds what the verb of one of these commands takes, without the newline after it.
 pub(crate) fn push_taken(
-    lists: &mut Iter<u8>,
+    written: &mut Written,
     out: &mut Printed,
     commands: &[Command],
     verb: &Verb,
@@ -64,7 +64,7 @@ pub(crate) fn push_taken(
             out.push(b" ");
             out.push(name);
         }
-        Verb::Substitute(substitution) => push_substitution(lists, out, substitution),
+        Verb::Substitute(substitution) => push_substitution(written, out, substitution),
         Verb::Transliterate(from, to) => push_transliteration(out, from, to),
         _ => {}
     }

@@ -6,18 +6,30 @@ use crate::written::{Position, after, is_in_list};
 use sedck_bre::Bre;
 use std::slice::Iter;
 
+/// What a program doesn't say of the expressions of a command, in order: their bracket lists, and of each `$` whether it stays without a
+/// backslash.
+#[derive(Drop)]
+pub(crate) struct Written<'a> {
+    pub(crate) lists: Iter<'a, u8>,
+    pub(crate) dollars: Iter<'a, bool>,
+}
+
 /// Adds the expression, whose lists are the first ones of these.
-pub(crate) fn push_tree(tree: &Bre, lists: &mut Iter<u8>, out: &mut Printed) {
+pub(crate) fn push_tree(tree: &Bre, written: &mut Written, out: &mut Printed) {
     match tree {
+        Bre::Byte(b'$') if written.dollars.next() == Some(&true) => out.push(b"$"),
         Bre::Byte(byte) => out.push_escaped(&[*byte], b".[\\*^$"),
         Bre::Any => out.push(b"."),
-        Bre::Set(_) => push_list(lists, out),
+        Bre::Set(_) => push_list(&mut written.lists, out),
         Bre::Start => out.push(b"^"),
-        Bre::End => out.push(b"$"),
+        Bre::End => {
+            written.dollars.next();
+            out.push(b"$");
+        }
         Bre::Maybe(byte) => out.push(&[*byte]),
         Bre::Group(_, body) => {
             out.push(b"\\(");
-            push_tree(body, lists, out);
+            push_tree(body, written, out);
             out.push(b"\\)");
         }
         Bre::Ref(k) => {
@@ -26,11 +38,11 @@ pub(crate) fn push_tree(tree: &Bre, lists: &mut Iter<u8>, out: &mut Printed) {
         }
         Bre::Seq(items) => {
             for item in items {
-                push_tree(item, lists, out);
+                push_tree(item, written, out);
             }
         }
         Bre::Repeat { body, least, most } => {
-            push_tree(body, lists, out);
+            push_tree(body, written, out);
             push_count(out, *least, *most);
         }
     }

@@ -1,6 +1,8 @@
 //! Scripts: a command on each line, what is in a block further to the right, and perhaps the comments.
 
 use crate::commands::{push_addresses, push_taken};
+use crate::dollars::bare_dollars;
+use crate::expressions::Written;
 use crate::printed::Printed;
 use sedck_script::{Command, Located, Location, Verb};
 use std::alloc::{AllocError, Global};
@@ -53,7 +55,12 @@ pub(crate) fn laid_out(
         page.add_between(begin, location.start);
         begin = page.add_comment_behind(location.end);
         let letter = text.get(location.verb).copied().unwrap_or(b'#');
-        locations.push(page.add_command(commands, command, letter, own))?;
+        let dollars = bare_dollars(alloc, text, *location)?;
+        let written = Written {
+            lists: own.iter(),
+            dollars: dollars.iter(),
+        };
+        locations.push(page.add_command(commands, command, letter, written))?;
     }
     page.add_between(begin, text.len());
     Ok((page.out.finish()?, locations))
@@ -109,21 +116,21 @@ impl<'a> Page<'a> {
         end.saturating_add(line.len())
     }
 
-    /// Adds one of the commands, whose verb has this letter and which has these lists. Answers where it is.
+    /// Adds one of the commands, whose verb has this letter and whose expressions have this. Answers where it is.
     fn add_command(
         &mut self,
         commands: &[Command],
         command: &Command,
         letter: u8,
-        lists: &[u8],
+        written: Written,
     ) -> Location {
         self.begin_line();
-        let mut lists = lists.iter();
+        let mut written = written;
         let start = self.out.bytes.len();
-        push_addresses(&mut lists, &mut self.out, command);
+        push_addresses(&mut written, &mut self.out, command);
         let verb = self.out.bytes.len();
         self.out.push(&[letter]);
-        push_taken(&mut lists, &mut self.out, commands, &command.verb);
+        push_taken(&mut written, &mut self.out, commands, &command.verb);
         let end = self.out.bytes.len();
         let backslashes = self
             .out

@@ -13,6 +13,7 @@
 
 mod commands;
 mod delimiters;
+mod dollars;
 mod expressions;
 mod layout;
 mod plain;

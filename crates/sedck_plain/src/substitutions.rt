@@ -1,28 +1,27 @@
 //! What `s` and `y` take.
 
 use crate::delimiters::delimiter;
-use crate::expressions::push_tree;
+use crate::expressions::{Written, push_tree};
 use crate::printed::Printed;
 use sedck_script::{Part, Pattern, Substitution};
 use std::alloc::Global;
-use std::slice::Iter;
 
 /// The text of an expression; none for the empty one.
-pub(crate) fn pattern_text(alloc: Global, lists: &mut Iter<u8>, pattern: &Pattern) -> Printed {
+pub(crate) fn pattern_text(alloc: Global, written: &mut Written, pattern: &Pattern) -> Printed {
     let mut text = Printed::new(alloc);
     if let Pattern::Expr(expression) = pattern {
-        push_tree(expression.body(), lists, &mut text);
+        push_tree(expression.body(), written, &mut text);
     }
     text
 }
 
 /// Adds what `s` takes: delimited parts and flags.
 pub(crate) fn push_substitution(
-    lists: &mut Iter<u8>,
+    written: &mut Written,
     out: &mut Printed,
     substitution: &Substitution,
 ) {
-    let expression = pattern_text(out.alloc, lists, &substitution.pattern);
+    let expression = pattern_text(out.alloc, written, &substitution.pattern);
     let delimiter = if has_escaped_letter(&substitution.parts) {
         b'x'
     } else {
