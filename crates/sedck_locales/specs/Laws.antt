@@ -1,13 +1,14 @@
 -- What is proved of expressions in other locales.
 use Rattle.std.specs.Prelude.{◌≡◌, ◌↔◌, ℕ, Bool, IsTrue, List, map}
-use Rattle.sedck_commands.specs.Program.{Address}
+use Rattle.sedck_commands.specs.Program.{Address, Program}
 use Rattle.sedck_commands.specs.Items.{WrittenVerb, CommandText}
 use Rattle.sedck_expressions.specs.Tree.{Tree}
 use Rattle.sedck_expressions.specs.Shape.{Shape}
 use Rattle.sedck_bre.specs.Match.{Groups, Match}
 use Rattle.sedck_plain.specs.WrittenLists.{lists_from, expression_lists, command_lists}
+use Rattle.sedck_plain.specs.Plain.{SpellSame}
 use Rattle.sedck_plain.specs.declared.written.Position.TheVariants.{Outside}
-use Rattle.sedck_locales.specs.Written.{written, lists_in, command_expressions}
+use Rattle.sedck_locales.specs.Written.{written, lists_in, command_expressions, IsWrittenAs}
 use Rattle.sedck_locales.specs.Locales.{MatchIn, PosixLists}
 
 -- the lists that are found in the text of an expression are those of the grammar
@@ -34,3 +35,8 @@ ListsAreByExpression = (text rest other left : List ℕ) (a b : Address) (m n : 
 abbrev pub MatchesArePosix : Type 0
 MatchesArePosix = (text : List ℕ) (t : Tree) (shape : Shape text t) (e : Groups) (w : List ℕ) (e' : Groups)
     → Match t e w e' ↔ MatchIn PosixLists (written text t shape) e w e'
+
+-- A script and its plain text are one program of written lists. So in each locale, whatever that makes of a list, of `.` and of a byte, each run of the text
+-- is one of the script.
+abbrev pub SpelledSameIsWrittenAlike : Type 0
+SpelledSameIsWrittenAlike = (script text : List ℕ) → SpellSame script text → (q : Program) → IsWrittenAs script q ↔ IsWrittenAs text q

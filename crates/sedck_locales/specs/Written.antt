@@ -1,8 +1,11 @@
--- An expression with its bracket lists as they are written.
-use Rattle.std.specs.Prelude.{ℕ, Bool, List, [], ◌∷◌, ◌++◌}
-use Rattle.sedck_commands.specs.Program.{Place, Address}
-use Rattle.sedck_commands.specs.Parts.{PlaceText, line, last, context, custom, AddressText, none, one, two}
-use Rattle.sedck_commands.specs.Items.{WrittenVerb, VerbText, substitute, CommandText}
+-- Expressions, and the program of a script, with their bracket lists as they are written.
+use Rattle.std.specs.Prelude.{◌≡◌, ℕ, Bool, List, [], ◌∷◌, ◌++◌}
+use Rattle.sedck_commands.specs.Program.{Pattern, Previous, Expression, Place, Line, Last, Context, Address, NoAddress, One, Two, Verb, Substitute, Command, Program}
+use Rattle.sedck_commands.specs.Parts as parts
+use Rattle.sedck_commands.specs.Parts.{IsPatternIn, PlaceText, line, last, context, custom, AddressText, none, one, two}
+use Rattle.sedck_commands.specs.Items.{WrittenVerb, VerbText, substitute, CommandText, Item, Items, nothing, comment, closing, command}
+use Rattle.sedck_commands.specs.ReadAlike.{read_alike}
+use Rattle.sedck_script.specs.Spelling.{Spells}
 use Rattle.sedck_expressions.specs.Tree.{Tree, Trees, Byte, Any, Set, Start, End, Maybe, Group, Ref, Seq, Repeat, Nil, Then}
 use Rattle.sedck_expressions.specs.Shape.{Level, Inside, Whole, Position, First, behind, SpellsItem, SpellsItems, SpellsList, Shape}
 
@@ -60,9 +63,47 @@ address_expressions (one first) = place_expressions first
 address_expressions (two first before is_comma after second) = place_expressions first ++ place_expressions second
 
 abbrev pub verb_expressions : {text rest : List ℕ} {verb : WrittenVerb} → VerbText text verb rest → List (List ℕ)
-verb_expressions (substitute {expression = expression} is_s delimiter cut pattern parts groups flags) = expression ∷ []
+verb_expressions (substitute {expression = expression} is_s delimiter cut pattern replacement groups flags) = expression ∷ []
 verb_expressions _ = []
 
 abbrev pub command_expressions : {text rest : List ℕ} {address : Address} {negated : Bool} {verb : WrittenVerb}
     → CommandText text address negated verb rest → List (List ℕ)
 command_expressions here = address_expressions here.addresses ++ verb_expressions here.verbs
+
+-- ---- Programs
+
+-- The parts of a command in which each set is the text of its list.
+abbrev pub written_pattern : {text : List ℕ} {pattern : Pattern} → IsPatternIn read_alike text pattern → Pattern
+written_pattern parts.previous = Previous
+written_pattern (parts.expression {b = b} {bytes = bytes} {tree = tree} (spells, alike)) = Expression (written_list tree Whole (b ∷ bytes) spells.0)
+
+abbrev pub written_place : {text rest : List ℕ} {place : Place} → PlaceText text place rest → Place
+written_place (line {number = n} number) = Line n
+written_place (last is_dollar) = Last
+written_place (context is_slash cut pattern) = Context (written_pattern pattern)
+written_place (custom is_backslash delimiter cut pattern) = Context (written_pattern pattern)
+
+abbrev pub written_address : {text rest : List ℕ} {address : Address} → AddressText text address rest → Address
+written_address none = NoAddress
+written_address (one first) = One (written_place first)
+written_address (two first before is_comma after second) = Two (written_place first) (written_place second)
+
+abbrev pub written_verb : {text rest : List ℕ} {verb : WrittenVerb} → VerbText text verb rest → Verb → Verb
+written_verb (substitute is_s delimiter cut pattern replacement groups flags) (Substitute s) = Substitute (record s { pattern = written_pattern pattern })
+written_verb _ verb = verb
+
+-- the commands of the items of a text, in which each set is the text of its list
+abbrev pub written_commands : {text : List ℕ} {items : List Item} → Items text items → List Command → List Command
+written_commands (nothing run) commands = []
+written_commands (comment run is_hash rest_of_line no_return more) commands = written_commands more commands
+written_commands (closing run is_brace ends more) commands = written_commands more commands
+written_commands (command run here more) [] = []
+written_commands (command run here more) (c ∷ commands) =
+    record { address = written_address here.addresses; negated = c.negated; verb = written_verb here.verbs c.verb } ∷ written_commands more commands
+
+-- The program that the text spells, in which each set is the text of its list, in place of the bytes that this has in the POSIX locale. So what it does in
+-- a locale depends on no other thing of the text.
+pub record IsWrittenAs (text : List ℕ) (written : Program) : Type 0 where
+  pub program : Program
+  pub spelled : Spells text program
+  pub is : written ≡ record { commands = written_commands spelled.spelled program.commands; quiet = program.quiet }

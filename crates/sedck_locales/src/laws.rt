@@ -1,6 +1,6 @@
 //! What is proved of expressions in other locales. The functions do nothing: their contracts are the laws.
 
-ghost use Rattle.sedck_locales.specs.Laws.{ListsAreWritten, ListsAreByExpression, WrittenAlikeIsOne, WrittenAlikeMatchAlike, MatchesArePosix};
+ghost use Rattle.sedck_locales.specs.Laws.{ListsAreWritten, ListsAreByExpression, WrittenAlikeIsOne, WrittenAlikeMatchAlike, MatchesArePosix, SpelledSameIsWrittenAlike};
 
 /// The bracket lists of an expression that are found in its text are those of the grammar, one after another.
 pub fn lists_are_written()
@@ -21,4 +21,9 @@ pub fn written_alike_match_alike()
 /// Where each list matches what it does in the POSIX locale, an expression matches what it does there.
 pub fn matches_are_posix()
     ensures { MatchesArePosix }
+{}
+
+/// What runs is what was judged, in each locale: a script and its plain text are one program with the bracket lists that are written.
+pub fn spelled_same_is_written_alike()
+    ensures { SpelledSameIsWrittenAlike }
 {}
