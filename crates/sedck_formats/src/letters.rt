@@ -3,6 +3,8 @@
 use sedck_report::{is_printable, shown_line};
 use std::alloc::{AllocError, Global};
 use std::str;
+use ucd_category::{GeneralCategory, GeneralCategoryGroup};
+use ucd_derived::is_default_ignorable_code_point;
 
 /// Which characters of a script are shown as they are.
 #[derive(Clone, Copy)]
@@ -110,35 +112,15 @@ fn push_first(alloc: Global, shown: &mut String, bytes: &[u8]) -> Result<usize, 
 /// The character with which the bytes begin, where it can be seen, and how many bytes it has.
 fn shown_letter_of(bytes: &[u8]) -> Option<(char, usize)> {
     let (letter, length) = first_letter(bytes)?;
-    let is_hidden = letter.is_control() || letter.is_whitespace() || is_unseen(letter);
-    (letter == ' ' || !is_hidden).then_some((letter, length))
+    (!is_hidden(letter)).then_some((letter, length))
 }
 
-/// Whether the character has no shape of its own, or turns what is around it: Unicode's `Default_Ignorable_Code_Point` and `Bidi_Control`,
-/// private use, and what is no character for ever.
-fn is_unseen(letter: char) -> bool {
-    u32::from(letter) % 0x1_0000 >= 0xfffe
-        || matches!(
-            letter,
-            '\u{ad}'
-                | '\u{34f}'
-                | '\u{61c}'
-                | '\u{115f}'..='\u{1160}'
-                | '\u{17b4}'..='\u{17b5}'
-                | '\u{180b}'..='\u{180f}'
-                | '\u{200b}'..='\u{200f}'
-                | '\u{202a}'..='\u{202e}'
-                | '\u{2060}'..='\u{206f}'
-                | '\u{3164}'
-                | '\u{e000}'..='\u{f8ff}'
-                | '\u{fdd0}'..='\u{fdef}'
-                | '\u{fe00}'..='\u{fe0f}'
-                | '\u{feff}'
-                | '\u{ffa0}'
-                | '\u{fff0}'..='\u{fffb}'
-                | '\u{1bca0}'..='\u{1bca3}'
-                | '\u{1d173}'..='\u{1d17a}'
-                | '\u{e0000}'..='\u{e0fff}'
-                | '\u{f0000}'..='\u{10ffff}'
-        )
+/// Whether the character isn't seen, or turns what is around it: a separator but the blank, what Unicode has as a control, a format, for private use
+/// or not at all, and its `Default_Ignorable_Code_Point`.
+pub(crate) fn is_hidden(letter: char) -> bool {
+    let category = GeneralCategory::for_char(letter);
+    let is_shapeless = GeneralCategoryGroup::Other.contains(category)
+        || GeneralCategoryGroup::Separator.contains(category)
+        || is_default_ignorable_code_point(letter);
+    letter != ' ' && is_shapeless
 }

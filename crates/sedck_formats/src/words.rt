@@ -1,5 +1,6 @@
 //! Words that several formats share, and their colours.
 
+use crate::letters::is_hidden;
 use crate::names::{Names, Place};
 use crate::written::Written;
 use sedck_report::{Finding, Level, Position};
@@ -96,16 +97,7 @@ pub fn shown_path(alloc: Global, path: &str) -> Result<String, AllocError> {
     Ok(shown)
 }
 
-/// `?` for a character that could move a terminal's cursor, end a line, or turn or hide what is around it; any other as it is.
+/// `?` for a character that isn't seen, or could move a terminal's cursor, end a line, or turn or hide what is around it; any other as it is.
 pub fn shown_letter(letter: char) -> char {
-    let is_hidden = letter.is_control()
-        || matches!(
-            letter,
-            '\u{61c}'
-                | '\u{200b}'..='\u{200f}'
-                | '\u{2028}'..='\u{202e}'
-                | '\u{2060}'..='\u{2069}'
-                | '\u{feff}'
-        );
-    if is_hidden { '?' } else { letter }
+    if is_hidden(letter) { '?' } else { letter }
 }
