@@ -103,7 +103,10 @@ LOOKS = [
     (b"s/\\^([a-z]*)//;s/([a-z]*)\\$//;s/^[(]a*)//;s/^\\(a*\\)$//\n", []),
     # bars next to an anchor
     (b"/^#|^$/d\n", [(1, 4, EXTENDED)]), (b"/^$|^#/d\n", [(1, 4, EXTENDED)]), (b"s/a$|b//\n", [(1, 5, EXTENDED)]),
-    (b"s/^|//;s/|$//;s/ | /,/;s/|$|/x/;s/^$|=1//;s/a|b/c/;s/\\$|x//;s/[$|]x//\n", []),
+    (b"s/^|//;s/|$//;s/ | /,/;s/a|b/c/;s/\\$|x//;s/[$|]x//\n", []),
+    # a bare `$` before a bar or a `)`, which GNU sed takes for an anchor
+    (b"s/|$|/x/\n", [(1, 4, EXTENDED)]), (b"s/^$|=1//\n", [(1, 4, EXTENDED)]), (b"s/a$)b/X/\n", [(1, 4, EXTENDED)]), (b"/x$)[0-9]*;/d\n", [(1, 3, EXTENDED)]),
+    (b"s/(a$)*b/x/\n", [(1, 5, EXTENDED)]), (b"s/a\\$)b/X/;s/[$)]b//;s|a$|b|;s/$a)//\n", []),
     # intervals without backslashes
     (b"s/a{3}/x/\n", [(1, 4, EXTENDED)]), (b"s/ab{2,}/x/\n", [(1, 5, EXTENDED)]), (b"s/-{2,3}/x/\n", [(1, 4, EXTENDED)]), (b"s/ {4}/x/\n", [(1, 4, EXTENDED)]),
     (b"s/${x}//;s/${1}//;s/a{b}//;s/a{,2}//;s/{3}//;s/a{3//;s/a{3,x}//\n", []), (b"s/\\\\hspace{2}//;s/@sp{3}//;s/#{1}//;s/%{1}//;s/\\*{3}//\n", []),

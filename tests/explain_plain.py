@@ -28,6 +28,9 @@ SPELLED = [
     # Each list is at its own place: of two addresses, in a group, repeated, and with its delimiter escaped.
     (b"/[ab]/,\\%[b\\%a]%s,\\([a-b]\\)*[ \\t\\,]\\{2\\},[x],\n", b"/[ab]/,/[b%a]/s/\\([a-b]\\)*[ \\t,]\\{2\\}/[x]/\n"),
     (b"s/a/b/w o\\", b"s/a/b/w o\\"),
+    # A bare `$` before a `)` or a bar stays bare, one with a backslash keeps it, and any other gets one.
+    (b"s/a$)b/X/;s/a\\$)b/X/\n", b"s/a$)b/X/\ns/a\\$)b/X/\n"),
+    (b"$!{/x$|y/,\\,$)*z$,s|[$)]$\\(a$)$\\)$x\\$)|$)|}\n", b"$!{\n  /x$|y/,/$)*z$/s/[$)]\\$\\(a$)$\\)\\$x\\$)/$)/\n}\n"),
 ]
 
 # A script, its plain spelling, and that without comments.

@@ -92,10 +92,23 @@ impl Seen {
         }
         match byte {
             b'+' | b'?' | b'{' if self.repeats(byte, rest) => Some(index),
-            b')' => self.bar.or(self.pair.sign_at(index, rest)),
+            b')' => {
+                let sign = self.bar.or(self.pair.sign_at(index, rest));
+                sign.or(self.dollar_before(index))
+            }
             b'^' if self.previous == b'|' => index.checked_sub(1),
             b'|' if self.previous == b'$' && begins_alternative(rest) => Some(index),
+            b'|' => self.dollar_before(index),
             _ => None,
+        }
+    }
+
+    /// Where the `$` right before is. GNU sed's matcher takes one before a `)` or a bar for an anchor.
+    fn dollar_before(self, index: usize) -> Option<usize> {
+        if self.previous == b'$' {
+            index.checked_sub(1)
+        } else {
+            None
         }
     }
 

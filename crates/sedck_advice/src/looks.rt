@@ -78,7 +78,13 @@ pub(crate) fn looks_of(
     }
     push_any(&mut looks, text_look(text, locations))?;
     if let Some(offset) = extended_in(alloc, text, locations)? {
-        looks.push(extended_look(position_at(text, offset)))?;
+        let is_dollar = byte_at(text, offset) == b'$';
+        let position = position_at(text, offset);
+        looks.push(if is_dollar {
+            dollar_look(position)
+        } else {
+            extended_look(position)
+        })?;
     }
     Ok(looks)
 }
@@ -195,6 +201,18 @@ fn extended_look(position: Position) -> Look {
         message: "in a basic regular expression this is an ordinary character: is the script meant for `sed -E`?",
         hint: "write `\\(` and `\\)` for a group, `\\{1,\\}` for `+`, `\\{0,1\\}` for `?` and `\\{3\\}` for `{3}`; there is no `|`. If the character \
             is meant, put it into a bracket list, as in `[+]`",
+        fix: None,
+    }
+}
+
+/// What is said of a `$` that stands for itself before a `)` or a bar.
+fn dollar_look(position: Position) -> Look {
+    Look {
+        position,
+        end: None,
+        code: Code::LooksExtended,
+        message: "this `$` is an ordinary character, but GNU sed takes one before a `)` or a bar for an anchor, and finds nothing here",
+        hint: "write `[$]` where the character is meant, and `\\(` and `\\)` for a group",
         fix: None,
     }
 }
