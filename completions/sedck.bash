@@ -68,7 +68,13 @@ _sedck_known() {
 }
 
 _sedck_sed() {
-    [ "$COMP_CWORD" -ne 1 ] || _sedck_reply --dir --help
+    case $COMP_CWORD${COMP_WORDS[1]}/${COMP_WORDS[COMP_CWORD]} in
+        1*/-*) _sedck_reply --mode --dir --help ;;
+        2--mode/*) _sedck_reply log warn refuse ;;
+        2--dir/* | 2--help/*) COMPREPLY=() ;;
+        1* | 3--mode/*) mapfile -t COMPREPLY < <(compgen -c -- "${COMP_WORDS[COMP_CWORD]}") ;;
+        *) _sedck_reply ;;
+    esac
 }
 
 complete -F _sedck sedck

@@ -61,7 +61,12 @@ def check_bash(words, values):
     expect(from_bash("sedck-fmt "), words["sedck-fmt"], "bash: sedck-fmt")
     expect(from_bash("sedck-known -"), words["sedck-known"], "bash: sedck-known")
     expect(from_bash("sedck-known sedck.b"), {"sedck.bash"}, "bash: a file of sedck-known")
-    expect(from_bash("sedck-sed "), words["sedck-sed"], "bash: sedck-sed")
+    expect(from_bash("sedck-sed -"), words["sedck-sed"], "bash: sedck-sed")
+    expect(from_bash("sedck-sed --mode "), {"log", "warn", "refuse"}, "bash: the modes of sedck-sed")
+    for line in ("sedck-sed printf --mod", "sedck-sed --mode log --mod"):
+        expect(from_bash(line) & words["sedck-sed"], set(), "bash: an option of the command of " + line)
+    for line in ("sedck-sed print", "sedck-sed --mode warn print"):
+        expect(from_bash(line) & {"printf"}, {"printf"}, "bash: the command of " + line)
     for option, due in values.items():
         expect(from_bash("sedck-explain %s " % option), due, "bash: the values of " + option)
     expect(from_bash("sedck-explain --deny reads,w"), {"reads,writes", "reads,warnings", "reads,writes-its-input"}, "bash: a second value of --deny")

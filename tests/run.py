@@ -37,6 +37,7 @@ calls-tests calls.py {explain}
 calls-tests calls_in_files.py {explain}
 calls-tests attacks.py {explain}
 wrapper-tests wrapper.py {explain}
+wrapper-tests command.py {explain}
 wrapper-tests formatter.py {explain}
 wrapper-tests known.py {explain}
 page-tests page.py {all}

@@ -1,5 +1,5 @@
 #!/usr/bin/env python3
-"""Tests wrapper/sed and wrapper/sedck-sed: python3 tests/wrapper.py build/sedck-explain, in the folder of the repository.
+"""Tests wrapper/sed: python3 tests/wrapper.py build/sedck-explain, in the folder of the repository.
 
 They are installed in a scratch folder as `make install` does it, with the program, or with a stand-in for it where what it does is
 to be known: that one prints the report, the text for sed and the status that the test gives, and where it gives no text that of the
@@ -791,15 +791,6 @@ def check_mends(place):
     place.lines()
 
 
-def check_own(place):
-    """What sedck-sed prints."""
-    expect(place.first == str((place.top / "libexec/sedck").resolve()), "sedck-sed: %s" % place.first)
-    expect(place.call("--help", program=str(place.top / "bin/sedck-sed"))[0] == 0, "sedck-sed --help")
-    expect(place.call(program=str(place.top / "bin/sedck-sed"))[0] == 3, "sedck-sed without words")
-    shutil.rmtree(place.top / "libexec")
-    expect(place.call("--dir", program=str(place.top / "bin/sedck-sed"))[0] == 4, "sedck-sed without its folder")
-
-
 # Checks of one place, one after another.
 ANSWERS = (check_answers, check_refused_calls, check_calls_above_ascii, check_lists, check_own_scripts, check_several_files, check_mends)
 SPELLINGS = (check_spelled, check_drawn_words, check_texts, check_outputs)
@@ -818,7 +809,7 @@ def main():
             check_numbers(Place(os.path.join(folder, "d"), shell))
             place = Place(os.path.join(folder, "b"), shell)
             for check in (check_words, check_files, check_streams, check_failing, check_recursion, check_log, check_places, check_absent, check_pipes,
-                          check_locale, check_itself, check_sandbox, check_own):
+                          check_locale, check_itself, check_sandbox):
                 check(place)
         failures[before:] = ["%s: %s" % (shell, failure) for failure in failures[before:]]
     for failure in failures:
