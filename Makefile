@@ -5,7 +5,7 @@ RT ?= rt
 PREFIX ?= /usr/local
 
 .PHONY: all build sedck lib demo try page try-page test docs examples rows explain-tests refusals streams tools-tests calls-tests wrapper-tests \
-	page-tests library-tests integration-tests archive-tests bench planted seds matchers states changes shells measures probe install dist clean
+	page-tests library-tests integration-tests archive-tests bench planted seds matchers states changes shells measures probe install uninstall dist clean
 
 # One target after the other, also under `make -j`: proofs want all processors and much memory, and tests have limits of time.
 .NOTPARALLEL:
@@ -163,6 +163,10 @@ probe:
 install:
 	@echo "Installing what build has under $(PREFIX): programs, library, completions, manual pages and the pages that reports name ..."
 	@python3 tools/dist.py --install "$(PREFIX)" "$(DESTDIR)"
+
+# Removes what install, or an archive's install.sh, has put there, by the list that it kept.
+uninstall:
+	@PREFIX="$(PREFIX)" DESTDIR="$(DESTDIR)" sh tools/install.sh --uninstall
 
 dist: build lib
 	@echo "Packing the programs, the library, their pages and all that is installed, with their check sums ..."

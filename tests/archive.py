@@ -20,6 +20,7 @@ from pathlib import Path
 
 TOP = Path(__file__).resolve().parent.parent
 MADE = ("sedck", "sedck-explain", "libsedck.a")
+PROGRAMS = {"bin/sedck", "bin/sedck-explain", "bin/sedck-fmt", "bin/sedck-known", "bin/sedck-sed", "bin/sedck-lsp", "libexec/sedck/sed"}
 SECONDS = 60
 wrong = []
 
@@ -82,16 +83,126 @@ def check_lists(whole):
     expect({one[end] for one in listed["relationships"] for end in ("spdxElementId", "relatedSpdxElement")} == numbers, "a material is related to none")
 
 
-def check_installing(whole, folder):
-    """install.sh puts each file below DESTDIR and PREFIX, names the checker's sum, refuses a changed file, and wants a path from the root."""
-    status, said = run(["sh", str(whole / "install.sh")], folder, PREFIX="usr", DESTDIR=str(folder / "none"))
-    expect(status == 3 and not (folder / "none").exists(), "a relative PREFIX gives %d: %s" % (status, said))
-    page = whole / "share/doc/sedck/SECURITY.md"
-    text = page.read_bytes()
+def files_of(folder):
+    """The files in a folder, by their paths there."""
+    return {str(path.relative_to(folder)) for path in folder.rglob("*") if path.is_symlink() or not path.is_dir()}
+
+
+def installs(whole, to, *words, **given):
+    """What install.sh of an archive ends with and says, with this DESTDIR."""
+    return run(["sh", str(whole / "install.sh"), *words], whole.parent, **{"PREFIX": "/usr", "DESTDIR": str(to), **given})
+
+
+def listed(folder, names):
+    """Writes SHA256SUMS for these files of a folder."""
+    (folder / "SHA256SUMS").write_text("".join("%s  %s\n" % (hashlib.sha256((folder / name).read_bytes()).hexdigest(), name) for name in sorted(names)))
+
+
+def check_refusals(whole, folder):
+    """Nothing is installed where PREFIX is none, words are invalid, or a file isn't the one that is listed."""
+    spoiled, to = folder / "spoiled", folder / "none"
+    shutil.copytree(whole, spoiled)
+    for prefix in ("usr", "", " /usr"):
+        status, said = installs(spoiled, to, PREFIX=prefix)
+        expect(status == 3 and not to.exists(), "the PREFIX %r gives %d: %s" % (prefix, status, said))
+    for words in (["--all"], ["--keep", "--uninstall"], [""]):
+        expect(installs(spoiled, to, *words)[0] == 3 and not to.exists(), "install.sh takes the words %s" % words)
+    page, sums = spoiled / "share/doc/sedck/SECURITY.md", spoiled / "SHA256SUMS"
+    text, lines, name = page.read_bytes(), sums.read_text(), str(page.relative_to(spoiled))
+    for path, link in ((spoiled / "bin/evil", None), (spoiled / "evil", None), (spoiled / "share/\nbin/sedck", None), (spoiled / "bin/evil", "sedck"), (spoiled / "lib/more", "/tmp")):
+        path.parent.mkdir(exist_ok=True)
+        path.symlink_to(link) if link else path.write_text("#!/bin/sh\n")
+        status, said = installs(spoiled, to)
+        expect(status == 1 and "nothing is installed" in said and not to.exists(), "the file %r, which isn't listed, gives %d: %s" % (str(path), status, said))
+        path.unlink()
+    (spoiled / "share/\nbin").rmdir()
+    for changed in (lines.replace(name, "../" + name), lines.replace(name, name + "/../x"), lines.replace(name, "/" + name), lines + "x\n", "", "\n" + lines):
+        sums.write_text(changed)
+        status, said = installs(spoiled, to)
+        expect(status == 1 and not to.exists(), "other lines of SHA256SUMS give %d: %s" % (status, said))
+    sums.unlink()
+    expect(installs(spoiled, to)[0] == 1 and not to.exists(), "without SHA256SUMS something is installed")
+    sums.write_text(lines)
     page.write_bytes(text + b"x")
-    status, said = run(["sh", str(whole / "install.sh")], folder, PREFIX="/usr", DESTDIR=str(folder / "none"))
-    expect(status == 1 and not (folder / "none").exists(), "a changed file gives %d: %s" % (status, said))
-    page.write_bytes(text)
+    status, said = installs(spoiled, to)
+    expect(status == 1 and name in said and not to.exists(), "a changed file gives %d: %s" % (status, said))
+    page.unlink()
+    status, said = installs(spoiled, to)
+    expect(status == 1 and name in said and not to.exists(), "a missing file gives %d: %s" % (status, said))
+    (folder / "other").write_bytes(text)
+    page.symlink_to(folder / "other")
+    status, said = installs(spoiled, to)
+    expect(status == 1 and not to.exists(), "a link in place of a file gives %d: %s" % (status, said))
+    shutil.rmtree(spoiled)
+
+
+def check_modes(whole, folder):
+    """Where no file of the archive may be run, as in a folder that is mounted `noexec`, programs are installed as programs."""
+    plain, to = folder / "plain", folder / "modes"
+    shutil.copytree(whole, plain)
+    for path in plain.rglob("*"):
+        if path.is_file():
+            path.chmod(0o644)
+    status, said = installs(plain, to)
+    programs = {str(path.relative_to(to / "usr")) for path in to.rglob("*") if path.is_file() and path.stat().st_mode & 0o777 == 0o755}
+    others = {path.stat().st_mode & 0o777 for path in to.rglob("*") if path.is_file()} - {0o755}
+    expect(status == 0 and programs == PROGRAMS and others == {0o644}, "without modes the status is %d, and the programs are %s: %s" % (status, programs, said))
+    shutil.rmtree(plain)
+
+
+def check_uninstalling(whole, folder):
+    """What was installed is removed, also by an earlier version, and nothing else; without its list nothing is."""
+    older, to = folder / "older", folder / "removed"
+    status, said = installs(whole, to, "--uninstall")
+    expect(status == 1 and "installed" in said and not to.exists(), "without a list uninstalling ends with %d: %s" % (status, said))
+    shutil.copytree(whole, older)
+    for name in ("bin/sedck-old", "share/old/page"):
+        (older / name).parent.mkdir(exist_ok=True)
+        (older / name).write_text("old\n")
+    listed(older, files_of(older) - {"SHA256SUMS"})
+    (to / "usr/bin").mkdir(parents=True)
+    (to / "usr/share").mkdir()
+    (to / "usr/bin/mine").write_text("mine\n")
+    before = set(to.rglob("*"))
+    for words, is_kept in (([], False), (["--keep"], True)):
+        expect(installs(older, to)[0] == 0 and (to / "usr/bin/sedck-old").exists(), "an older version isn't installed")
+        status, said = installs(whole, to, *words)
+        expect(status == 0 and (to / "usr/bin/sedck-old").exists() == is_kept, "after an older version %s ends with %d: %s" % (words, status, said))
+        expect((to / "usr/share/old/page").exists() == is_kept, "a page of an older version, with %s" % words)
+        status, said = installs(whole, to, "--uninstall")
+        expect(status == 0 and set(to.rglob("*")) == before, "uninstalling leaves %s, or says %s" % (sorted(map(str, set(to.rglob("*")) ^ before))[:5], said))
+    # A folder that has something else stays, and a list with another path is none.
+    installs(whole, to)
+    (to / "usr/share/doc/sedck/mine").write_text("mine\n")
+    kept = to / "usr/share/sedck/installed"
+    text = kept.read_text()
+    for line in ("../../bin/mine", "bin/../bin/mine", "/bin/mine", "bin//mine", "etc/mine", "bin/mine x"):
+        kept.write_text(text + line + "\n")
+        status, said = installs(whole, to, "--uninstall")
+        expect(status == 1 and (to / "usr/bin/mine").exists() and (to / "usr/bin/sedck").exists(), "a list with %s gives %d: %s" % (line, status, said))
+    kept.write_text(text)
+    expect(installs(whole, to, "--uninstall")[0] == 0 and files_of(to) == {"usr/bin/mine", "usr/share/doc/sedck/mine"}, "uninstalling leaves %s" % files_of(to))
+    shutil.rmtree(older)
+
+
+def check_prefixes(whole, folder):
+    """pkg-config gets only a prefix that it can pass on; of any other, install.sh says that sedck.pc isn't installed."""
+    for number, (prefix, is_plain) in enumerate((("/usr", True), ("/opt/sedck-1.1~a_b+c", True), ("/opt/a b", False), ("/it's", False), ('/a"b', False), ("/$x", False), ("/a\nb", False))):
+        to = folder / ("prefix-%d" % number)
+        status, said = installs(whole, to, PREFIX=prefix)
+        file = Path(str(to) + prefix) / "lib/pkgconfig/sedck.pc"
+        expect(status == 0 and file.exists() == is_plain and ("sedck.pc is not installed" in said) != is_plain, "the PREFIX %r gives %d: %s" % (prefix, status, said))
+        if is_plain:
+            expect(file.read_text().startswith("prefix=%s\n" % prefix), "sedck.pc has another prefix than %s" % prefix)
+        shutil.rmtree(to)
+    # A DESTDIR that is relative is meant from where one is.
+    run(["sh", str(whole / "install.sh")], folder, PREFIX="/usr", DESTDIR="relative")
+    expect((folder / "relative/usr/bin/sedck").exists() and not (whole / "relative").exists(), "a relative DESTDIR leads elsewhere")
+    shutil.rmtree(folder / "relative")
+
+
+def check_installing(whole, folder):
+    """install.sh puts each file below DESTDIR and PREFIX, and names the checker's sum."""
     to = folder / "a root"
     for _ in range(2):
         status, said = run(["sh", str(whole / "install.sh")], folder, PREFIX="/opt/own sedck", DESTDIR=str(to))
@@ -102,10 +213,10 @@ def check_installing(whole, folder):
         expect(said.splitlines()[1:] == [checker + "  sedck"], "the version doesn't name the checker's sum: %s" % said)
     seen = {str(path.relative_to(to / "opt/own sedck")) for path in to.rglob("*") if path.is_file()}
     due = {str(path.relative_to(whole)) for part in ("bin", "include", "lib", "libexec", "share") for path in (whole / part).rglob("*") if path.is_file()}
+    due = due - {"lib/pkgconfig/sedck.pc"} | {"share/sedck/installed"}
     expect(seen == due and len(due) > 40, "install.sh installs other files: %s" % sorted(seen ^ due))
-    modes = {path.name for path in to.rglob("*") if path.is_file() and path.stat().st_mode & 0o777 == 0o755}
-    expect(modes == {"sedck", "sedck-explain", "sedck-fmt", "sedck-known", "sedck-sed", "sedck-lsp", "sed"}, "the programs are %s" % modes)
-    expect((to / "opt/own sedck/lib/pkgconfig/sedck.pc").read_text().startswith("prefix=/opt/own sedck\n"), "sedck.pc has another prefix")
+    modes = {str(path.relative_to(to / "opt/own sedck")) for path in to.rglob("*") if path.is_file() and path.stat().st_mode & 0o777 == 0o755}
+    expect(modes == PROGRAMS, "the programs are %s" % modes)
 
 
 def check_readme(place, folder):
@@ -122,8 +233,7 @@ def check_readme(place, folder):
         expect(printed == block, "README shows %s, and this is printed: %s" % (block, printed))
         shown += len(commands)
     expect(shown >= 3, "README shows %d commands" % shown)
-    status, said = run(["sh", "-c", "sedck-fmt --check examples/mail-body.sed; PATH=$(sedck-sed --dir):$PATH SEDCK_MODE=refuse sed p < /dev/null && echo ran"],
-                       folder, PATH=path)
+    status, said = run(["sh", "-c", "sedck-fmt --check examples/mail-body.sed; sedck-sed --mode refuse sed p < /dev/null && echo ran"], folder, PATH=path)
     expect(said.endswith("ran\n"), "sedck-fmt and the sed of sedck-sed give %d: %s" % (status, said))
 
 
@@ -133,6 +243,9 @@ def check_pages(place):
     expect(len(named) >= 7, "the reports name %s" % sorted(named))
     for page in sorted(named):
         expect((place / "share/doc/sedck/docs" / page).is_file(), "%s, which a report names, isn't there" % page)
+    # What the action runs is beside it.
+    runs = re.findall(r"\$GITHUB_ACTION_PATH/([\w/.-]+)", (place / "share/doc/sedck/action.yml").read_text())
+    expect(runs and all((place / "share/doc/sedck" / name).is_file() for name in runs), "the action that is installed runs %s" % runs)
     pages = {path.name for path in (TOP / "man").glob("sedck*.[1-8]")}
     expect({path.name for path in (place / "share/man").rglob("*.*")} == pages, "the manual pages aren't all there")
     if shutil.which("man"):
@@ -175,6 +288,9 @@ def check_make_install(copy, folder):
     (copy / "build/sedck-explain").rename(folder / "sedck-explain")
     status, said = run(["make", "install", "PREFIX=/usr", "DESTDIR=%s" % (folder / "one")], copy, **path)
     programs = {path.name for path in (folder / "one/usr/bin").iterdir()}
+    # What another `make install` put there stays, and `make uninstall` removes it.
+    status_of_all = [run(["make", word, "PREFIX=/usr", "DESTDIR=%s" % (folder / "all")], copy, **path)[0] for word in ("install", "uninstall")]
+    expect(status_of_all == [0, 0] and not files_of(folder / "all"), "make uninstall ends with %s, and leaves %s" % (status_of_all, files_of(folder / "all")))
     expect(status == 0 and programs == {"sedck"} and "make build" in said, "make install of the checker alone ends with %d: %s: %s" % (status, programs, said))
     (copy / "build/sedck").rename(folder / "sedck")
     status, said = run(["make", "install", "PREFIX=/usr", "DESTDIR=%s" % (folder / "nothing")], copy, **path)
@@ -182,6 +298,9 @@ def check_make_install(copy, folder):
     expect(not (folder / "proved").exists(), "make install began to prove")
     for name in ("sedck", "sedck-explain"):
         (folder / name).rename(copy / "build" / name)
+    for prefix in ("", "usr"):
+        status, said = run(["make", "install", "PREFIX=" + prefix, "DESTDIR=%s" % (folder / "nothing")], copy, **path)
+        expect(status != 0 and "PREFIX" in said and not (folder / "nothing").exists(), "make install with the PREFIX %r ends with %d: %s" % (prefix, status, said))
 
 
 def main():
@@ -194,10 +313,10 @@ def main():
         copied(folder / "copy")
         (folder / "empty").mkdir()
         whole = unpacked(folder / "copy", folder / "empty")
-        begun = time.monotonic()
         check_lists(whole)
-        check_installing(whole, folder)
-        prefix = folder / "prefix"
+        for check in (check_refusals, check_modes, check_uninstalling, check_prefixes, check_installing):
+            check(whole, folder)
+        begun, prefix = time.monotonic(), folder / "prefix"
         run(["sh", str(whole / "install.sh")], folder, PREFIX=str(prefix))
         check_readme(prefix, folder / "work")
         expect(time.monotonic() - begun < SECONDS, "the first answers took more than %d seconds" % SECONDS)

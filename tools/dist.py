@@ -53,7 +53,8 @@ def installed():
     for folder in ("docs", "examples", "library"):
         files.update({PAGES + str(path.relative_to(TOP)): str(path.relative_to(TOP)) for path in sorted((TOP / folder).rglob("*"))
                       if path.is_file() and path.suffix in (".md", ".svg", ".sed", ".cert", ".c", ".py") and path.name != "heap.c"})
-    files.update({PAGES + name.lstrip("."): name for name in (".pre-commit-hooks.yaml", "action.yml")})
+    # The action runs the program that is beside it.
+    files.update({PAGES + name.lstrip("."): name for name in (".pre-commit-hooks.yaml", "action.yml", "wrapper/sarif-of-tree")})
     page = TOP / "build" / "page"
     files.update({"share/sedck/page/" + str(path.relative_to(page)): str(path.relative_to(TOP)) for path in sorted(page.rglob("*")) if path.is_file()})
     return files
@@ -154,12 +155,14 @@ def install(prefix, root):
         print("install: there is no program in build: run `make build` first, or `make sedck` for the checker alone")
         return 1
     with tempfile.TemporaryDirectory(prefix="sedck-install-") as folder:
-        for path, text in {**contents(lacking), "install.sh": (TOP / "tools" / "install.sh").read_bytes()}.items():
+        for path, text in with_sums({**contents(lacking), "install.sh": (TOP / "tools" / "install.sh").read_bytes()}).items():
             to = Path(folder) / path
             to.parent.mkdir(parents=True, exist_ok=True)
             to.write_bytes(text)
             to.chmod(mode_of(path))
-        status = subprocess.run(["sh", folder + "/install.sh"], env={**os.environ, "PREFIX": prefix, "DESTDIR": root}).returncode
+        # What isn't there now may have been installed before.
+        words = ["sh", folder + "/install.sh", *(["--keep"] if lacking else [])]
+        status = subprocess.run(words, env={**os.environ, "PREFIX": prefix, "DESTDIR": os.path.abspath(root) if root else ""}).returncode
     for path, target in lacking.items():
         print("install: %s isn't there, so it was left out: `%s` makes it" % (path, target))
     return status
