@@ -135,6 +135,7 @@ fi
 # What sedck answers in the table of seds; links, and the version in the manual pages.
 (cd "$documents" && python3 tests/seds/seds.py build/sedck --table) >&2 || fail "the table of docs/SEDS.md has other statuses of sedck"
 (cd "$documents" && python3 tests/links.py) >&2 || fail "a link leads nowhere, or a page or a version is missing"
+(cd "$documents" && python3 tests/workflows.py) >&2 || fail "a workflow runs what a stranger sends on a machine of ours, or an action has no commit"
 (cd "$documents" && python3 tests/sentences.py) >&2 || fail "a page has a long sentence, or a paragraph with many semicolons"
 version=$(awk '/^## [0-9]/ { print $2; exit }' "$documents/CHANGELOG.md")
 [ "$(../build/sedck-explain --version | head -n 1)" = "sedck-explain $version" ] || fail "sedck-explain isn't of version $version, as CHANGELOG.md"

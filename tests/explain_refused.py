@@ -70,7 +70,7 @@ REFUSED = [
     (b"1~2p\n", 1, 2, "unknown-command", NO_VERB, STEPS),
     (b"p\nT end\n", 2, 1, "unknown-command", NO_VERB,
      "for `T end` write `t go`, `b end` and `:go` on lines of their own; for `/x/T end` put the first two into a block, `/x/{` and `}`"),
-    (b"$!z\n", 1, 3, "unknown-command", NO_VERB, 
+    (b"$!z\n", 1, 3, "unknown-command", NO_VERB,
      "for `z` write `g` if no command uses the hold space; else write `s/.*//`, which sets the flag that `t` tests, is what `//` means after "
      "it, and in UTF-8 stops at a byte that is no character"),
     (b"/x/Q", 1, 4, "unknown-command", NO_VERB, "for `/x/Q` alone in a script write `/x/,$d`"),

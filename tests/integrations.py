@@ -5,6 +5,8 @@ m4/sedck.m4 in a package with and without Automake; each step of action.yml that
 editors of docs/RECIPES.md against what --format gcc prints. What a machine lacks is named, and its part is left out. The status is 0 only where
 all is as it is due.
 """
+import base64
+import gzip
 import hashlib
 import json
 import os
@@ -119,7 +121,7 @@ def step(steps, name, folder, path, **inputs):
 def check_action(explain, folder):
     steps, inputs = steps_of_action()
     expect({source for _, names in steps.values() for source in names.values()} | {"upload", "sarif"} == inputs, "the inputs of action.yml are %s" % inputs)
-    expect(len(steps) == 4 and [name for name in steps if steps[name][0] is None] == ["Send the log"], "the steps of action.yml are %s" % list(steps))
+    expect(len(steps) == 4 and all(text for text, _ in steps.values()), "the steps of action.yml are %s" % list(steps))
     programs, tree = folder / "programs", folder / "tree"
     (tree / "deep").mkdir(parents=True)
     (tree / ".git").mkdir()
@@ -139,6 +141,35 @@ def check_action(explain, folder):
         where = (folder / "room0" / "path").read_text().strip()
         expect(os.access(where + "/sedck-explain", os.X_OK), "the archive's programs aren't in %s" % where)
     check_judging(steps, folder, tree, "%s:%s" % (programs / "bin", os.environ["PATH"]))
+    check_no_paths(steps, tree, "%s:%s" % (programs / "bin", os.environ["PATH"]))
+    if not lacks("gzip", "base64"):
+        check_sending(steps, folder)
+
+
+def check_sending(steps, folder):
+    """The log arrives whole, by a program `gh` that notes its words and the file that it is to send."""
+    room = folder / "sending"
+    room.mkdir()
+    (room / "gh").write_text('#!/bin/sh\nprintf "%s\\n" "$@" > words\ncp "${10#sarif=@}" sent\n')
+    (room / "gh").chmod(0o755)
+    (room / "a log").write_text("the log\n" * 100)
+    given = {"RUNNER_TEMP": str(room), "GITHUB_REPOSITORY": "an/owner", "GITHUB_SHA": "1" * 40, "GITHUB_REF": "refs/heads/x", "PATH": "%s:%s" % (room, os.environ["PATH"])}
+    status, said = run(["bash", "-c", steps["Send the log"][0]], room, SARIF="a log", **given)
+    due = ["api", "--method", "POST", "/repos/an/owner/code-scanning/sarifs", "-f", "commit_sha=" + "1" * 40, "-f", "ref=refs/heads/x", "-F", "sarif=@%s/sedck-log" % room]
+    expect(status == 0 and (room / "words").read_text().splitlines() == due, "sending ends with %d: %s" % (status, said))
+    expect(gzip.decompress(base64.b64decode((room / "sent").read_text())).decode() == "the log\n" * 100, "another log is sent")
+    (room / "words").unlink()
+    status, said = run(["bash", "-c", steps["Send the log"][0]], room, SARIF="no log", **given)
+    expect(status != 0 and not (room / "words").exists(), "sending a log that isn't there ends with %d: %s" % (status, said))
+
+
+def check_no_paths(steps, tree, path):
+    """Where `paths` names nothing, nothing is judged, and the action fails."""
+    for paths in ("", "\n", "\n\n"):
+        for name in ("Write the log", "Judge scripts and calls"):
+            status, said = step(steps, name, tree, path, paths=paths, deny="", sarif="../none.sarif")
+            expect(status == 3 and "::error::sedck: the input paths names no" in said and not (tree.parent / "none.sarif").exists(),
+                   "%s of the paths %r gives %d: %s" % (name, paths, status, said))
 
 
 def check_judging(steps, folder, tree, path):
@@ -150,6 +181,7 @@ def check_judging(steps, folder, tree, path):
     words = {"paths": ".\n", "deny": "", "sarif": "../sedck.sarif"}
     status, said = step(steps, "Write the log", tree, path, **words)
     run_of = json.loads((folder / "sedck.sarif").read_text())["runs"]
+    expect(run_of[0]["automationDetails"] == {"id": "sedck/"}, "the category of the log is %s" % run_of[0].get("automationDetails"))
     expect(status == 0 and len(run_of) == 1 and places_of(run_of[0]) == of_calls, "the log of a good script: %d: %s %s" % (status, said, run_of))
     status, said = step(steps, "Judge scripts and calls", tree, path, **words)
     expect(status == 0, "a tree of which something is unknown gives %d: %s" % (status, said))

@@ -54,6 +54,7 @@ style links.py
 style sentences.py
 style definitions.py
 style style.py
+style workflows.py
 """
 
 

@@ -1,7 +1,7 @@
 #!/usr/bin/env python3
 """Checks how the Python is written: python3 tests/style.py, in any folder.
 
-A function has at most 40 lines, a file begins with what it is for, and an import names one module. A function that another file imports, or
+A function has at most 40 lines, a file begins with what it is for, no line ends in a blank, and an import names one module. A function that another file imports, or
 uses by the name of its module, has annotations. Each program of tests/ is in the table of tests/run.py. What `ruff check .` looks at is in ruff.toml. The status
 is 0 only where no file of tests, tools, bench, library and wrapper has a fault.
 """
@@ -45,6 +45,9 @@ def faults(path: Path, public: set[tuple[str, str]]) -> Iterator[str]:
     tree = ast.parse(path.read_text())
     if not ast.get_docstring(tree) and not re.match(r"(#!.*\n)?# ", path.read_text()):
         yield "it doesn't say what it is for"
+    for number, line in enumerate(path.read_text().split("\n"), 1):
+        if line != line.rstrip():
+            yield "line %d: it ends in a blank" % number
     for node in tree.body:
         if isinstance(node, ast.FunctionDef) and (path.stem, node.name) in public:
             if node.returns is None or any(argument.annotation is None for argument in node.args.args):
