@@ -52,17 +52,19 @@ try-page: $(if $(PROVED),sedck)
 	@python3 tools/page.py "$(RT)" --unproved $(if $(PROVED),,sedck) sedck_explain
 
 # The gate proves everything and builds the programs; the tests are then those that stand alone, with `build` and the programs of tests as
-# they are, so that nothing is proved or built again. A C compiler that is missing is missed before the gate.
+# they are, so that nothing is proved or built again. A C compiler that is missing is missed before the gate. What tests skip is listed at the end.
 test: build/refuse.so
+	@rm -f build/skipped
 	@echo "Running the gate: every proof from nothing, wrong bodies, the tests and the programs (90 to 200 processor minutes) ..."
 	@python3 tools/gate.py "$(RT)"
 	@$(COPY)
 	@CC="$(CC)" python3 tools/library.py "$(RT)" --of-gate
 	@if command -v wasm-opt > /dev/null; then python3 tools/page.py "$(RT)"; else echo "page: skipped: wasm-opt (package binaryen) isn't there"; fi
-	@$(MAKE) --no-print-directory -o build -o probe -o lib docs rows explain-tests refusals streams tools-tests calls-tests wrapper-tests \
+	@SEDCK_SKIPPED="$(CURDIR)/build/skipped" $(MAKE) --no-print-directory -o build -o probe -o lib docs rows explain-tests refusals streams tools-tests calls-tests wrapper-tests \
 		page-tests library-tests integration-tests archive-tests
 	@python3 tools/planted.py "$(RT)" --behind || true
 	@cat build/gate-cost
+	@if [ -s build/skipped ]; then echo "These parts of tests were skipped:"; cat build/skipped; else echo "No test was skipped."; fi
 
 docs examples: build
 	@echo "Checking the documents: the examples and their certificates, and each command that the pages show ..."

@@ -18,6 +18,8 @@ import tempfile
 import time
 from pathlib import Path
 
+from skips import has
+
 TOP = Path(__file__).resolve().parent.parent
 MADE = ("sedck", "sedck-explain", "libsedck.a")
 PROGRAMS = {"bin/sedck", "bin/sedck-explain", "bin/sedck-fmt", "bin/sedck-known", "bin/sedck-sed", "bin/sedck-lsp", "libexec/sedck/sed"}
@@ -248,11 +250,9 @@ def check_pages(place):
     expect(runs and all((place / "share/doc/sedck" / name).is_file() for name in runs), "the action that is installed runs %s" % runs)
     pages = {path.name for path in (TOP / "man").glob("sedck*.[1-8]")}
     expect({path.name for path in (place / "share/man").rglob("*.*")} == pages, "the manual pages aren't all there")
-    if shutil.which("man"):
+    if has("archive", "a manual page as it is shown", "man"):
         status, said = run(["man", "-M", str(place / "share/man"), "sedck-explain"], place, MANPAGER="cat")
         expect(status == 0 and "say where and why a sed script" in " ".join(said.split()), "man shows %s" % said[:200])
-    else:
-        print("archive: no manual page is shown, since this machine lacks man")
     for name in ("sedck", "sedck-explain", "sedck-fmt", "sedck-known", "sedck-sed"):
         for path in ("bash-completion/completions/" + name, "fish/vendor_completions.d/%s.fish" % name):
             expect((place / "share" / path).is_file(), "share/%s isn't there" % path)
@@ -261,8 +261,7 @@ def check_pages(place):
 def check_library(place, folder):
     """The example is compiled by what pkg-config says, and judges a script."""
     compiler = os.environ.get("CC") or "cc"
-    if not shutil.which("pkg-config") or not shutil.which(compiler.split()[0]):
-        print("archive: the library is not used, since this machine lacks pkg-config or a C compiler")
+    if not has("archive", "the library with the words of pkg-config", "pkg-config", compiler):
         return
     config = {"PKG_CONFIG_PATH": str(place / "lib/pkgconfig")}
     words = run(["pkg-config", "--cflags", "--libs", "sedck"], folder, **config)[1].split()

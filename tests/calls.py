@@ -9,11 +9,12 @@ and `-z` run over three files in the seds of this machine.
 import getopt
 import json
 import random
-import shutil
 import subprocess
 import sys
 import tempfile
 from pathlib import Path
+
+from skips import has_gnu_sed, present
 
 SHORT = "nEre:f:szul:ba"
 LONG = ["expression=", "file=", "regexp-extended", "quiet", "silent", "separate", "null-data", "zero-terminated", "unbuffered",
@@ -195,7 +196,7 @@ def emptied(program, folder):
 
 def several(program, folder):
     """Accepted scripts with options of several inputs and of other lines end in real seds, also in those that read on behind a file."""
-    seds = [sed for sed in (["sed"], ["sed", "--posix"], ["busybox", "sed"], ["toybox", "sed"], ["ssed"]) if shutil.which(sed[0])]
+    seds = [sed.split() for sed in present("calls", "runs over several files", ("sed", "sed --posix", "busybox sed", "toybox sed", "ssed"))]
     ran = failures = 0
     for options in (["-s"], ["-i"], ["-z"], ["-sz"], ["-z", "-i"], ["-n", "-s"]):
         for text in TEXTS + ["$!N;P;D", "n;n;$!n", "H;$!d;x", ":a;$!{N;ba", ":a;s/ab/b/;ta", "/a/,/b/d;$=", "N;N;D", ":a;n;ba", ":a;N;ba"]:
@@ -214,7 +215,7 @@ def main():
     number = int(sys.argv[2]) if len(sys.argv) > 2 else 1500
     draw = random.Random(7)
     failures = checks = 0
-    gnu = b"GNU sed" in subprocess.run(["sed", "--version"], capture_output=True).stdout
+    gnu = has_gnu_sed("calls", "the words of calls as GNU sed takes them")
     with tempfile.TemporaryDirectory() as name:
         folder = Path(name)
         for path, text in FILES.items():
@@ -237,7 +238,7 @@ def main():
                 print("calls:", words, wrong)
         ran, wrong = several(program, folder)
         failures += wrong + emptied(program, folder)
-    print("%d calls, %d failures, %d runs over several files%s" % (checks, failures, ran, "" if gnu else ", without GNU sed"))
+    print("%d calls, %d failures, %d runs over several files" % (checks, failures, ran))
     return 1 if failures else 0
 
 

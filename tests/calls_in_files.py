@@ -8,12 +8,13 @@ this machine, whose words the shell itself is asked for; long and hostile texts,
 import json
 import os
 import re
-import shutil
 import subprocess
 import sys
 import tempfile
 import time
 from pathlib import Path
+
+from skips import present
 
 PROGRAM = os.path.abspath(sys.argv[1])
 failures = []
@@ -408,6 +409,7 @@ def locales():
         Path(folder, "f").write_text("a\n")
         Path(folder, "fixed.sh").write_text("readonly LC_ALL\n")
         environment = {**os.environ, "PATH": folder + ":" + os.environ["PATH"], "LC_ALL": "C.UTF-8", "X": "", "FIX": "readonly LC_ALL"}
+        shells = present("calls_in_files", "shells by which locales of calls are held", ("dash", "bash", "bash --posix", "busybox sh"))
         for text, is_in_c in [(text, True) for text in IN_C] + [(text, False) for text in IN_ANY]:
             text = text.replace("@", CALL) + "\n"
             _, calls, _ = explained(text, "a.sh")
@@ -416,11 +418,10 @@ def locales():
                 fail("locale of %r: %s" % (text, found))
             script.write_text(text)
             seen = set()
-            for shell in (["dash"], ["bash"], ["bash", "--posix"], ["busybox", "sh"]):
-                if shutil.which(shell[0]):
-                    notes.unlink(missing_ok=True)
-                    subprocess.run([*shell, "a.sh"], cwd=folder, env=environment, stdin=subprocess.DEVNULL, capture_output=True, timeout=60)
-                    seen |= set(notes.read_text().splitlines()) if notes.exists() else set()
+            for shell in shells:
+                notes.unlink(missing_ok=True)
+                subprocess.run([*shell.split(), "a.sh"], cwd=folder, env=environment, stdin=subprocess.DEVNULL, capture_output=True, timeout=60)
+                seen |= set(notes.read_text().splitlines()) if notes.exists() else set()
             if is_in_c and (not seen or seen - {"C", "POSIX"}):
                 fail("locale of %r: sed runs in %s" % (text, seen))
             if not is_in_c and seen - {"C", "POSIX"}:

@@ -13,6 +13,8 @@ import sys
 import tempfile
 from pathlib import Path
 
+from skips import present
+
 TOP = Path(__file__).resolve().parent.parent
 SHELLS = ("dash", "bash", "busybox sh")
 # What pages and the help say of --dir.
@@ -156,7 +158,7 @@ def check_shown(place):
 
 
 def main():
-    shells = [shell for shell in SHELLS if shutil.which(shell.split()[0])]
+    shells = present("command", "shells by which the program runs", SHELLS)
     explain = os.path.abspath(sys.argv[1])
     for shell in shells:
         before = len(failures)

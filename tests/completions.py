@@ -7,10 +7,11 @@ missing is named. The status is 0 only where no shell has a word too many or too
 """
 import os
 import re
-import shutil
 import subprocess
 import sys
 from pathlib import Path
+
+from skips import has
 
 TOP = Path(__file__).resolve().parent.parent
 FOLDER = TOP / "completions"
@@ -90,14 +91,12 @@ def check_zsh(words, values):
     for option, due in values.items():
         listed = re.search("['\"]" + re.escape(option + "[") + r"[^\]]*\]:\w+:(?:\(([^)]*)\)|_values -s , \w+ ([^'\"]*))", parts["sedck-explain"])
         expect(set((listed[1] or listed[2]).split()), due, "zsh: the values of " + option)
-    if shutil.which("zsh"):
+    if has("completions", "the file as zsh reads it", "zsh"):
         expect(said(["zsh", "-n", str(FOLDER / "_sedck")]), "", "zsh: the file")
-    else:
-        print("completions: the file isn't read by zsh, since this machine lacks zsh")
 
 
 def check_fish(words, values):
-    if shutil.which("fish"):
+    if has("completions", "what fish completes", "fish"):
         def asked(line):
             text = "".join("source %s\n" % (FOLDER / (name + ".fish")) for name in words) + "complete -C '%s'\n" % line
             done = subprocess.run(["fish", "--no-config", "-c", text], stdin=subprocess.DEVNULL, stdout=subprocess.PIPE, encoding="utf-8",
@@ -109,8 +108,6 @@ def check_fish(words, values):
             expect({word for word in asked(name + " --") if word.startswith("--")}, words[name], "fish: " + name)
         for option, due in values.items():
             expect(asked("sedck-explain %s " % option), due, "fish: the values of " + option)
-    else:
-        print("completions: the files for fish are not tried, since this machine lacks fish")
 
 
 def main():
@@ -118,10 +115,8 @@ def main():
     if not all(words.values()) or set(values) != {"--format", "--level", "--deny", "--allow", "--as", "--assume-set"}:
         print("completions: the programs say no words that can be read: %s %s" % (words, values))
         return 1
-    if shutil.which("bash"):
+    if has("completions", "what bash completes", "bash"):
         check_bash(words, values)
-    else:
-        print("completions: the file for bash is not tried, since this machine lacks bash")
     check_zsh(words, values)
     check_fish(words, values)
     if not wrong:

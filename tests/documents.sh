@@ -23,6 +23,12 @@ fail() {
     failures=$((failures + 1))
 }
 
+# Says that something is left out, as tests/skips.py does.
+skip() {
+    echo "documents: skipped: $*" >&2
+    [ -z "$SEDCK_SKIPPED" ] || echo "documents: skipped: $*" >> "$SEDCK_SKIPPED"
+}
+
 # The cells of a table's row without backquotes, and its answer one line each.
 cell() { printf '%s\n' "$row" | awk -F ' *[|] *' -v at="$1" '{ gsub("`", ""); print $at }'; }
 answer_of() { cell 4 | awk '{ gsub(", ", "\n"); print }'; }
@@ -89,11 +95,13 @@ blocks_that_run() {
     for need in $(awk '/^needs /' blocks | tr ' ' '\n' | sort -u); do
         [ "$need" = needs ] || has "$need" || lacks="$lacks$need "
     done
-    awk -v lacks="$lacks" -v page="$1" '
+    awk -v lacks="$lacks" '
         /^needs( |$)/ { on = 1; for (k = 2; k <= NF; k++) if (index(lacks, " " $k " ")) on = 0; left += !on; next }
         on
-        END { if (left) print "documents: " page ": blocks left out: " left + 0 ", since this machine lacks" lacks > "/dev/stderr" }
+        END { print left + 0 > "left" }
     ' blocks
+    read -r left < left
+    [ "$left" = 0 ] || skip "$left blocks of $1: this machine lacks$lacks"
 }
 
 # Each command of the console blocks, with all that it prints. After ```console come the words for `has` that a block needs.
@@ -105,6 +113,8 @@ for document in README.md examples/README.md docs/RECIPES.md docs/TRUST.md docs/
     run_shown "$document"
 done
 
+has mandoc || skip "the manual pages as mandoc reads them: this machine lacks mandoc"
+has groff || skip "the manual pages as groff reads them: this machine lacks groff"
 # Those of the manual pages, in the folder of the examples as it was: a command that goes on in a line with `> ` is one line.
 cd examples || exit 1
 for document in man/sedck.1 man/sedck-explain.1 man/sedck-fmt.1 man/sedck-known.1 man/sedck-sed.1 man/sedck.5; do
@@ -129,7 +139,7 @@ if has dot; then
         diff shown drawn >&2 || fail "docs/img/$picture.svg isn't the graph of join-all-loop.sed"
     done
 else
-    echo "documents: the pictures of README.md aren't compared, since this machine lacks dot" >&2
+    skip "the pictures of README.md: this machine lacks dot"
 fi
 
 # What sedck answers in the table of seds; links, and the version in the manual pages.

@@ -5,7 +5,7 @@ import subprocess
 import tempfile
 
 from explain_tools import Tools
-from pages import is_gnu
+from skips import has_gnu_sed
 
 CODE = "names-itself"
 # How much of a script a sed reads at once.
@@ -78,12 +78,13 @@ def runs_on(folder, path, script):
 
 def check_runs(tools):
     """Where the warning is, GNU sed runs on; from a copy with another name it ends."""
+    runs = has_gnu_sed("explain", "scripts that write their own file, as they run on")
     for write in ("w self.sed", "w ./self.sed", "w ../here/self.sed", "s/y/z/w self.sed"):
         script = cut_script(write)
         tools.write("self.sed", script.encode())
         status, report, _ = tools.explain("--format", "json", "self.sed")
         tools.same("%s: the warning" % write, (status, len(places(json.loads(report)))), (0, 1))
-        if is_gnu():
+        if runs:
             with tempfile.TemporaryDirectory(prefix="sedck-itself-") as whole:
                 folder = os.path.join(whole, "here")
                 os.makedirs(folder)

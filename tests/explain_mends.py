@@ -1,8 +1,8 @@
 """Commands that have their delimiter in a list: the option --mend, for scripts and for calls by their words."""
 import json
-import subprocess
 
 from explain_tools import Tools
+from skips import has_gnu_sed
 
 # Scripts that are refused without the option, how many commands have their delimiter in a list, and an input.
 MENDED = [
@@ -26,8 +26,7 @@ FORMATS = ("text", "gcc", "json", "sarif", "html", "dot", "sed")
 
 
 def check(tools: Tools) -> None:
-    version = subprocess.run(["sed", "--version"], capture_output=True, check=False).stdout
-    is_gnu = b"(GNU sed)" in version
+    is_gnu = has_gnu_sed("explain", "what scripts with other delimiters make")
     for script, count, given in MENDED:
         check_mended(tools, script, count, given.encode() if is_gnu else None)
     for text in UNCHANGED:

@@ -9,6 +9,7 @@ import subprocess
 from explain_json import drawn_scripts, example_scripts, reports
 from explain_texts import REFUSED_CERTIFICATES, PRINT, WITH_CERTIFICATE
 from explain_tools import VERSION, Tools, is_seen, letters, page_due, shown_line, shown_unicode
+from skips import has
 
 VOID = {"meta", "br", "hr", "link", "img", "input"}
 ADDRESSES = ("href", "src", "srcset", "action", "data", "poster", "xlink:href")
@@ -393,9 +394,9 @@ def hold_rows(tools, what, script, box, places):
         tools.holds("line of %s, %s" % (what, place), shown and shown in line)
 
 
-def check(tools: Tools) -> bool:
-    """Compares pages and graphs of chosen scripts, of the examples and of drawn ones. Answers whether Graphviz read the graphs."""
-    dot = shutil.which("dot")
+def check(tools: Tools) -> None:
+    """Compares pages and graphs of chosen scripts, of the examples and of drawn ones."""
+    dot = shutil.which("dot") if has("explain", "the graphs as Graphviz reads them", "dot") else None
     scripts = SCRIPTS + list(example_scripts()) + drawn_scripts(60)
     names = [tools.write("page-%d.sed" % at, script) for at, script in enumerate(scripts)]
     found = reports(tools, names)
@@ -405,4 +406,3 @@ def check(tools: Tools) -> bool:
         for job in jobs:
             job.result()
     check_certificates(tools)
-    return dot is not None

@@ -17,7 +17,7 @@ import tempfile
 import drawn
 from hint_rows import ROWS as HINTS
 from hints import run_sed
-from pages import is_gnu
+from skips import has_gnu_sed
 
 WORDS = ("ab\n", "a  b_c\n", "aab abb\n\nb a\n", "?+\n", "a,b,aa\n")
 PATHS = ("a/b/c\n", "/\n//x\n", "a,b|c/d\n", "no\n")
@@ -178,7 +178,7 @@ def wrong_place(explain, folder, script):
 
 
 def main():
-    explain, compares, failures, followed = os.path.abspath(sys.argv[1]), is_gnu(), [], 0
+    explain, compares, failures, followed = os.path.abspath(sys.argv[1]), has_gnu_sed("fixes", "what fixed scripts make"), [], 0
     with tempfile.TemporaryDirectory(prefix="sedck-fixes-") as folder:
         for row in ROWS:
             failures += wrong_row(explain, folder, row, compares)

@@ -23,7 +23,8 @@ from pathlib import Path
 import drawn
 from fixes import CHARACTERS, ROWS as FIXES, UNGROUPED, WITHOUT, fixed
 from hint_rows import ROWS as HINTS
-from pages import is_gnu, sections
+from pages import sections
+from skips import WHOLE, has_gnu_sed
 
 TOP = Path(__file__).resolve().parent.parent
 ENDLESS = "it never ends once it is entered"
@@ -240,9 +241,8 @@ def wrong_sections(explain):
 
 def main():
     explain, failures, followed = os.path.abspath(sys.argv[1]), 0, 0
-    if not is_gnu():
-        print("followed: there is no GNU sed")
-        return 0
+    if not has_gnu_sed("followed", "all"):
+        return WHOLE
     scripts, endless = all_scripts(), []
     with ThreadPoolExecutor(2) as pool:
         for script, (wrong, count, said) in zip(scripts, pool.map(lambda script: follow(explain, script), scripts)):

@@ -12,6 +12,8 @@ import sys
 import tempfile
 from pathlib import Path
 
+from skips import has
+
 TOP = Path(__file__).resolve().parent.parent
 FORMAT = TOP / "wrapper" / "sedck-fmt"
 PLAIN = b"# joins\n\n:a\n$!{\n  N\n  b a\n}\n"
@@ -71,7 +73,7 @@ def check_reports(place):
     status, out, said = place.run("--diff", "other.sed", "plain.sed")
     expect((status, said, out.startswith(b"--- other.sed\n+++ other.sed\n@@ ")) == (1, b"", True), "--diff: %d, %r, %r" % (status, out, said))
     expect((place.folder / "other.sed").read_bytes() == OTHER, "--check or --diff has changed a file")
-    if shutil.which("patch"):
+    if has("formatter", "what patch makes of --diff", "patch"):
         place.write("patched.sed", OTHER)
         subprocess.run(["patch", "-s", "patched.sed"], cwd=place.folder, input=out, check=True)
         expect((place.folder / "patched.sed").read_bytes() == PLAIN, "the patched script is %r" % (place.folder / "patched.sed").read_bytes())

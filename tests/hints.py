@@ -17,7 +17,8 @@ import tempfile
 
 import drawn
 from hint_rows import EXCLUDED, ROWS
-from pages import is_gnu, sections
+from pages import sections
+from skips import has_gnu_sed
 
 PAGES = ("docs/MENDING.md", "docs/FAULTS.md")
 
@@ -94,7 +95,7 @@ def main():
     words.add_argument("explain")
     words.add_argument("sedck")
     asked = words.parse_args()
-    explain, compares, failures = os.path.abspath(asked.explain), is_gnu(), 0
+    explain, compares, failures = os.path.abspath(asked.explain), has_gnu_sed("hints", "what scripts that follow hints make"), 0
     with tempfile.TemporaryDirectory(prefix="sedck-hints-") as folder:
         for row in ROWS:
             for wrong in (*answers(row, explain, folder), *(outputs(row, folder) if compares else ())):
@@ -104,7 +105,7 @@ def main():
     for wrong in drawn.compare(same):
         failures += 1
         print("FAILED: %s" % wrong)
-    print("hints: %d, and %d pairs of scripts on %d drawn inputs each, %d failures%s" % (len(ROWS), len(same), drawn.INPUTS, failures, "" if compares else "; there is no GNU sed to compare outputs in"))
+    print("hints: %d, and %d pairs of scripts on %d drawn inputs each, %d failures" % (len(ROWS), len(same), drawn.INPUTS, failures))
     return 1 if failures or not ROWS else 0
 
 

@@ -18,6 +18,8 @@ import tarfile
 import tempfile
 from pathlib import Path
 
+from skips import has
+
 TOP = Path(__file__).resolve().parent.parent
 GOOD, LOOP = ":a\ns/x//\nt a\n", ":a\nb a\n"
 wrong = []
@@ -34,13 +36,6 @@ def run(words, folder, **environment):
     done = subprocess.run(words, cwd=folder, stdin=subprocess.DEVNULL, stdout=subprocess.PIPE, stderr=subprocess.STDOUT, encoding="utf-8",
                           env={**os.environ, **environment}, timeout=300)
     return done.returncode, done.stdout
-
-
-def lacks(*programs):
-    missing = [name for name in programs if not shutil.which(name)]
-    if missing:
-        print("integrations: a part is left out, since this machine lacks " + ", ".join(missing))
-    return missing
 
 
 # ---- Autoconf and Automake
@@ -130,7 +125,7 @@ def check_action(explain, folder):
     with tarfile.open(folder / "archive.tar.gz", "w:gz") as archive:
         archive.add(programs, "sedck-1-kit")
     total = hashlib.sha256((folder / "archive.tar.gz").read_bytes()).hexdigest()
-    if not lacks("curl", "sha256sum"):
+    if has("integrations", "how the action unpacks an archive", "curl", "sha256sum"):
         for number, due in ((total, 0), ("0" * 64, 1)):
             room = folder / ("room%d" % due)
             room.mkdir()
@@ -142,7 +137,7 @@ def check_action(explain, folder):
         expect(os.access(where + "/sedck-explain", os.X_OK), "the archive's programs aren't in %s" % where)
     check_judging(steps, folder, tree, "%s:%s" % (programs / "bin", os.environ["PATH"]))
     check_no_paths(steps, tree, "%s:%s" % (programs / "bin", os.environ["PATH"]))
-    if not lacks("gzip", "base64"):
+    if has("integrations", "how the action sends its log", "gzip", "base64"):
         check_sending(steps, folder)
 
 
@@ -251,7 +246,7 @@ def check_editors(explain, folder):
     expect(("two.sed", "2", "4", "error") in found and ("loop.sed", "1", "1", "error") in found, "VS Code finds %s" % found)
     formats = re.findall(r'from_errorformat\(\{ "([^"]*)"', page)
     expect(formats == ["%f:%l:%c: %t%*[^:]: %m"], "the format of null-ls is %s" % formats)
-    if not lacks("vim"):
+    if has("integrations", "what Vim makes of --format gcc", "vim"):
         (folder / "lines").write_text("\n".join(lines) + "\n")
         script = "set errorformat=%s\ncgetfile lines\ncall writefile(map(getqflist(), 'bufname(v:val.bufnr).\":\".v:val.lnum.\":\".v:val.col.\":\".v:val.type'), 'seen')\nqa!\n"
         (folder / "read.vim").write_text(script % re.sub(r"([ |\\])", r"\\\1", formats[0]))
@@ -265,12 +260,12 @@ def check_editors(explain, folder):
 def main():
     explain = os.path.abspath(sys.argv[1])
     with tempfile.TemporaryDirectory(prefix="sedck-integrations-") as folder:
-        if not lacks("autoconf"):
-            for uses_automake in [False] + [True] * (not lacks("automake")):
+        if has("integrations", "the macro of Autoconf", "autoconf"):
+            for uses_automake in [False] + [True] * has("integrations", "the macro of Autoconf with Automake", "automake"):
                 (Path(folder) / str(uses_automake)).mkdir()
                 check_macro(explain, Path(folder) / str(uses_automake), uses_automake)
         (Path(folder) / "action").mkdir()
-        if not lacks("bash"):
+        if has("integrations", "the action", "bash"):
             check_action(explain, Path(folder) / "action")
         check_editors(explain, Path(folder))
     if not wrong:

@@ -13,6 +13,8 @@ import sys
 import tempfile
 from pathlib import Path
 
+from skips import present
+
 TOP = Path(__file__).resolve().parent.parent
 KNOWN = TOP / "wrapper" / "sedck-known"
 HEAD = b"# checksum, code, line:column and path of what sedck-known lets pass\n"
@@ -24,6 +26,7 @@ SCRIPTS = {
     "-n.sed": (b"s/a\n", [b"unterminated 1:1"]),
     'q"{"level":"error","code":"q.sed': (b"# \"position\":{\"offset\":9,\"line\":9,\"column\":9\n:a\nba\n", [b"loop-idle 2:1"]),
 }
+SHELLS, AWKS = ("dash", "bash --posix", "busybox sh"), ("gawk", "mawk", "busybox awk")
 wrong = []
 
 
@@ -150,13 +153,12 @@ def check_programs(place):
     due = (0, lines(b"known", *names) + b"1 accepted, 4 known, 0 with other errors\n", b"")
     found = place.run("all", "--", *names, program=beside / "sedck-known", SEDCK_EXPLAIN="")
     expect(found == due, "the program beside it: %s" % (found,))
-    for shell in (["dash"], ["bash", "--posix"], ["busybox", "sh"]):
-        for awk in ("gawk", "mawk", "busybox"):
-            if shutil.which(shell[0]) and shutil.which(awk):
-                call = '#!/bin/sh\nexec %s%s "$@"\n' % (shutil.which(awk), " awk" if awk == "busybox" else "")
-                place.write("beside/awk", call.encode(), 0o755)
-                found = place.run(*shell[1:], beside / "sedck-known", "all", "--", *names, program=shell[0], PATH="%s:%s" % (beside, os.environ["PATH"]))
-                expect(found == due, "%s with %s: %s" % (shell, awk, found))
+    awks = present("known", "awks by which the program runs", AWKS)
+    for shell in map(str.split, present("known", "shells by which the program runs", SHELLS)):
+        for awk in awks:
+            place.write("beside/awk", ('#!/bin/sh\nexec %s "$@"\n' % awk.replace(awk.split()[0], shutil.which(awk.split()[0]), 1)).encode(), 0o755)
+            found = place.run(*shell[1:], beside / "sedck-known", "all", "--", *names, program=shell[0], PATH="%s:%s" % (beside, os.environ["PATH"]))
+            expect(found == due, "%s with %s: %s" % (shell, awk, found))
 
 
 def main():

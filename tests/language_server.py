@@ -8,6 +8,7 @@ status is 0 only where all is as it is due.
 import json
 import os
 import queue
+import re
 import subprocess
 import sys
 import tempfile
@@ -104,6 +105,18 @@ def check_findings(editor):
     expect(editor.findings("untitled:Untitled-1", "p"), [], "a text without a file")
     found = editor.findings("file:///none/-n.sed", "s/[/x/")
     expect([one["code"] for one in found], ["unclosed-bracket"], "a name that begins with a hyphen")
+
+
+def check_hints(editor):
+    """A diagnostic has the message and the hint that README shows of the same script, and the hint of `\\+` what POSIX has for it."""
+    page = (TOP / "README.md").read_text()
+    shown = re.search(r"^examples/join-all-loop\.sed:1:1: error: (.*) \[loop-idle\]$(?:\n.*)*?\n     = hint: (.*)$", page, re.M)
+    found = editor.findings("file:///none/join-all-loop.sed", (TOP / "examples/join-all-loop.sed").read_text())
+    expect([one["message"] for one in found if one["severity"] == 1], [shown[1] + "\nhint: " + shown[2]], "the message of a loop")
+    found = editor.findings("file:///none/plus.sed", "s/a\\+/b/")
+    expect([("\nhint: " in one["message"], "\\{1,\\}" in one["message"].partition("\nhint: ")[2]) for one in found], [(True, True)], "the hint of \\+")
+    found = editor.findings("file:///none/one.sed", "s/a/b/")
+    expect([one["message"] for one in found if "hint" in one["message"]], [], "a hint of nothing")
 
 
 def check_ends_of_lines(editor):
@@ -223,6 +236,7 @@ def main():
     with tempfile.TemporaryDirectory(prefix="sedck-lsp-") as folder:
         editor = Editor(explain)
         check_findings(editor)
+        check_hints(editor)
         check_ends_of_lines(editor)
         check_bytes(editor, folder)
         check_requests(editor)

@@ -9,12 +9,13 @@ import ctypes
 import importlib.util
 import os
 import re
-import shutil
 import subprocess
 import sys
 import tempfile
 from concurrent.futures import ThreadPoolExecutor
 from pathlib import Path
+
+from skips import has
 
 TOP = Path(__file__).resolve().parent.parent
 # Scripts of each answer, with what the program prints of its own that the examples don't have.
@@ -164,12 +165,10 @@ def compiled(archive, folder):
     subprocess.run([*compiler, "-shared", "-o", str(folder / "libsedck.so"), "-Wl,-z,defs", "-Wl,--whole-archive", archive, "-Wl,--no-whole-archive"], check=True)
     subprocess.run([*compiler, "-std=c99", "-D_POSIX_C_SOURCE=200809L", *flags, str(TOP / "tests" / "library.c"), archive, "-o", str(folder / "library")], check=True)
     subprocess.run([*compiler, *flags, str(TOP / "library" / "example.c"), archive, "-o", str(folder / "example")], check=True)
-    if shutil.which("c++"):
+    if has("library", "the header in C++", "c++"):
         (folder / "header.cc").write_text('#include <sedck.h>\nint main() { return sedck_judge("p", 1, 0, 0, 0, 0); }\n')
         subprocess.run(["c++", *flags, str(folder / "header.cc"), archive, "-o", str(folder / "header")], check=True)
         expect(subprocess.run([folder / "header"]).returncode == 0, "a program in C++")
-    else:
-        print("library: the header isn't tried in C++, since this machine lacks c++")
 
 
 def check_examples(folder):

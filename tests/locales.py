@@ -12,6 +12,8 @@ import sys
 import tempfile
 from pathlib import Path
 
+from skips import has_gnu_sed, skip
+
 sys.path.insert(0, str(Path(__file__).resolve().parent / "seds"))
 import seds_ways  # noqa: E402
 
@@ -35,18 +37,13 @@ def run(words, given, locale):
     return done.returncode, done.stdout
 
 
-def is_gnu():
-    try:
-        return b"GNU sed" in subprocess.run(["sed", "--version"], capture_output=True).stdout
-    except OSError:
-        return False
-
-
 def main():
-    explain, wrong, compared = os.path.abspath(sys.argv[1]), [], is_gnu()
+    explain, wrong, compared = os.path.abspath(sys.argv[1]), [], has_gnu_sed("locales", "what scripts make in each locale")
     with tempfile.TemporaryDirectory(prefix="sedck-locales-") as folder:
         locales = [one for one in seds_ways.locales_found(folder) if one.charmap == "UTF-8"]
         told = set()
+        if not locales:
+            skip("locales", "locales of UTF-8", "this machine has none, and can make none")
         for number, (script, lines) in enumerate(ROWS + COMMENTED):
             before, after, given = Path(folder, "before.sed"), Path(folder, "after.sed"), lines.encode() + b"\n"
             before.write_bytes(script.encode() + b"\n")
@@ -66,9 +63,8 @@ def main():
     for line in wrong:
         print("locales: " + line)
     if not wrong:
-        names = ", ".join(locale.name for locale in locales)
-        print("locales: %d scripts and their plain spellings do the same in C%s" % (len(ROWS + COMMENTED), ", " + names if names else "; no locale of UTF-8 is here")
-              if compared else "locales: not compared, since this machine lacks GNU sed")
+        print("locales: %d scripts have plain spellings%s" % (
+            len(ROWS + COMMENTED), ", which do the same in " + ", ".join(["C", *(locale.name for locale in locales)]) if compared else ""))
     return 1 if wrong else 0
 
 

@@ -3,8 +3,8 @@
 
 What the page's worker answers under Node is held against the programs of the same build, byte for byte: reports of examples, rows and
 drawn scripts, and `check` of their certificates and of changed ones. Then the page is opened in Chromium, where it must also refuse an
-answer on which its modules don't agree. What can't be tested is skipped by name: where there is no page, or one of other sources, no
-Node or no Chromium. The status is 0 only where everything that was tested is as expected.
+answer on which its modules don't agree. What can't be tested is skipped by name: where there is no Node or no Chromium. Without a page, or
+with one of other sources, the status is 77. It is 0 only where everything that was tested is as expected.
 """
 import base64
 import gzip
@@ -23,6 +23,7 @@ from pathlib import Path
 
 import browser
 from explain_json import drawn_scripts, example_scripts
+from skips import WHOLE, has, skip
 
 TOP = Path(__file__).resolve().parent.parent
 sys.path.insert(0, str(TOP / "tools"))
@@ -50,10 +51,6 @@ def holds(what, is_so):
 
 def same(what, found, due):
     holds("%s: %r, and not %r" % (what, str(found)[:300], str(due)[:300]), found == due)
-
-
-def skipped(what, why):
-    print("page: skipped: %s: %s" % (what, why))
 
 
 def block(text, name):
@@ -431,27 +428,37 @@ def hold_browser(built, path):
     print("page: opened from a file in %s, light and dark, 360 and 1,000 wide" % path)
 
 
+def hold_programs(natives):
+    """The programs beside the page are those that they should be: what they say of examples is what pages say, and no silence is held against another."""
+    for name, status in (("mail-body", 0), ("join-lines", 0), ("pad-left-loop", 1)):
+        script = TOP / "examples" / (name + ".sed")
+        ranked = subprocess.run([natives["checker"], "rank", script], stdout=subprocess.PIPE, check=False)
+        due = script.with_suffix(".cert").read_bytes() if status == 0 else b"loop growing\n"
+        same("what sedck says of %s" % name, (ranked.returncode, ranked.stdout[:len(due)]), (status, due))
+        said = subprocess.run([natives["explain"], "--format", "json", script], stdout=subprocess.PIPE, encoding="utf-8", check=False)
+        same("what sedck-explain says of %s" % name, (said.returncode, re.findall(r'"answer":"(\w+)"', said.stdout)), (status, ["loop" if status else "accepted"]))
+
+
 def main():
     hold_build()
     if not PAGE.exists():
-        skipped("the page", "build/page/sedck.html isn't there (`make page` or `make try-page`%s)" % (
+        skip("page", "the page", "build/page/sedck.html isn't there (`make page` or `make try-page`%s)" % (
             "" if shutil.which("wasm-opt") else "; wasm-opt isn't there either"))
-        return 1 if faults else 0
+        return 1 if faults else WHOLE
     with tempfile.TemporaryDirectory(prefix="sedck-page-") as folder, ThreadPoolExecutor(2) as pool:
         built = Built(folder)
         if not built.is_fresh():
-            skipped("the page", "build/page/sedck.html was made from other sources (`make page` or `make try-page`)")
-            return 1 if faults else 0
+            skip("page", "the page", "build/page/sedck.html was made from other sources (`make page` or `make try-page`)")
+            return 1 if faults else WHOLE
         built.hold_modules()
-        if shutil.which("node"):
+        hold_programs(built.natives)
+        if has("page", "the modules", "node"):
             hold_answers(built, pool)
             hold_memory(built)
-        else:
-            skipped("the modules", "node isn't there")
         if browser.found():
             hold_browser(built, browser.found())
         else:
-            skipped("the page in a browser", "chromium isn't there")
+            skip("page", "the page in a browser", "this machine lacks chromium")
     print("page: %s" % ("%d faults" % len(faults) if faults else "all as expected"))
     return 1 if faults else 0
 

@@ -10,12 +10,13 @@ page says, and the outputs are the same.
 """
 import os
 import re
-import shutil
 import subprocess
 import sys
 import tempfile
 from collections.abc import Iterator
 from pathlib import Path
+
+from skips import has, has_gnu_sed
 
 ENDLESS = "a run without an end"
 
@@ -42,11 +43,6 @@ def output(folder: str, script: str, given: str) -> str | None:
     return done.stdout if done.returncode == 0 else None
 
 
-def is_gnu() -> bool:
-    """Whether the machine's sed is that of GNU."""
-    return subprocess.run(["sed", "--version"], capture_output=True, text=True, check=False).stdout.startswith("sed (GNU sed)")
-
-
 def due(before: str, after: str) -> str | None:
     """The answer that the page has for a block, from the line before it or the paragraph after it."""
     label = before.rstrip("\n").split("\n")[-1]
@@ -68,8 +64,8 @@ class Checker:
     """Checks the sections of pages, and counts what it has seen."""
 
     def __init__(self, sedck: str) -> None:
-        self.sedck, self.has_sed = os.path.abspath(sedck), shutil.which("sed") is not None
-        self.compares_all = self.has_sed and is_gnu()
+        self.sedck, self.has_sed = os.path.abspath(sedck), has("pages", "what the scripts of pages make", "sed")
+        self.compares_all = has_gnu_sed("pages", "what scripts with extensions of GNU sed make")
         self.failures = self.scripts = self.compared = 0
 
     def fail(self, page: str, name: str, text: str) -> None:

@@ -16,6 +16,8 @@ import sys
 import tarfile
 import tempfile
 
+from skips import skip
+
 try:
     import yaml
 except ImportError:
@@ -396,14 +398,14 @@ def main():
     for recipe, needs in RECIPES:
         lacks = [need for need in needs.split() if (yaml is None if need == "yaml" else shutil.which(need) is None)]
         if lacks:
-            print("recipes: %s is left out: this machine lacks %s" % (recipe.__name__, " ".join(lacks)))
+            skip("recipes", recipe.__name__, "this machine lacks " + ", ".join(lacks))
             continue
         with Scratch(*map(os.path.abspath, sys.argv[1:3])) as scratch:
             try:
                 recipe(scratch)
                 run += 1
             except LeftOut as lack:
-                print("recipes: %s is left out: %s" % (recipe.__name__, lack))
+                skip("recipes", recipe.__name__, str(lack))
             except Failure as failure:
                 failed += 1
                 print("recipes: %s: %s" % (recipe.__name__, failure))

@@ -4,14 +4,18 @@
 A NAME is that of a test or of a group, which stands for all its tests; most groups are targets of the Makefile. -k runs those with the WORD
 in their names. Without either the tests are listed, and none is run. The programs are those of build/. With --unproved they are those of build/unproved, which
 `rt try` compiles without a proof where a source has changed; tests that need more are skipped, which is said. Each test has a line at the
-end. The status is 0 only where each one has ended with 0.
+end: one that ends with 77 was skipped. Then follows what was skipped in tests, which also goes to the file that SEDCK_SKIPPED names. The status
+is 0 only where each test has ended with 0 or 77.
 """
 import argparse
 import os
 import subprocess
 import sys
+import tempfile
 import time
 from pathlib import Path
+
+from skips import WHOLE
 
 TOP = Path(__file__).resolve().parent.parent
 PROVED = {"sedck": "build/sedck", "explain": "build/sedck-explain", "probe": "crates/sedck_probe/out/sedck_probe", "library": "build/libsedck.a",
@@ -73,12 +77,12 @@ class Test:
         """The programs that it needs and that there are none of."""
         return [word for word in self.words if word.startswith("{") and word.strip("{}") not in programs]
 
-    def run(self, programs: dict[str, str]) -> int:
-        """The status of the test."""
+    def run(self, programs: dict[str, str], skipped: str) -> int:
+        """The status of the test, which adds what it skips to the file of this name."""
         words = [word.format(**programs) for word in self.words]
         shell = ["sh"] if self.file.endswith(".sh") else [sys.executable]
         marks = {"SEDCK_VERSION_MARK": " (unproved)"} if programs is UNPROVED else {}
-        return subprocess.run([*shell, "tests/" + self.file, *filter(None, words)], cwd=TOP, env={**os.environ, **marks}, check=False).returncode
+        return subprocess.run([*shell, "tests/" + self.file, *filter(None, words)], cwd=TOP, env={**os.environ, **marks, "SEDCK_SKIPPED": skipped}, check=False).returncode
 
 
 def asked() -> argparse.Namespace:
@@ -99,6 +103,11 @@ def prepared(tests: list[Test]) -> bool:
     return not names or subprocess.run([sys.executable, "tools/try.py", os.environ.get("RT", "rt"), "--programs", *names], cwd=TOP, check=False).returncode == 0
 
 
+def skipped_in(name: str) -> list[str]:
+    """The lines of a list of what was skipped."""
+    return Path(name).read_text().splitlines() if os.path.exists(name) else []
+
+
 def main() -> int:
     """Runs what is asked for, or lists the tests."""
     words, tests = asked(), [Test(row) for row in TESTS.splitlines()]
@@ -116,14 +125,20 @@ def main() -> int:
     if words.unproved and not prepared(ready):
         return 4
     lines, failed = [], not chosen
-    for test in ready:
-        begun = time.monotonic()
-        status = test.run(programs)
-        failed |= status != 0
-        said = "passed" if status == 0 else "FAILED with status %d" % status
-        lines.append("%-18s %-18s %s (%.1f s)" % (test.target, test.name, said, time.monotonic() - begun))
+    with tempfile.NamedTemporaryFile("w+", prefix="sedck-skipped-") as own:
+        # The file of what calls this one, as `make test`, has more in it.
+        name = os.environ.get("SEDCK_SKIPPED") or own.name
+        before = skipped_in(name)
+        for test in ready:
+            begun, known = time.monotonic(), len(skipped_in(name))
+            status = test.run(programs, name)
+            failed |= status not in (0, WHOLE)
+            parts = len(skipped_in(name)) - known
+            said = {0: "passed" + (", %d skipped" % parts if parts else ""), WHOLE: "skipped"}.get(status, "FAILED with status %d" % status)
+            lines.append("%-18s %-18s %s (%.1f s)" % (test.target, test.name, said, time.monotonic() - begun))
+        parts = skipped_in(name)[len(before):]
     lines += ["%-18s %-18s skipped: it needs what is proved" % (test.target, test.name) for test in chosen if test not in ready]
-    print("\n".join(lines or ["run: no test has this word in its name"]))
+    print("\n".join([*(lines or ["run: no test has this word in its name"]), *parts]))
     return 1 if failed else 0
 
 

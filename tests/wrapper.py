@@ -17,6 +17,7 @@ import threading
 from pathlib import Path
 
 from calls import FILES, LONG, SHORT, drawn
+from skips import present
 
 TOP = Path(__file__).resolve().parent.parent
 SHELLS = ("dash", "bash", "busybox sh")
@@ -462,7 +463,7 @@ def check_ends(place):
     """Where a script of -f ends in a backslash, seds run it in their own ways: it is refused. Any other one runs as without the wrapper."""
     (place.here / "one").write_text("one\n")
     (place.here / "next.sed").write_text("p\n")
-    seds = ["/usr/bin/env sed"] + [name + " sed" for name in ("busybox", "toybox") if shutil.which(name)]
+    seds = ["/usr/bin/env sed"] + present("wrapper", "what a backslash at the end of a script is to other seds", ("busybox sed", "toybox sed"))
     for end, is_due in ENDS:
         (place.here / "end.sed").write_text(end)
         for more in ([], ["-f", "next.sed"], ["-e", "p"], ["-f", "end.sed"]):
@@ -797,7 +798,7 @@ SPELLINGS = (check_spelled, check_drawn_words, check_texts, check_outputs)
 
 
 def main():
-    shells = [shell for shell in SHELLS if shutil.which(shell.split()[0])]
+    shells = present("wrapper", "shells by which the programs run", SHELLS)
     for shell in shells:
         before = len(failures)
         with tempfile.TemporaryDirectory(prefix="sedck-wrapper-") as folder:
