@@ -82,6 +82,17 @@ def check_command(place):
     expect(place.call(place.own, "--mode", "refuse", "no-such-command")[0] == 127, "a command that is missing")
 
 
+def check_names(place):
+    """The name of a script is printed on one line, with nothing that a terminal or a host of code would obey."""
+    for name in (b"::error::x.sed", b" ::x.sed", b"a\x1b[1Ab.sed", b"a\rb.sed", b"a\n::error::b.sed", "a\u202eb.sed".encode()):
+        path = Path(os.fsdecode(os.path.join(os.fsencode(place.here), name)))
+        path.write_text(":a\nba\n")
+        for mode, due in (("refuse", 120), ("warn", 0)):
+            status, _, said = place.call(place.own, "--mode", mode, "sed", "-n", "-f", os.fsdecode(name), "/dev/null")
+            expect(status == due and b"[loop-idle]" in said and not re.search(rb"(?m)[\0-\x09\x0b-\x1f\x7f-\xff]|^\s*::", said), "%s of %r: %d, %r" % (mode, name, status, said))
+        path.unlink()
+
+
 def check_words(place):
     """What --help and --dir print, and words that are invalid. Without a log nothing is judged in the mode `log`, so that nothing runs."""
     expect(place.call(place.own, "--dir")[:2] == (0, place.first.encode() + b"\n"), "--dir: %s" % (place.call(place.own, "--dir"),))
@@ -163,7 +174,7 @@ def main():
     for shell in shells:
         before = len(failures)
         with tempfile.TemporaryDirectory(prefix="sedck-command-") as folder:
-            for number, check in enumerate((check_command, check_words, check_missing, check_shown)):
+            for number, check in enumerate((check_command, check_names, check_words, check_missing, check_shown)):
                 check(Place(os.path.join(folder, str(number)), shell, explain))
             check_colon(os.path.join(folder, "a:b"), shell, explain)
         failures[before:] = ["%s: %s" % (shell, failure) for failure in failures[before:]]

@@ -5,6 +5,7 @@ Each option on scripts that differ from their plain spelling, that don't, and th
 it is, and of statuses. What `--diff` prints is applied by `patch`, where there is one. The status is 0 only where all is as it is due.
 """
 import os
+import re
 import shutil
 import stat
 import subprocess
@@ -80,6 +81,42 @@ def check_reports(place):
     expect(place.run("--diff", "plain.sed") == (0, b"", b""), "--diff of a plain script prints something")
 
 
+# Names of which a terminal or a host of code would make something else, with what must not be printed of each one.
+NAMES = [(b"a\x1b[1A\x1b[2Kb.sed", b"\x1b"), (b"a\rb.sed", b"\r"), (b"a\nb.sed", b"\n"), ("a\u202eb.sed".encode(), "\u202e".encode()), (b"::error::x.sed", None),
+         (b" ::error::x.sed", None), (b"a\n::error::x.sed", b"\n"), (b"\xff.sed", b"\xff"), (b"a\xc2\x9b1A.sed", b"\xc2\x9b"), (b"a\x7f.sed", b"\x7f"), (b"a\tb.sed", b"\t")]
+
+
+def is_harmless(text, hidden):
+    """Whether each line is ASCII that a terminal shows, or has characters of UTF-8 but not this one, and begins with no command of a host of code."""
+    lines = text.removesuffix(b"\n").split(b"\n")
+    return (hidden is None or hidden == b"\n" or hidden not in text) and not any(line.lstrip().startswith(b"::") for line in lines) and not re.search(rb"[\0-\x09\x0b-\x1f\x7f]", text)
+
+
+def check_names(place):
+    """A name is printed on one line, as sedck-explain prints it in its report of the same file."""
+    for name, hidden in NAMES:
+        path = os.path.join(os.fsencode(place.folder), name)
+        for task, count in (("--check", 1), ("--diff", 7)):
+            Path(os.fsdecode(path)).write_bytes(OTHER)
+            status, out, said = place.run(task, "--", os.fsdecode(name))
+            expect(status == 1 and said == b"" and is_harmless(out, hidden), "%s of %r: %d, %r, %r" % (task, name, status, out, said))
+            expect(task == "--diff" or out.count(b"\n") == count, "%s of %r prints %r" % (task, name, out))
+            shown = out.splitlines()[0].removeprefix(b"--- ")
+            Path(os.fsdecode(path)).write_bytes(b"}")
+            status, out, said = place.run(task, "--", os.fsdecode(name))
+            expect(status == 2 and said.startswith(shown + b":1:1: error: ") and is_harmless(said, hidden), "the name %r is %r, and %r" % (name, shown, said))
+        os.unlink(path)
+        status, out, said = place.run("--check", "--", os.fsdecode(name))
+        expect(status == 4 and said == b"sedck-fmt: " + shown + b": it can't be read\n", "a missing %r: %r" % (name, said))
+        # Without the program nothing is known of a name, and each byte that isn't printable ASCII is hidden.
+        status, out, said = place.run("--check", "--", os.fsdecode(name), SEDCK_EXPLAIN="/nowhere")
+        expect(status == 4 and said.count(b"\n") == 1 and said.isascii() and is_harmless(said, hidden), "%r without the program: %r" % (name, said))
+    for name, shown in (("\u00e9.sed", "\u00e9.sed"), ("::x.sed", "./::x.sed"), (":x.sed", "./:x.sed"), ("a::x.sed", "a::x.sed"), ("-n x.sed", "./-n x.sed")):
+        place.write(name, OTHER)
+        found = place.run("--check", "--", name)
+        expect(found == (1, shown.encode() + b"\n", b""), "--check of %r: %s" % (name, found))
+
+
 def check_written(place):
     """--write puts the plain spelling in the place of a file, and no other file appears or changes."""
     place.write("other.sed", OTHER, 0o750)
@@ -126,7 +163,7 @@ def check_programs(place):
 
 def main():
     explain = os.path.abspath(sys.argv[1])
-    for check in (check_words, check_reports, check_written, check_programs):
+    for check in (check_words, check_reports, check_names, check_written, check_programs):
         with tempfile.TemporaryDirectory(prefix="sedck-formatter-") as folder:
             check(Place(folder, explain))
     if not wrong:

@@ -6,6 +6,7 @@ written and left as it is; statuses. The entries that are due are worked out her
 """
 import hashlib
 import os
+import re
 import shutil
 import stat
 import subprocess
@@ -107,6 +108,27 @@ def check_passes(place):
     place.write("loop.sed", SCRIPTS["loop.sed"][0])
 
 
+def check_names(place):
+    """A name is printed as sedck-explain prints it: on one line, and with nothing that a terminal or a host of code would obey."""
+    loop = SCRIPTS["loop.sed"][0]
+    for name, shown in ((b"a\x1b[1A\x1b[2Kb.sed", None), (b"a\rb.sed", None), ("a\u202eb.sed".encode(), None), (b"::error::x.sed", b"./::error::x.sed"), (b" ::x.sed", b"./ ::x.sed"),
+                        (b"a\xffb.sed", None), (b"a\x7fb.sed", None), ("\u00e9.sed".encode(), "\u00e9.sed".encode())):
+        path = Path(os.fsdecode(os.path.join(os.fsencode(place.folder), name)))
+        path.write_bytes(loop)
+        place.write("none", b"# no entry\n")
+        report = place.run("none", "--", os.fsdecode(name))[1]
+        printed = report.partition(b":2:2: ")[0]
+        expect(b":2:2: " in report and shown in (None, printed) and (shown or name not in printed) and not re.search(rb"[\0-\x1f\x7f\xff]|\xe2\x80\xae|^\s*::", printed),
+               "%r in a report is %r" % (name, printed))
+        expect(place.run("--write", "own", "--", os.fsdecode(name))[1].startswith(b"known: " + printed + b":2:2: "), "--write of %r" % name)
+        expect(place.run("own", "--", os.fsdecode(name))[:2] == (0, b"known: " + printed + b":2:2: loop-idle\n0 accepted, 1 known, 0 with other errors\n"), "an entry of %r" % name)
+        path.write_bytes(b"p\n")
+        found = place.run("own", "--", os.fsdecode(name))
+        expect(found[:2] == (1, b"stale: " + printed + b":2:2: loop-idle\n1 accepted, 0 known, 0 with other errors\n"), "a stale entry of %r: %s" % (name, found))
+        path.unlink()
+        expect(place.run("own", "--", os.fsdecode(name))[2] == b"sedck-known: " + printed + b": it can't be read\n", "%r isn't there" % name)
+
+
 def check_stale(place):
     """Entries that fit nothing fail, whatever else is there; where a script can't be read, nothing is said of them."""
     place.write("loops", entries("loop.sed", "-n.sed"))
@@ -163,7 +185,7 @@ def check_programs(place):
 
 def main():
     explain = os.path.abspath(sys.argv[1])
-    for check in (check_words, check_passes, check_stale, check_written, check_programs):
+    for check in (check_words, check_passes, check_names, check_stale, check_written, check_programs):
         with tempfile.TemporaryDirectory(prefix="sedck-known-") as folder:
             check(Place(folder, explain))
     if not wrong:

@@ -386,6 +386,12 @@ def pre_commit(scratch):
             scratch.write(name, text)
             says = scratch.run(0 if passes else 1, *words, name)
             holds((name in says) != passes, "%s says of %s:\n%s" % (hook, name, says))
+        # A name is printed on one line, with nothing that a terminal or a host of code would obey.
+        for name in ("::error::x.sed", " ::x.sed", "a\x1b[1Ab.sed", "a\n::error::b.sed", "a\u202eb.sed"):
+            scratch.write(name, ENDLESS)
+            says = scratch.run(1, *words, name)
+            holds(says and not re.search(r"[\0-\x09\x0b-\x1f\x7f\u202e]|^\s*::", says, re.M), "%s says of %r:\n%r" % (hook, name, says))
+            os.remove(os.path.join(scratch.folder, name))
 
 
 # Each recipe with the programs that it needs.
