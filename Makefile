@@ -136,10 +136,10 @@ matchers: build
 	python3 tests/seds/seds_matchers.py build/sedck-explain build/sedck $(MATCHERS)
 
 # The wrong bodies that the gate leaves out, of the crates that have changed since they were tried: `PLANTED=NAME` has those of one crate
-# tried, `ALL=1` all of them.
+# tried, `BELOW=1` also those of crates below which something has changed, `ALL=1` all of them.
 planted:
 	@echo "Trying the wrong bodies that the gate leaves out, where crates have changed (all of them: 70 to 150 processor minutes) ..."
-	python3 tools/planted.py "$(RT)" $(if $(ALL),--all,$(PLANTED))
+	python3 tools/planted.py "$(RT)" $(if $(ALL),--all,$(if $(BELOW),--below,$(PLANTED)))
 
 # More arguments in STATES, such as `--steps 1000000`, `--folder DIR` or `--sed NAME=COMMAND`.
 states: probe

@@ -49,7 +49,7 @@ def copied(folder):
             shutil.copy(TOP / "build" / name, folder / "build" / name)
     if (TOP / "build" / "page").is_dir():
         shutil.copytree(TOP / "build" / "page", folder / "build" / "page")
-    enter = "import sys; sys.path.insert(0, 'tools'); import planted; [planted.entered(name, planted.sum_of(name)) for name in planted.crates()]"
+    enter = "import sys; sys.path.insert(0, 'tools'); import planted; [planted.entered(name, planted.sums_of(name), {}) for name in planted.crates()]"
     subprocess.run([sys.executable, "-c", enter], cwd=folder, check=True)
     (folder / "rt").write_text("#!/bin/sh\necho 'rattle-kit-0 logic 0'\n")
     (folder / "rt").chmod(0o755)

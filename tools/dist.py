@@ -6,7 +6,8 @@ completions, manual pages, the pages that reports name with README.md and the ex
 where it is there. Beside that it has install.sh, README.md, SECURITY.md, a list of what it was made of (sbom.spdx.json), and SHA256SUMS, for
 `sha256sum -c` in its folder. VERSION is that of CHANGELOG.md, KIT the first word of `rt version`. The same files give the same archive: names
 are sorted, and owners and times are fixed. Nothing is packed, and the status is 1, while something of build/ is missing, or there are crates
-whose planted wrong bodies weren't tried as they are now (tools/planted.py).
+whose planted wrong bodies weren't tried since their code, definitions or edits changed (tools/planted.py). It is printed below which crates
+something has changed since.
 
 `--install` puts the same files below DESTDIR and PREFIX by the same install.sh, as far as build/ has them. It proves and builds nothing: what
 is missing is named, with the target that makes it, and the status is 1 where build/ has no program.
@@ -170,10 +171,11 @@ def install(prefix, root):
 
 def pack(rt):
     """Packs the archive; the exit status."""
-    late = planted.behind()
+    late, *others = planted.compared()
     if late:
-        print("dist: `make planted` comes first: the wrong bodies of %s weren't tried as they are now" % ", ".join(late))
+        print("dist: `make planted` comes first: the wrong bodies of %s weren't tried since something changed there" % ", ".join(late))
         return 1
+    print("\n".join("dist: wrong bodies: " + line for line in planted.said_of(late, *others)))
     for path, target in missing().items():
         print("dist: %s is missing: `%s` makes it" % (path, target))
     if missing():

@@ -1,12 +1,16 @@
 #!/usr/bin/env python3
-"""Tries the wrong bodies that the gate leaves out: python3 tools/planted.py [RT] [--all | --behind | CRATE ..]
+"""Tries the wrong bodies that the gate leaves out: python3 tools/planted.py [RT] [--all | --below | --behind | CRATE ..]
 
 The edits in crates/NAME/planted are like those in crates/NAME/must-fail, and the prover must refuse each one by a goal. Each takes a
 quarter of a minute or more, so the gate tries the few that tell most, and all others are for this.
 
-The ledger `planted.sums` has for each crate a checksum of its code, definitions and planted edits as they were when all of these were
-refused. Tried are those of the crates that are behind, whose sum is another one now; with `--all` those of all crates, or those of the
-crates that are named. With `--behind` nothing is tried: the crates that are behind are printed, and the status is 1 if there are any.
+The ledger `planted.sums` has for each crate two checksums as they were when all its planted edits were refused: of its code, definitions and
+edits, and of the code and definitions of all crates below it. A line with one checksum is older: it is the first one, and says nothing of
+what was below. `planted.refusals` has the first line by which each edit was refused then. Neither knows of proofs, nor of the toolchain.
+
+Tried are those of the crates that are behind, whose first checksum is another one now; with `--below` also those of the crates below which
+something is another one or isn't known, with `--all` those of all crates, or those of the crates that are named. With `--behind` nothing is
+tried: it is printed which crates are behind, and below which something has changed. The status is 1 if there are crates that are behind.
 
 What the crates need is proved first. Where `rt ci` takes names of crates it uses what the gate has kept on this machine; otherwise what is
 proved stays in the crates' folders, as for `make build`. Then each crate is checked as it is, and its edits in trees of their own over what
@@ -31,7 +35,9 @@ import library
 import prove
 
 TOP = Path(__file__).resolve().parent.parent
-LEDGER = TOP / "planted.sums"
+LEDGER, REFUSALS = TOP / "planted.sums", TOP / "planted.refusals"
+# The first line of the file of refusals.
+HEAD = "# What `rt check` said first of each planted edit when it was refused, at the place that it was then at (tools/planted.py).\n"
 KEPT = TOP / "build" / "planted"
 # A line of `rt check` on a place of a file: an error, or a note that belongs to one.
 SAID = re.compile(r"(?:note: )?(?:\./)?(\S+?):(\d+):\d+: ")
@@ -53,11 +59,11 @@ def crates() -> list[str]:
     return sorted(path.parent.name for path in TOP.glob("crates/*/planted") if planted(path.parent.name))
 
 
-def sum_of(name: str) -> str:
-    """A checksum of what decides whether a crate's planted edits are refused: its code, its definitions, and they themselves."""
+def sum_of(names: list[str], parts: tuple[str, ...]) -> str:
+    """A checksum of these parts of crates."""
     whole = hashlib.sha256()
-    for part in ("src", "specs", "planted"):
-        for path in sorted((TOP / "crates" / name / part).rglob("*")):
+    for folder in (TOP / "crates" / name / part for name in names for part in parts):
+        for path in sorted(folder.rglob("*")):
             if path.is_file():
                 text = path.read_bytes()
                 # An edit's head is for readers: what is tried begins with its first file.
@@ -67,21 +73,62 @@ def sum_of(name: str) -> str:
     return whole.hexdigest()
 
 
-def ledger() -> dict[str, str]:
-    lines = LEDGER.read_text().splitlines() if LEDGER.exists() else []
-    return {name: known for known, name in (line.split("  ") for line in lines)}
+def sums_of(name: str) -> tuple[str, str]:
+    """Checksums of what decides whether a crate's planted edits are refused: of its code, its definitions and they themselves; and of the code
+    and definitions of all crates below."""
+    below = [other for other in prove.ordered(prove.libraries(), [name]) if other != name]
+    return sum_of([name], ("src", "specs", "planted")), sum_of(sorted(below), ("src", "specs"))
+
+
+def ledger() -> dict[str, tuple[str, str | None]]:
+    """The checksums of each crate; of an older line there is no second one."""
+    lines = [line.split("  ") for line in LEDGER.read_text().splitlines()] if LEDGER.exists() else []
+    return {line[-1]: (line[0], line[1] if len(line) == 3 else None) for line in lines}
+
+
+def refusals() -> dict[str, str]:
+    """By crate and edit, the first line by which each one was refused."""
+    lines = REFUSALS.read_text().splitlines() if REFUSALS.exists() else []
+    return dict(line.split(": ", 1) for line in lines if not line.startswith("#"))
+
+
+def compared() -> tuple[list[str], list[str], list[str]]:
+    """The crates whose planted edits weren't tried since their code, definitions or edits changed; of the others those below which something
+    has changed since, and those of which it isn't known what was below them."""
+    known, late, earlier, unknown = ledger(), [], [], []
+    for name in crates():
+        own, below = sums_of(name)
+        if known.get(name, ("", ""))[0] != own:
+            late.append(name)
+        elif known[name][1] is None:
+            unknown.append(name)
+        elif known[name][1] != below:
+            earlier.append(name)
+    return late, earlier, unknown
+
+
+def said_of(late: list[str], earlier: list[str], unknown: list[str]) -> list[str]:
+    """What is known of the crates that have planted edits."""
+    lines = [(len(crates()) - len(late + earlier + unknown), "refused as they are now, with the code and definitions below them: %d crates"),
+             (", ".join(earlier), "refused as they are now, but before something below changed: %s"),
+             (", ".join(unknown), "refused as they are now; the ledger doesn't say with what below: %s"),
+             (", ".join(late), "to be tried by `make planted`: %s")]
+    return [line % which for which, line in lines if which]
 
 
 def behind() -> list[str]:
     """The crates whose planted edits weren't tried since their code, definitions or edits changed."""
-    known = ledger()
-    return [name for name in crates() if known.get(name) != sum_of(name)]
+    return compared()[0]
 
 
-def entered(name, known):
-    """Writes the sum of a crate all of whose edits were refused; those of crates without edits go."""
-    sums = {other: one for other, one in {**ledger(), name: known}.items() if other in crates()}
-    LEDGER.write_text("".join("%s  %s\n" % (sums[other], other) for other in sorted(sums)))
+def entered(name: str, sums: tuple[str, str], lines: dict[str, str]) -> None:
+    """Writes the sums of a crate all of whose edits were refused, and the line by which each one was; those of what is gone go."""
+    known = {other: one for other, one in {**ledger(), name: sums}.items() if other in crates()}
+    LEDGER.write_text("".join("%s  %s\n" % ("  ".join(filter(None, known[other])), other) for other in sorted(known)))
+    there = {"%s/%s" % (edit.parent.parent.name, edit.stem) for other in crates() for edit in planted(other)}
+    said = {key: line for key, line in refusals().items() if key in there and key.partition("/")[0] != name}
+    said.update({"%s/%s" % (name, stem): line for stem, line in lines.items()})
+    REFUSALS.write_text(HEAD + "".join("%s: %s\n" % (key, said[key]) for key in sorted(said)))
 
 
 def takes_names(rt: str) -> bool:
@@ -192,7 +239,7 @@ def verdict(status, printed):
     by_goal = [line for line in said if not NAME_IS_GONE.match(line)]
     if said and not by_goal:
         return False, "REFUSED ONLY SINCE A NAME IS GONE: " + said[0]
-    return True, "refused" + (": " + by_goal[0][:160] if by_goal else "")
+    return True, "refused" + (": " + by_goal[0] if by_goal else "")
 
 
 def tried(rt, name, group, tree, folder):
@@ -230,8 +277,9 @@ class Trying:
     def __init__(self, rt, names, tree, folder):
         self.rt, self.tree, self.folder = rt, tree, folder
         # The sums are taken before, so that what is changed meanwhile counts as not tried.
-        self.sums = {name: sum_of(name) for name in names}
+        self.sums = {name: sums_of(name) for name in names}
         self.open = {name: {edit.stem for edit in planted(name)} for name in names}
+        self.said = {name: {} for name in names}
         self.failed = set()
 
     def after_check(self, pool, name, result):
@@ -255,14 +303,15 @@ class Trying:
 
     def after_edit(self, name, stem, is_refused, words):
         """Says what came of an edit; after the last one of a crate all of whose edits were refused, its sum is entered."""
-        print("planted: %s/%s: %s" % (name, stem, words), flush=True)
+        print("planted: %s/%s: %s" % (name, stem, words[:170]), flush=True)
         self.open[name].discard(stem)
+        self.said[name][stem] = words.removeprefix("refused: ") if ": " in words else "nothing was said of a place"
         if not is_refused:
             self.failed.add(name)
         if not self.open[name]:
             shutil.rmtree(self.folder / name, ignore_errors=True)
             if name not in self.failed:
-                entered(name, self.sums[name])
+                entered(name, self.sums[name], self.said[name])
             print("planted: %s: %s" % (name, "NOT EACH WAS REFUSED" if name in self.failed else "each of %d was refused" % len(planted(name))), flush=True)
 
     def run(self):
@@ -291,11 +340,11 @@ def try_all(rt, names):
 
 def main():
     rt, words = (sys.argv[1] if len(sys.argv) > 1 else "rt"), sys.argv[2:]
-    there, late = crates(), behind()
+    there, (late, earlier, unknown) = crates(), compared()
     if words == ["--behind"]:
-        print("planted: %s" % ("tried as they are now, in %d crates" % len(there) if not late else "to be tried by `make planted`: " + ", ".join(late)))
+        print("\n".join("planted: " + line for line in said_of(late, earlier, unknown)))
         return 1 if late else 0
-    names = there if words == ["--all"] else words or late
+    names = {"--all": there, "--below": sorted(late + earlier + unknown)}.get(" ".join(words), words or late)
     unknown = [name for name in names if name not in there]
     if unknown:
         print("planted: no wrong bodies are planted in %s" % ", ".join(unknown))
@@ -306,7 +355,7 @@ def main():
     if unfit:
         return 1
     if not names:
-        print("planted: each was refused, and nothing has changed since")
+        print("\n".join("planted: " + line for line in ["nothing is to be tried", *said_of(late, earlier, unknown)]))
         return 0
     try:
         return 0 if try_all(rt, names) else 1
