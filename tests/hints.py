@@ -1,5 +1,5 @@
 #!/usr/bin/env python3
-"""Follows the hints of `sedck-explain`: python3 tests/hints.py build/sedck-explain build/sedck
+"""Follows the hints of `sedck-explain`: python3 tests/hints.py build/sedck-explain
 
 A row has a script that is refused or has a loop, words of the hint that it gets, the script that the hint leads to, and inputs. The
 second script must be accepted. What it must print is what GNU sed makes of the first one, or stands in the row where GNU sed refuses
@@ -9,7 +9,6 @@ docs/MENDING.md and docs/FAULTS.md, are run on a hundred inputs more, which are 
 be the same wherever GNU sed runs both, but for inputs that the row or the page excludes. Where the machine has no GNU sed, outputs
 aren't compared. The status is 0 only where everything is as it should be.
 """
-import argparse
 import os
 import subprocess
 import sys
@@ -91,11 +90,7 @@ def pairs():
 
 
 def main():
-    words = argparse.ArgumentParser()
-    words.add_argument("explain")
-    words.add_argument("sedck")
-    asked = words.parse_args()
-    explain, compares, failures = os.path.abspath(asked.explain), has_gnu_sed("hints", "what scripts that follow hints make"), 0
+    explain, compares, failures = os.path.abspath(sys.argv[1]), has_gnu_sed("hints", "what scripts that follow hints make"), 0
     with tempfile.TemporaryDirectory(prefix="sedck-hints-") as folder:
         for row in ROWS:
             for wrong in (*answers(row, explain, folder), *(outputs(row, folder) if compares else ())):

@@ -28,7 +28,7 @@ docs documents.sh {all}
 rows rows.py {sedck} {probe}
 rows matchers.py {sedck} {explain}
 explain-tests explain.py {explain} {sedck}
-explain-tests hints.py {explain} {sedck}
+explain-tests hints.py {explain}
 explain-tests followed.py {explain}
 explain-tests endless.py {explain}
 explain-tests fixes.py {explain}
