@@ -167,6 +167,17 @@ def check_no_paths(steps, tree, path):
                    "%s of the paths %r gives %d: %s" % (name, paths, status, said))
 
 
+def check_links(steps, folder, tree, path, words, due):
+    """What a link leads to isn't in the tree."""
+    (folder / "outside").mkdir()
+    (folder / "outside" / "loop.sed").write_text(LOOP)
+    (tree / "shadow.sed").symlink_to(folder / "outside" / "loop.sed")
+    (tree / "deep" / "shadows").symlink_to(folder / "outside")
+    status, said = step(steps, "Write the log", tree, path, **words)
+    run_of = json.loads((folder / "sedck.sarif").read_text())["runs"]
+    expect(status == 0 and places_of(run_of[0]) == due, "the log of a tree with links: %d: %s %s" % (status, said, run_of))
+
+
 def check_judging(steps, folder, tree, path):
     """The log of a tree, and the status of its scripts and calls, with programs that are on the path."""
     (tree / "good.sed").write_text(GOOD)
@@ -180,6 +191,7 @@ def check_judging(steps, folder, tree, path):
     expect(status == 0 and len(run_of) == 1 and places_of(run_of[0]) == of_calls, "the log of a good script: %d: %s %s" % (status, said, run_of))
     status, said = step(steps, "Judge scripts and calls", tree, path, **words)
     expect(status == 0, "a tree of which something is unknown gives %d: %s" % (status, said))
+    check_links(steps, folder, tree, path, words, of_calls)
     (tree / "deep" / "loop.sed").write_text(LOOP)
     (tree / "deep" / "fault one.sed").write_text("p\ns/a\\+/b/\n")
     (tree / "deep" / "fault two.sed").write_text("s/[/b/;p\n")

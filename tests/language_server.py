@@ -223,6 +223,11 @@ def check_life(explain):
     editor = Editor(explain)
     editor.server.stdin.close()
     expect(editor.server.wait(60), 1, "the status where the editor is gone")
+    for number in (b"1" * 5000, b"1" + b"0" * 14, b"-1", b"x", b""):
+        editor = Editor(explain)
+        editor.server.stdin.write(b"Content-Length: %s\r\n\r\n{}" % number)
+        editor.server.stdin.flush()
+        expect(editor.server.wait(60), 1, "the status after a length of %d digits" % len(number))
     editor = Editor("/nowhere/sedck-explain")
     editor.open("file:///none/a.sed", "p\n")
     expect(editor.next()["method"], "window/showMessage", "a program that is missing")
