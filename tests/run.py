@@ -8,7 +8,9 @@ end: one that ends with 77 was skipped. Then follows what was skipped in tests, 
 is 0 only where each test has ended with 0 or 77.
 """
 import argparse
+import contextlib
 import os
+import signal
 import subprocess
 import sys
 import tempfile
@@ -82,7 +84,31 @@ class Test:
         words = [word.format(**programs) for word in self.words]
         shell = ["sh"] if self.file.endswith(".sh") else [sys.executable]
         marks = {"SEDCK_VERSION_MARK": " (unproved)"} if programs is UNPROVED else {}
-        return subprocess.run([*shell, "tests/" + self.file, *filter(None, words)], cwd=TOP, env={**os.environ, **marks, "SEDCK_SKIPPED": skipped}, check=False).returncode
+        return ended([*shell, "tests/" + self.file, *filter(None, words)], {**os.environ, **marks, "SEDCK_SKIPPED": skipped})
+
+
+class Stopped(Exception):
+    """This program is to end."""
+
+
+def ended(words: list[str], environment: dict[str, str]) -> int:
+    """The status of a command. Where this program is stopped the command is, too, as by a key, so that it removes what it made."""
+    def stop(*_):
+        raise Stopped
+
+    before = signal.signal(signal.SIGTERM, stop)
+    with subprocess.Popen(words, cwd=TOP, env=environment) as running:
+        try:
+            return running.wait()
+        except Stopped:
+            running.send_signal(signal.SIGINT)
+            # What ignores that is ended without.
+            with contextlib.suppress(subprocess.TimeoutExpired):
+                running.wait(20)
+            running.terminate()
+            sys.exit(128 + signal.SIGTERM)
+        finally:
+            signal.signal(signal.SIGTERM, before)
 
 
 def asked() -> argparse.Namespace:
