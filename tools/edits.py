@@ -4,9 +4,9 @@
 An edit is a file `crates/NAME/must-fail/*.edit` or `crates/NAME/planted/*.edit`: lines `file: PATH`, a file of the crate, and behind each
 the pairs of lines `old: TEXT` and `new: TEXT`. Each `old:` text is there exactly once, in what the pairs before it made of the file.
 
-Its head, the lines before the first `file:`, is for readers: `wrong: WHAT`; `promised by: FUNCTION`, which promises otherwise, with the
-clause after a comma where a certain one does; and `refused in: FUNCTION`, also with its clause, where the prover stops in a function
-inside.
+Its head, the lines before the first `file:`, is for readers: `wrong: WHAT`; `promised by: FUNCTION`, a public one, which promises otherwise,
+with the clause after a comma where a certain one does; and `refused in: FUNCTION`, also with its clause, where the prover stops in a function
+inside. Without a line `promised by:` no contract that other crates see rules the body out: that inside does.
 
 Says which edit can't be applied, or has another head. The status is 0 only where there is none. With --table it prints all edits by
 their heads, and with --proved it puts those that the gate tries into docs/PROVED.md.
@@ -72,11 +72,13 @@ class Head:
         said = dict(self.lines) if all(len(line) == 2 for line in self.lines) else {}
         self.wrong, self.promised, self.refused = (said.get(key, "") for key in ("wrong", "promised by", "refused in"))
 
-    def fault(self, words):
-        """What is wrong with the head, where these are the words of the crate's code."""
+    def fault(self, words, public):
+        """What is wrong with the head, where these are the words of the crate's code, and those that others may use."""
         keys = [line[0] for line in self.lines]
-        if keys not in (["wrong", "promised by"], ["wrong", "promised by", "refused in"]) or not self.wrong:
-            return "its head isn't a line `wrong:`, a line `promised by:` and perhaps a line `refused in:`"
+        if keys not in (["wrong", "promised by"], ["wrong", "promised by", "refused in"], ["wrong", "refused in"]) or not self.wrong:
+            return "its head isn't a line `wrong:`, a line `promised by:` and perhaps a line `refused in:`, or the first and the last one"
+        if self.promised and self.promised.split(",")[0].split("::")[-1] not in public:
+            return "its head says that %s promises something to other crates, and it isn't public" % self.promised
         for said in (self.promised, self.refused):
             if said and not re.fullmatch(r"[\w:]+(?:, \w+)?", said):
                 return "its head names %r, which isn't a function, or one and a clause" % said
@@ -95,12 +97,14 @@ def heads(top: Path = TOP) -> list[Head]:
 
 def head_faults(top: Path = TOP) -> Iterator[str]:
     """Which edits have no head, or one that names what isn't there."""
-    words = {}
+    words, public = {}, {}
     for head in heads(top):
         if head.crate not in words:
             code = "\n".join(path.read_text() for path in sorted((top / "crates" / head.crate / "src").rglob("*.rt")))
             words[head.crate] = set(re.findall(r"\b(?:fn|struct|enum|trait|ensures|ghost) (\w+)", code))
-        fault = head.fault(words[head.crate])
+            public[head.crate] = set(re.findall(r"\bpub (?:const )?(?:unsafe )?(?:extern \"C\" )?fn (\w+)|\b(?:struct|enum|trait) (\w+)", code))
+            public[head.crate] = {name for names in public[head.crate] for name in names}
+        fault = head.fault(words[head.crate], public[head.crate])
         if fault:
             yield "%s: %s" % (head.path.relative_to(top), fault)
 
