@@ -119,16 +119,20 @@ def check_scripts(tools):
     tools.same("no such certificate", tools.explain("--cert", "gone.cert", "s.sed"), (4, b"", b"sedck-explain: cannot read gone.cert: no such file\n"))
     tools.same("a folder as the certificate", tools.explain("--cert", "folder", "s.sed"), (4, b"", b"sedck-explain: cannot read folder: it is a directory\n"))
     tools.same("control characters", tools.explain("a\x1b[31m\nb"), (4, b"", b"sedck-explain: cannot read a?[31m?b: no such file\n"))
-    for hidden in "\u00ad\u034f\u115f\u180e\u2028\u202e\u3000\u3164\ufe0f\uffa0\ufff9\ue000\U000e0061":
-        tools.same("the hidden character U+%04X" % ord(hidden), tools.explain("a%sb" % hidden), (4, b"", b"sedck-explain: cannot read a?b: no such file\n"))
-    tools.same("letters, a blank and a sign", tools.explain("\u00e9 \u4e2d\U0001f600"),
-               (4, b"", "sedck-explain: cannot read \u00e9 \u4e2d\U0001f600: no such file\n".encode()))
     tools.same("a control character of two bytes", tools.explain("a\u009bb"), (4, b"", b"sedck-explain: cannot read a?b: no such file\n"))
     tools.same("a name that isn't UTF-8", tools.explain(b"u\xe9\xff.sed", "s.sed"),
                (4, one + b"2 scripts: 1 accepted, 1 not readable\n", b"sedck-explain: cannot read u?E9?FF.sed: its name is not UTF-8; give the file as standard input\n"))
     tools.same("the same of a call", tools.explain("--sed", "--", "-f", b"u\xe9.sed"),
                (4, b"", b"sedck-explain: cannot read a file of -f: its name is not UTF-8; give the file as standard input\n"))
     tools.same("an empty name", tools.explain(""), (4, b"", b"sedck-explain: cannot read : no such file\n"))
+
+
+def check_hidden(tools):
+    """Paths with characters that aren't seen, and with others."""
+    for hidden in "\u00ad\u034f\u115f\u180e\u2028\u202e\u3000\u3164\ufe0f\uffa0\ufff9\ue000\U000e0061":
+        tools.same("the hidden character U+%04X" % ord(hidden), tools.explain("a%sb" % hidden), (4, b"", b"sedck-explain: cannot read a?b: no such file\n"))
+    tools.same("letters, a blank and a sign", tools.explain("\u00e9 \u4e2d\U0001f600"),
+               (4, b"", "sedck-explain: cannot read \u00e9 \u4e2d\U0001f600: no such file\n".encode()))
 
 
 def check_sums(tools):
@@ -270,6 +274,7 @@ def check(tools: Tools) -> None:
     check_repeated(tools)
     check_waiting(tools)
     check_scripts(tools)
+    check_hidden(tools)
     check_sums(tools)
     check_formats(tools)
     check_colours(tools)
