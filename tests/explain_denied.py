@@ -29,8 +29,8 @@ ACCEPTED = [
     (b"s/x/y/;w ../o\nG\n", {"writes": [(1, 8, "denied-writes")], "warnings": [(1, 8, "denied-warnings")], "growing": [(2, 1, "denied-growing")]}),
 ]
 
-# An accepted script, and the place of the error where the script is slow: by the rule that a reference is repeated by itself, or that
-# intervals write out more than 2,000 items.
+# An accepted script, and the place of the error where the script is slow: by the rule that a reference is repeated by itself, that what may
+# match nothing is repeated more than once, or that intervals write out more than 2,000 items.
 SLOW = [
     (b"s/\\(.\\)\\1*/\\1/g\n", (1, 1)),
     (b"p;/\\(.\\)\\1\\{3\\}/d\n", (1, 17)),
@@ -39,6 +39,15 @@ SLOW = [
     (b"s/^\\(.*\\)\\n\\1$/\\1/\n", None),
     (b"s/\\(.\\)\\(\\1x\\)/\\2/\n", None),
     (b"s/\\(a\\)*/\\1/\n", None),
+    # What may match nothing: it is repeated, or is there once at most, or isn't all that is repeated.
+    (b"s/^\\(.*\\(b\\{0,2\\}\\)\\{4,6\\}\\)\\{0,40\\}/X/\n", (1, 1)),
+    (b"s/^\\(b*\\)\\{0,2\\}/X/\n", (1, 1)),
+    (b"p;/\\(a\\{0,1\\}\\(b*\\)c*\\)*/p\n", (1, 28)),
+    (b"s/\\(\\(a*\\)\\{2\\}b\\)*/X/\n", (1, 1)),
+    (b"s/\\(\\)*/X/\n", (1, 1)),
+    (b"s/\\(b*\\)\\{0,1\\}\\(c*\\)\\{1\\}/X/\n", None),
+    (b"s/\\(ab*\\)*\\(b\\{0,3\\}c\\)\\{0,9\\}/X/\n", None),
+    (b"s/\\(a*\\)\\(b*\\)/X/\n", None),
     # 2,000 items, and two more. An item that may be there once only is written once.
     (b"s/\\(a\\{200\\}\\)\\{10\\}//\n", None),
     (b"s/\\(a\\{200\\}\\)\\{10\\}b\\{0,1\\}c*d\\{1\\}//\n", None),

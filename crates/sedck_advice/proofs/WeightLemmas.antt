@@ -7,7 +7,7 @@ use Rattle.std.proofs.lemmas.List.Sums.{sum_by_push}
 use Rattle.sedck_expressions.specs.declared.tree.Bre.{Bre}
 use Rattle.sedck_script.specs.Program.{Command}
 use Rattle.sedck_script.specs.ByteSafe.{command_expressions}
-use Rattle.sedck_advice.specs.Slow.{repeats_reference}
+use Rattle.sedck_advice.specs.Slow.{repeats_badly}
 use Rattle.sedck_advice.specs.Private.Weights.{Weighs}
 use Rattle.sedck_advice.specs.declared.weights.Weight.{Weight}
 
@@ -29,8 +29,8 @@ pub weighs_more : (cs more : List Command) (c : Command) (w own new : Weight) �
     → new.items ≡ min (min (w.items + own.items) 4294967295) cap → WeighsAll more new
 weighs_more cs more c w own new is all one repetition items = subst (λ (ds : List Command). WeighsAll ds new) (sym is) (record {
   repetition = repetition ∙ ap (λ b. b || own.repetition) all.repetition
-      ∙ ap (λ b. list_any (λ d. list_any repeats_reference (command_expressions d)) cs || b) one.repetition
-      ∙ sym (any-push (λ d. list_any repeats_reference (command_expressions d)) cs c);
+      ∙ ap (λ b. list_any (λ d. list_any repeats_badly (command_expressions d)) cs || b) one.repetition
+      ∙ sym (any-push (λ d. list_any repeats_badly (command_expressions d)) cs c);
   items = items ∙ ap (λ n. min (min (n + own.items) 4294967295) cap) all.items
       ∙ ap (λ n. min (min (min (sum_by (λ d. sum_by (written_out false) (command_expressions d)) cs) cap + n) 4294967295) cap) one.items
       ∙ capped_sum (sum_by (λ d. sum_by (written_out false) (command_expressions d)) cs) (sum_by (written_out false) (command_expressions c))

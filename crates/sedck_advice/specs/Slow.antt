@@ -1,8 +1,9 @@
 -- Expressions with which the matchers of seds may take very long, this project's own. No step of a run depends on them: POSIX says what
 -- an expression matches (XBD 9.3), and not how long that takes to find out.
-use Rattle.std.specs.Prelude.{ℕ, ◌+◌, ◌*◌, ◌||◌, max, Bool, true, false, List, Option, Some, None, nat_lt, sum_by, if◌then◌else◌}
+use Rattle.std.specs.Prelude.{ℕ, ◌+◌, ◌*◌, ◌||◌, ◌&&◌, max, Bool, true, false, List, Option, Some, None, nat_lt, sum_by, if◌then◌else◌}
 use Rattle.std.specs.List.{list_any}
 use Rattle.sedck_bre.specs.Tree.{Tree, Trees, Group, Ref, Seq, Repeat, Nil, Then}
+use Rattle.sedck_expressions.specs.Misjudged.{may_be_empty}
 use Rattle.sedck_script.specs.Program.{Program, Command}
 use Rattle.sedck_script.specs.ByteSafe.{command_expressions}
 
@@ -10,17 +11,23 @@ abbrev pub is_reference : Tree → Bool
 is_reference (Ref k) = true
 is_reference _ = false
 
-abbrev mutual
-  -- a reference is repeated by itself, as in `\(.\)\1*`: a matcher may try exponentially many ways
-  pub repeats_reference : Tree → Bool
-  repeats_reference (Group k body) = repeats_reference body
-  repeats_reference (Seq ts) = one_repeats_reference ts
-  repeats_reference (Repeat body least most) = is_reference body || repeats_reference body
-  repeats_reference _ = false
+-- a repetition with this upper limit may go on after its first round
+abbrev pub goes_round : Option ℕ → Bool
+goes_round None = true
+goes_round (Some most) = nat_lt 1 most
 
-  pub one_repeats_reference : Trees → Bool
-  one_repeats_reference Nil = false
-  one_repeats_reference (Then t ts) = repeats_reference t || one_repeats_reference ts
+abbrev mutual
+  -- A reference is repeated by itself, as in `\(.\)\1*`, or what may match nothing is repeated more than once, as in `\(a*\)*`: a matcher
+  -- may try exponentially many ways.
+  pub repeats_badly : Tree → Bool
+  repeats_badly (Group k body) = repeats_badly body
+  repeats_badly (Seq ts) = one_repeats_badly ts
+  repeats_badly (Repeat body least most) = is_reference body || ((goes_round most && may_be_empty body) || repeats_badly body)
+  repeats_badly _ = false
+
+  pub one_repeats_badly : Trees → Bool
+  one_repeats_badly Nil = false
+  one_repeats_badly (Then t ts) = repeats_badly t || one_repeats_badly ts
 
 -- as often as a body is written out: at most as often as it may be repeated; once where there is no limit, and at least once
 abbrev pub copies : ℕ → Option ℕ → ℕ
@@ -41,8 +48,8 @@ abbrev mutual
   all_written_out inside (Then t ts) = written_out inside t + all_written_out inside ts
 
 -- an expression of one of the script's commands does
-abbrev pub has_repeated_reference : Program → Bool
-has_repeated_reference p = list_any (λ c. list_any repeats_reference (command_expressions c)) p.commands
+abbrev pub has_bad_repetition : Program → Bool
+has_bad_repetition p = list_any (λ c. list_any repeats_badly (command_expressions c)) p.commands
 
 -- the items that the script's intervals write out
 abbrev pub interval_items : Program → ℕ
@@ -54,4 +61,4 @@ item_limit = 2000
 
 -- matching may take very long, or much memory
 abbrev pub is_slow : Program → Bool
-is_slow p = has_repeated_reference p || nat_lt item_limit (interval_items p)
+is_slow p = has_bad_repetition p || nat_lt item_limit (interval_items p)

@@ -1,5 +1,5 @@
-//! Expressions with which the matchers of seds may take very long: those that repeat a reference, and those that intervals make very
-//! long.
+//! Expressions with which the matchers of seds may take very long: those that repeat a reference or what may match nothing, and those that
+//! intervals make very long.
 
 ghost use Rattle.std.specs.Prelude.{◌≡◌};
 ghost use Rattle.std.specs.Option.{is_some};
@@ -15,7 +15,7 @@ pub const ITEM_LIMIT: u32 = 2_000;
 /// Why a script is slow, and where.
 #[derive(Clone, Copy)]
 pub struct Slow {
-    /// The verb of the first command that repeats a reference, or else of the one whose intervals are the longest.
+    /// The verb of the first command that repeats a reference or what may match nothing, or else of the one whose intervals are the longest.
     pub position: Option<Position>,
     pub reason: &'static str,
 }
@@ -28,7 +28,7 @@ pub fn slow_of(script: &Script, positions: &[Position]) -> Option<Slow>
     if weight.repetition {
         return Some(Slow {
             position: first_repeating(script, positions),
-            reason: "a reference is repeated, and matching may take very long",
+            reason: "a reference, or what may match nothing, is repeated, and matching may take very long and much memory",
         });
     }
     if weight.items > ITEM_LIMIT {
@@ -40,7 +40,7 @@ pub fn slow_of(script: &Script, positions: &[Position]) -> Option<Slow>
     None
 }
 
-/// Where the first command is that repeats a reference.
+/// Where the first command is that repeats a reference, or what may match nothing.
 fn first_repeating(script: &Script, positions: &[Position]) -> Option<Position> {
     for (command, position) in script.commands().iter().zip(positions) {
         if weight_of_command(command).repetition {

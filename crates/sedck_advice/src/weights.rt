@@ -1,5 +1,5 @@
-//! What is known of a command's expressions: whether they have a reference, repeat one or split a character, and how many items their
-//! intervals write out.
+//! What is known of a command's expressions: whether they have a reference, repeat one or what may match nothing, or split a character,
+//! and how many items their intervals write out.
 
 ghost use Rattle.std.specs.Prelude.{◌≡◌, ◌+◌, ◌||◌, [], ◌∷◌, min, map, flat_map};
 ghost use Rattle.sedck_bre.specs.Tree.{Byte, trees};
@@ -8,7 +8,8 @@ ghost use Rattle.sedck_bre.specs.View.{tree};
 ghost use Rattle.sedck_script.specs.Program.{place_patterns, address_patterns, verb_patterns, pattern_expressions};
 ghost use Rattle.sedck_script.specs.View.{pattern_of, place_of, address_of, verb_of, command_of};
 ghost use Rattle.sedck_script.specs.ByteSafe.{goes_on, bytes_due, due_behind, splits_character, one_splits, is_cut, command_expressions};
-ghost use Rattle.sedck_advice.specs.Slow.{copies, is_reference, repeats_reference, one_repeats_reference, written_out, all_written_out};
+ghost use Rattle.sedck_expressions.specs.Misjudged.{may_be_empty, all_may_be_empty};
+ghost use Rattle.sedck_advice.specs.Slow.{copies, is_reference, goes_round, repeats_badly, one_repeats_badly, written_out, all_written_out};
 ghost use Rattle.sedck_advice.specs.References.{has_reference, one_has_reference};
 ghost use Rattle.sedck_advice.specs.Private.Weights.{Weighs, WeighsAll};
 
@@ -51,25 +52,63 @@ fn one_has_reference(items: &[Bre]) -> bool
     false
 }
 
-/// Whether a reference is repeated by itself.
-#[cycle(repetitions)]
-fn repeats_reference(expression: &Bre) -> bool
-    ensures { result ≡ repeats_reference (tree expression.now) }
+/// Whether the tree may match nothing, by its form alone.
+#[cycle(nothing)]
+fn may_be_empty(expression: &Bre) -> bool
+    ensures { result ≡ may_be_empty (tree expression.now) }
 {
     match expression {
-        Bre::Group(_, body) => repeats_reference(body),
-        Bre::Seq(items) => one_repeats_reference(items),
-        Bre::Repeat { body, .. } => is_reference(body) || repeats_reference(body),
+        Bre::Byte(_) | Bre::Any | Bre::Set(_) => false,
+        Bre::Group(_, body) => may_be_empty(body),
+        Bre::Seq(items) => all_may_be_empty(items),
+        Bre::Repeat { body, least, .. } => *least == 0 || may_be_empty(body),
+        _ => true,
+    }
+}
+
+#[cycle(nothing)]
+fn all_may_be_empty(items: &[Bre]) -> bool
+    ensures { result ≡ all_may_be_empty (trees (map tree items.now)) }
+{
+    for item in items {
+        if !may_be_empty(item) {
+            return false;
+        }
+    }
+    true
+}
+
+/// Whether a repetition with this upper limit may go on after its first round.
+fn goes_round(most: Option<u8>) -> bool
+    ensures { result ≡ goes_round most }
+{
+    match most {
+        None => true,
+        Some(most) => most > 1,
+    }
+}
+
+/// Whether a reference is repeated by itself, or what may match nothing more than once.
+#[cycle(repetitions)]
+fn repeats_badly(expression: &Bre) -> bool
+    ensures { result ≡ repeats_badly (tree expression.now) }
+{
+    match expression {
+        Bre::Group(_, body) => repeats_badly(body),
+        Bre::Seq(items) => one_repeats_badly(items),
+        Bre::Repeat { body, most, .. } => {
+            is_reference(body) || (goes_round(*most) && may_be_empty(body)) || repeats_badly(body)
+        }
         _ => false,
     }
 }
 
 #[cycle(repetitions)]
-fn one_repeats_reference(items: &[Bre]) -> bool
-    ensures { result ≡ one_repeats_reference (trees (map tree items.now)) }
+fn one_repeats_badly(items: &[Bre]) -> bool
+    ensures { result ≡ one_repeats_badly (trees (map tree items.now)) }
 {
     for item in items {
-        if repeats_reference(item) {
+        if repeats_badly(item) {
             return true;
         }
     }
@@ -207,7 +246,7 @@ fn is_cut(item: &Bre, due: u8) -> bool
 pub(crate) struct Weight {
     /// Whether one of them has a reference.
     pub reference: bool,
-    /// Whether one repeats a reference by itself.
+    /// Whether one repeats a reference by itself, or what may match nothing.
     pub repetition: bool,
     /// Whether one splits a character of UTF-8.
     pub byte: bool,
@@ -245,7 +284,7 @@ fn weight_of_tree(whole: &Bre) -> Weight
 {
     Weight {
         reference: has_reference(whole),
-        repetition: repeats_reference(whole),
+        repetition: repeats_badly(whole),
         byte: splits_character(whole),
         items: written_out(whole, false),
     }
