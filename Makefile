@@ -100,7 +100,7 @@ calls-tests: build
 	python3 tests/run.py $@
 
 wrapper-tests: build
-	@echo "Testing the sed that has its calls judged, the formatter, and known errors ..."
+	@echo "Testing the sed that has its calls judged, the formatter, known errors, and scripts of strangers ..."
 	python3 tests/run.py $@
 
 # Tests the page that is there: without it, or without a tool, a line says what is skipped.

@@ -1,4 +1,4 @@
-# Completions of sedck, sedck-explain, sedck-fmt, sedck-known and sedck-sed for bash. tests/completions.py compares their words with what the programs say.
+# Completions of sedck, sedck-explain, sedck-fmt, sedck-known, sedck-run and sedck-sed for bash. tests/completions.py compares their words with what the programs say.
 
 # Completes with these words, or with files where there are none.
 _sedck_reply() {
@@ -67,6 +67,13 @@ _sedck_known() {
     esac
 }
 
+_sedck_run() {
+    case ${COMP_WORDS[COMP_CWORD]} in
+        -*) _sedck_reply --help ;;
+        *) _sedck_reply ;;
+    esac
+}
+
 _sedck_sed() {
     case $COMP_CWORD${COMP_WORDS[1]}/${COMP_WORDS[COMP_CWORD]} in
         1*/-*) _sedck_reply --mode --dir --help ;;
@@ -81,4 +88,5 @@ complete -F _sedck sedck
 complete -F _sedck_explain sedck-explain
 complete -F _sedck_fmt sedck-fmt
 complete -F _sedck_known sedck-known
+complete -F _sedck_run sedck-run
 complete -F _sedck_sed sedck-sed

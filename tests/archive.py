@@ -22,7 +22,7 @@ from skips import has
 
 TOP = Path(__file__).resolve().parent.parent
 MADE = ("sedck", "sedck-explain", "libsedck.a")
-PROGRAMS = {"bin/sedck", "bin/sedck-explain", "bin/sedck-fmt", "bin/sedck-known", "bin/sedck-sed", "bin/sedck-lsp", "libexec/sedck/sed"}
+PROGRAMS = {"bin/sedck", "bin/sedck-explain", "bin/sedck-fmt", "bin/sedck-known", "bin/sedck-run", "bin/sedck-sed", "bin/sedck-lsp", "libexec/sedck/sed"}
 SECONDS = 60
 wrong = []
 
@@ -253,7 +253,7 @@ def check_pages(place):
     if has("archive", "a manual page as it is shown", "man"):
         status, said = run(["man", "-M", str(place / "share/man"), "sedck-explain"], place, MANPAGER="cat")
         expect(status == 0 and "say where and why a sed script" in " ".join(said.split()), "man shows %s" % said[:200])
-    for name in ("sedck", "sedck-explain", "sedck-fmt", "sedck-known", "sedck-sed"):
+    for name in ("sedck", "sedck-explain", "sedck-fmt", "sedck-known", "sedck-run", "sedck-sed"):
         for path in ("bash-completion/completions/" + name, "fish/vendor_completions.d/%s.fish" % name):
             expect((place / "share" / path).is_file(), "share/%s isn't there" % path)
 

@@ -43,6 +43,7 @@ def words_of_programs(sedck, explain):
     words = {"sedck": set(re.findall(r"\b([a-z]+)(?= (?:SCRIPT|CERT))", usage)), "sedck-explain": {option for option, _ in rows},
              "sedck-fmt": set(re.findall(r"--[a-z]+", said([TOP / "wrapper" / "sedck-fmt", "--help"]).splitlines()[0])),
              "sedck-known": set(re.findall(r"--[a-z]+", said([TOP / "wrapper" / "sedck-known", "--help"]).splitlines()[0])),
+             "sedck-run": set(re.findall(r"--[a-z]+", said([TOP / "wrapper" / "sedck-run", "--help"]).splitlines()[0])),
              "sedck-sed": set(re.findall(r"--[a-z]+", said([TOP / "wrapper" / "sedck-sed", "--help"]).splitlines()[0]))}
     return words, values
 
@@ -62,6 +63,8 @@ def check_bash(words, values):
     expect(from_bash("sedck-fmt "), words["sedck-fmt"], "bash: sedck-fmt")
     expect(from_bash("sedck-known -"), words["sedck-known"], "bash: sedck-known")
     expect(from_bash("sedck-known sedck.b"), {"sedck.bash"}, "bash: a file of sedck-known")
+    expect(from_bash("sedck-run -"), words["sedck-run"], "bash: sedck-run")
+    expect(from_bash("sedck-run sedck.b"), {"sedck.bash"}, "bash: a file of sedck-run")
     expect(from_bash("sedck-sed -"), words["sedck-sed"], "bash: sedck-sed")
     expect(from_bash("sedck-sed --mode "), {"log", "warn", "refuse"}, "bash: the modes of sedck-sed")
     for line in ("sedck-sed printf --mod", "sedck-sed --mode log --mod"):
@@ -86,7 +89,7 @@ def check_zsh(words, values):
     expect(set(parts), set(words), "zsh: the programs")
     expect(set(re.match(r"#compdef (.*)", text)[1].split()), set(words), "zsh: the programs of the first line")
     expect(set(re.findall(r"[( ]([a-z]+)\\:", parts["sedck"])), words["sedck"], "zsh: sedck")
-    for name in ("sedck-explain", "sedck-fmt", "sedck-known", "sedck-sed"):
+    for name in ("sedck-explain", "sedck-fmt", "sedck-known", "sedck-run", "sedck-sed"):
         expect(set(re.findall(r"(--[\w-]+)[\[}]", parts[name])), words[name], "zsh: " + name)
     for option, due in values.items():
         listed = re.search("['\"]" + re.escape(option + "[") + r"[^\]]*\]:\w+:(?:\(([^)]*)\)|_values -s , \w+ ([^'\"]*))", parts["sedck-explain"])
@@ -104,7 +107,7 @@ def check_fish(words, values):
             return {row.split("\t")[0] for row in done.stdout.splitlines()}
 
         expect(asked("sedck "), words["sedck"], "fish: sedck")
-        for name in ("sedck-explain", "sedck-fmt", "sedck-known", "sedck-sed"):
+        for name in ("sedck-explain", "sedck-fmt", "sedck-known", "sedck-run", "sedck-sed"):
             expect({word for word in asked(name + " --") if word.startswith("--")}, words[name], "fish: " + name)
         for option, due in values.items():
             expect(asked("sedck-explain %s " % option), due, "fish: the values of " + option)

@@ -12,7 +12,7 @@ scratch=${TMPDIR:-/tmp}/sedck-documents.$$
 mkdir "$scratch" || exit 1
 trap 'rm -rf "$scratch"' EXIT
 trap 'exit 1' HUP INT PIPE TERM
-mkdir -p "$scratch/build" "$scratch/libexec/sedck" && cp build/sedck build/sedck-explain wrapper/sedck-fmt wrapper/sedck-known wrapper/sedck-sed "$scratch/build" &&
+mkdir -p "$scratch/build" "$scratch/libexec/sedck" && cp build/sedck build/sedck-explain wrapper/sedck-fmt wrapper/sedck-known wrapper/sedck-run wrapper/sedck-sed "$scratch/build" &&
     cp wrapper/sed "$scratch/libexec/sedck" && cp -R examples "$scratch" || exit 1
 documents=$PWD
 cd "$scratch/examples" || exit 1
@@ -117,7 +117,7 @@ has mandoc || skip "the manual pages as mandoc reads them: this machine lacks ma
 has groff || skip "the manual pages as groff reads them: this machine lacks groff"
 # Those of the manual pages, in the folder of the examples as it was: a command that goes on in a line with `> ` is one line.
 cd examples || exit 1
-for document in man/sedck.1 man/sedck-explain.1 man/sedck-fmt.1 man/sedck-known.1 man/sedck-sed.1 man/sedck.5; do
+for document in man/sedck.1 man/sedck-explain.1 man/sedck-fmt.1 man/sedck-known.1 man/sedck-run.1 man/sedck-sed.1 man/sedck.5; do
     cp "$documents"/examples/* . || exit 1
     awk -v quote="'" '/^\.SH/ { page = ($2 == "EXAMPLES") }
         /^\.\\" needs / { needs = substr($0, 10) }

@@ -1,5 +1,5 @@
 #!/usr/bin/env python3
-"""Runs the Makefiles, the hooks and the steps of docs/RECIPES.md, and the script of docs/TRUST.md, in scratch folders:
+"""Runs the Makefiles, the hooks and the steps of docs/RECIPES.md in scratch folders:
 
     python3 tests/recipes.py build/sedck build/sedck-explain
 
@@ -146,100 +146,6 @@ def in_place(scratch):
 def inline(scratch):
     scratch.write("notes.txt", "  a  \nb\n")
     holds(scratch.run(0, "sh", "-c", block("Scripts inside of other files", "sh")) == "a\nb\n", "other texts")
-
-
-def stranger(scratch):
-    """The script of docs/TRUST.md, for scripts that are run, that are denied, and that are longer than any script."""
-    if not scratch.run(0, "sh", "-c", "sed --version 2> /dev/null || :").startswith("sed (GNU sed)"):
-        raise LeftOut("sed isn't GNU sed")
-    scratch.write("run-stranger.sh", block("Scripts of strangers", "sh", page="docs/TRUST.md"))
-    scratch.write("good.sed", "s/a/b/\n")
-    scratch.write("mail", "a\nxa\n")
-    holds(scratch.run(0, "sh", "-c", "sh run-stranger.sh good.sed < mail") == "b\nxb\n", "other texts")
-    for script, code in (("w out\n", "denied-writes"), ("r mail\n", "denied-reads"), ("G\n", "denied-growing"), (ENDLESS, "loop-idle"), ("1e id\n", "unknown-command"),
-                         ("s/[0-9]+//\n", "denied-warnings"), ("s/\\(a\\)\\1*//\n", "denied-slow"), ("s/\\(a\\)\\1//\n", "denied-references"), ("s/[ \\t]//\n", "denied-warnings"), ("s/\\(a\\{255\\}\\)\\{255\\}//\n", "denied-slow"),
-                         ("#" * 1048576 + "\nw out\n", "too-long")):
-        scratch.write("bad.sed", script)
-        holds(code in scratch.run(125, "sh", "-c", "sh run-stranger.sh bad.sed < mail"), "%s isn't shown" % code)
-        holds(scratch.run(125, "sh", "-c", "sh run-stranger.sh bad.sed < mail 2> /dev/null") == "", "the report is in the output, where its sender sees it")
-    # A file named `-` is a script, and not the input; what only the kernel would obey is said.
-    scratch.write("-", "s/a/c/\n")
-    holds(scratch.run(0, "sh", "-c", "sh run-stranger.sh - < mail") == "c\nxc\n", "the input is taken for the script")
-    os.remove(os.path.join(scratch.folder, "-"))
-    scratch.write("bad.sed", "#!/bin/sed -nf\np\n")
-    holds("first line #!" in scratch.run(125, "sh", "-c", "sh run-stranger.sh bad.sed < mail"), "a first line is skipped")
-    # The last line isn't lost where `N` has no next one, and no match lacks memory without a word.
-    scratch.write("join.sed", ":x\nN\nbx\n")
-    holds(scratch.run(0, "sh", "-c", "sh run-stranger.sh join.sed < mail") == "a\nxa\n", "the last lines are lost")
-    scratch.write("spam.sed", "s/^\\(.*\\)spam/\\1HAM/\n")
-    text = "{ head -c %d /dev/zero | tr '\\0' a; echo spam; } | sh run-stranger.sh spam.sed | tail -c 5"
-    holds(scratch.run(0, "sh", "-c", text % 999995) == "aHAM\n", "a long line isn't matched")
-    holds("more than 1,000,000 bytes" in scratch.run(0, "sh", "-c", text % 999996), "a longer input is run")
-    os.remove(os.path.join(scratch.folder, "join.sed"))
-    os.remove(os.path.join(scratch.folder, "spam.sed"))
-    stranger_memory(scratch)
-    os.mkfifo(os.path.join(scratch.folder, "pipe"))
-    scratch.run(125, "sh", "-c", "sh run-stranger.sh pipe < mail")
-    scratch.write("secret", "s/a/b/\nthe secret\n")
-    os.symlink("secret", os.path.join(scratch.folder, "link.sed"))
-    holds(scratch.run(125, "sh", "-c", "sh run-stranger.sh link.sed < mail") == "", "a line of the file behind a link is shown")
-    # A run that a clock ends leaves no copy behind.
-    os.mkdir(os.path.join(scratch.folder, "tmp"))
-    scratch.run(124, "sh", "-c", "sleep 2 | TMPDIR=$PWD/tmp timeout 1 sh run-stranger.sh good.sed")
-    holds(os.listdir(os.path.join(scratch.folder, "tmp")) == [], "the copy is left over where a clock ends the run")
-    holds(sorted(os.listdir(scratch.folder)) == ["bad.sed", "good.sed", "link.sed", "mail", "pipe", "run-stranger.sh", "secret", "tmp"], "a file is left over")
-
-
-# Stand-ins. systemd-run keeps its words and runs those after its options; mkdir makes what the kernel has in a control group; rmdir keeps it.
-SYSTEMD_RUN = """#!/bin/sh
-printf '%s ' "$@" >> words; echo "" >> words
-[ "$1" = "$BUS" ] || exit 1
-shift 8
-exec "$@"
-"""
-MKDIR = """#!/bin/sh
-case $1 in */groups/*) : > words && /bin/mkdir "$1" && cd "$1" && touch memory.max memory.swap.max cgroup.procs ;; *) exec /bin/mkdir "$@" ;; esac
-"""
-RMDIR = """#!/bin/sh
-cat "$1/memory.max" "$1/memory.swap.max" "$1/cgroup.procs" > words && rm -r "$1"
-"""
-
-
-def stranger_memory(scratch):
-    """Each way in which the policy limits memory, the first two by stand-ins: the same is printed, and the limit is set."""
-    whole = scratch.text("run-stranger.sh")
-    os.makedirs(os.path.join(scratch.folder, "stand-ins"))
-    asked = "--scope --quiet --no-ask-password -p MemoryMax=500M -p MemorySwapMax=0"
-    run = "PATH=$PWD/stand-ins:$PATH BUS=%s sh run-stranger.sh good.sed < mail"
-    for bus in ("--user", "--system"):
-        scratch.write("stand-ins/systemd-run", SYSTEMD_RUN.replace("words", os.path.join(scratch.folder, "words")))
-        os.chmod(os.path.join(scratch.folder, "stand-ins/systemd-run"), 0o755)
-        holds(scratch.run(0, "sh", "-c", run % bus) == "b\nxb\n", "other texts in a scope")
-        rows = scratch.text("words").splitlines()
-        holds(rows[-2:] == ["%s %s true " % (bus, asked), "%s %s sed --sandbox -f plain " % (bus, asked)], "the scope is asked for with %s" % rows)
-        os.remove(os.path.join(scratch.folder, "words"))
-    # A folder of cgroup v2, which has the process that runs sed. One that can't limit memory goes, and sed has fewer addresses.
-    scratch.write("run-stranger.sh", whole.replace("/sys/fs/cgroup$(sed -n 's/^0:://p' /proc/self/cgroup 2> /dev/null)", scratch.folder + "/groups"))
-    os.makedirs(os.path.join(scratch.folder, "groups"))
-    holds(scratch.run(0, "sh", "-c", run % "none") == "b\nxb\n", "other texts without a control group")
-    holds(os.listdir(os.path.join(scratch.folder, "groups")) == [], "a folder that can't limit memory is left over")
-    for name, text in (("mkdir", MKDIR), ("rmdir", RMDIR)):
-        scratch.write("stand-ins/" + name, text.replace("words", os.path.join(scratch.folder, "words")))
-        os.chmod(os.path.join(scratch.folder, "stand-ins", name), 0o755)
-    holds(scratch.run(0, "sh", "-c", run % "none") == "b\nxb\n", "other texts in a folder of cgroup v2")
-    limit, swap, process = scratch.text("words").splitlines()
-    holds((limit, swap, process.isdigit()) == ("500M", "0", True), "the folder has %s, %s and %s" % (limit, swap, process))
-    # Only without a control group are addresses limited.
-    scratch.write("stand-ins/sed", "#!/bin/sh\nulimit -v\n")
-    os.chmod(os.path.join(scratch.folder, "stand-ins/sed"), 0o755)
-    holds(scratch.run(0, "sh", "-c", run % "none") != "500000\n", "addresses are limited in a control group")
-    for name in ("mkdir", "rmdir"):
-        os.remove(os.path.join(scratch.folder, "stand-ins", name))
-    holds(scratch.run(0, "sh", "-c", run % "none") == "500000\n", "addresses aren't limited where there is no control group")
-    scratch.write("run-stranger.sh", whole)
-    for folder in ("stand-ins", "groups"):
-        shutil.rmtree(os.path.join(scratch.folder, folder))
-    os.remove(os.path.join(scratch.folder, "words"))
 
 
 def vim(scratch):
@@ -396,7 +302,7 @@ def pre_commit(scratch):
 
 # Each recipe with the programs that it needs.
 RECIPES = [(make_check, "make"), (pre_commit, "yaml"), (hook_of_calls, "yaml"), (hook_of_forms, "yaml"), (step, "curl sha256sum tar"), (certificates, ""), (makefile, "make sed"),
-           (in_place, "sed"), (inline, "sed"), (vim, "vim"), (fewer, ""), (stranger, "sed")]
+           (in_place, "sed"), (inline, "sed"), (vim, "vim"), (fewer, "")]
 
 
 def main():

@@ -46,6 +46,7 @@ wrapper-tests wrapper.py {explain}
 wrapper-tests command.py {explain}
 wrapper-tests formatter.py {explain}
 wrapper-tests known.py {explain}
+wrapper-tests run_stranger.py {explain}
 page-tests page.py {all}
 library-tests library.py {library} {sedck} {refuse}
 integration-tests language_server.py {explain}

@@ -35,8 +35,8 @@ MADE = {"build/sedck": "make sedck", "build/sedck-explain": "make build", "build
 # What is of no use without something that is made: by the beginning of its path in the archive.
 NEEDS = {"bin/sedck-": "build/sedck-explain", "libexec/": "build/sedck-explain", "lib/": "build/libsedck.a", "include/": "build/libsedck.a"}
 PROGRAMS = {"bin/sedck": "build/sedck", "bin/sedck-explain": "build/sedck-explain", "bin/sedck-fmt": "wrapper/sedck-fmt",
-            "bin/sedck-known": "wrapper/sedck-known", "bin/sedck-sed": "wrapper/sedck-sed", "bin/sedck-lsp": "wrapper/sedck-lsp", "libexec/sedck/sed": "wrapper/sed"}
-COMPLETED = ("sedck", "sedck-explain", "sedck-fmt", "sedck-known", "sedck-sed")
+            "bin/sedck-known": "wrapper/sedck-known", "bin/sedck-run": "wrapper/sedck-run", "bin/sedck-sed": "wrapper/sedck-sed", "bin/sedck-lsp": "wrapper/sedck-lsp", "libexec/sedck/sed": "wrapper/sed"}
+COMPLETED = ("sedck", "sedck-explain", "sedck-fmt", "sedck-known", "sedck-run", "sedck-sed")
 
 
 def installed():
