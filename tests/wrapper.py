@@ -33,6 +33,7 @@ case $2 in
     sed) [ -z "$PLAIN" ] || { printf '%s\\n' "$PLAIN"; exit "$SPELLED"; }; exec "$PROGRAM" "$@" ;;
     *) echo "/dev/fd/9:1:1: error: what it finds [code]" ;;
 esac
+case " $* " in *' --deny locale '*) exit "$DENIED" ;; esac
 exit "$STATUS"
 """
 # A sed that says what it is and how it was called.
@@ -113,7 +114,7 @@ class Place:
     def call(self, *words, mode="log", given=b"", program="sed", shown=None, **variables):
         """The status, and the bytes on both streams. Variables whose name is `SHORT` are named SEDCK_SHORT, others as they are."""
         words = [word if isinstance(word, bytes) else word.encode() for word in words]
-        environment = {**os.environ, "PATH": self.path, "NOTES": str(self.top), "CHANGES": "", "STATUS": "0", "REPORT": report(), "PLAIN": "",
+        environment = {**os.environ, "PATH": self.path, "NOTES": str(self.top), "CHANGES": "", "STATUS": "0", "DENIED": "0", "REPORT": report(), "PLAIN": "",
                        "SPELLED": "0", "PROGRAM": os.path.abspath(sys.argv[1]), "TMPDIR": str(self.top / "temporary"), "LC_ALL": "C", "SEDCK_MODE": mode, "SEDCK_LOG": str(self.log)}
         environment.update({name if name in environment else "SEDCK_" + name: str(value) for name, value in variables.items()})
         # What `env` finds on the path, as a shell does.
@@ -670,13 +671,13 @@ def check_locale(place):
     utf_8 = ({"LANG": "C.UTF-8"}, {"LC_CTYPE": "C.UTF-8", "LANG": "C"}, {"LC_ALL": "C.UTF-8", "LC_CTYPE": "C", "LANG": "C"}, {"LC_ALL": "", "LC_CTYPE": "", "LANG": "C.UTF-8"}, {"LANG": "en_US.utf8"},
              {"LANG": "de_DE.UTF8@euro"}, {"LANG": "de_DE.Utf-8@x.EUC"})
     others = (other, {"LANG": "zh_CN.GB18030"}, {"LANG": "de_DE@euro"}, {"LANG": "ja_JP.EUC@x.utf8"}, {"LANG": "/tmp/x.UTF-8"}, {"LANG": "UTF-8"}, {"LANG": "xUTF-8"}, {"LANG": "C.UTF-8.x"}, {"LANG": "C.UTF-16"})
-    for locale, findings, is_due in ([(locale, findings, False) for locale in bytewise for findings in ("", '{"code":"locale"}')] + [(locale, "", False) for locale in utf_8]
-                                     + [(locale, '{"code":"locale"}', True) for locale in utf_8] + [(locale, findings, True) for locale in others for findings in ("", '{"code":"locale"}')]):
+    # In UTF-8 it counts with which status a call ends where `locale` is denied, and not what its report has.
+    for locale, denied, is_due in ([(locale, denied, False) for locale in bytewise for denied in ("0", "1")] + [(locale, "0", False) for locale in utf_8]
+                                   + [(locale, denied, True) for locale in utf_8 for denied in ("1", "4", "5")] + [(locale, denied, True) for locale in others for denied in ("0", "1")]):
         for words in (["s/é*/x/"], ["-f", "high.sed"], ["s/a*/x/"], ["-f", "low.sed"]):
-            status, _, said = call(*words, locale=locale, REPORT=report(findings=findings))
+            status, _, said = call(*words, locale=locale, DENIED=denied, REPORT=report(findings='{"code":"locale"}' if denied == "0" else ""))
             is_high = is_due and words[-1] in ("s/é*/x/", "high.sed")
-            expect((status, b"[locale]\n" in said) == (120 if is_high else 0, is_high), "locale, %s, %s, %s: %d, %s" % (locale, findings, words, status, said))
-    expect(call("s/é/e/", locale=utf_8[0], REPORT="")[2].count(b"[locale]\n") == 1, "locale: a call of which nothing is known is safe")
+            expect((status, b"[locale]\n" in said) == (120 if is_high else 0, is_high), "locale, %s, %s, %s: %d, %s" % (locale, denied, words, status, said))
     rows = [(words, True) for words in (["-e", "s/é//"], ["-es/é//"], ["-ne", "s/é//"], ["--expression=s/é//"], ["--exp", "s/é//"], ["-e", "p", "-e", "é"], ["-f", "high.sed"], ["-nfhigh.sed"],
                                         ["--file=high.sed"], ["--fi", "high.sed"], ["-f", "low.sed", "-f", "high.sed"], ["big", "-e", "é"], ["--", "é"], ["-f", "comment.sed"], ["-e", "p", "-f", "high.sed"])]
     rows += [(words, False) for words in (["p", "é"], ["-e", "p", "é"], ["é", "-e", "p"], ["-f", "low.sed"], ["-f", "é"], ["-nfé"], ["--file=é"], ["-f", "low.sed", "é"], [bytes(range(1, 128))],
