@@ -33,7 +33,7 @@ struct sedck_answer {
     size_t place;
     /* At 2 the number of the fault; at 1, of sedck_check, that of the reason of the rejection (docs/FAULTS.md has both). */
     uint32_t fault;
-    /* At 2: which text has the fault: 1 is the script, 2 the certificate. */
+    /* At 2: which text has the fault: 1 is the script, 2 the certificate. The script's fault is told where both have one. */
     uint32_t text;
     bool bounded;
 };

@@ -2,11 +2,12 @@
 use Rattle.std.proofs.Common.{◌≡◌, ◌≢◌, ◌⊎◌, ◌↔◌, ◌≤◌, ℕ, List, Result, Ok, Err, refl, sym, subst, ap, inl, inr, arith}
 use Rattle.sedck_commands.specs.Program.{Program}
 use Rattle.sedck_script.specs.Spelling.{Spells}
+use Rattle.sedck_commands.specs.declared.fault.ScriptFault.{ScriptFault}
 use Rattle.sedck_commands.specs.declared.fault.ScriptFault.TheVariants as script
 use Rattle.sedck_cert.specs.Certificate.{Certificate}
 use Rattle.sedck_cert.specs.Versions.{SpellsCertificate}
 use Rattle.sedck_cert.specs.Ranked.{Accepts}
-use Rattle.sedck_cert.specs.Headline.{SpellBoth, IsAccepted, IsRejected, IsScriptFault, IsCertificateFault, IsOutOfMemory, IsAnswered, ReportsFault, IsJudged, IsVerdict, IsLimit}
+use Rattle.sedck_cert.specs.Headline.{SpellBoth, IsAccepted, IsRejected, IsScriptFault, IsScriptFaultOf, IsCertificateFault, IsOutOfMemory, IsAnswered, ReportsFault, IsJudged, IsVerdict, IsLimit}
 use Rattle.sedck_cert.specs.Everywhere.{IsLimitEverywhere}
 use Rattle.sedck_cert.specs.declared.reading.CertFault.TheVariants as cert
 use Rattle.sedck_cert.specs.declared.checking.Verdict.{Verdict}
@@ -14,7 +15,7 @@ use Rattle.sedck_cert.specs.declared.checking.Verdict.TheVariants.{Accepted, Rej
 use Rattle.sedck_cert.specs.declared.verifying.Judged.{Judged}
 use Rattle.sedck_cert.specs.declared.verifying.Fault.{Fault}
 use Rattle.sedck_cert.specs.declared.verifying.Fault.TheVariants as faults
-use Rattle.sedck_c.specs.Answers.{IsLimited, TellsReason, TellsFaultOf}
+use Rattle.sedck_c.specs.Answers.{IsLimited, TellsReason, TellsScriptFault, TellsScriptFaultOf, TellsFaultOf}
 use Rattle.sedck_c.specs.Private.Answers.{TellsFault, TellsVerdict}
 use Rattle.sedck_c.specs.Private.Statuses.{status_of}
 use Rattle.sedck_c.specs.declared.answer.Answer.{Answer}
@@ -78,10 +79,10 @@ exact_rejected text bytes r answer some =
     (λ e. answered.rejected.0 (rejected_of r e), λ both. status_rejected r (answered.rejected.1 both))
 
 pub refusal : (text bytes : List ℕ) (r : Result Verdict Fault) → ((¬ IsOutOfMemory r) → IsAnswered text bytes r) → status_of r ≡ 2
-    → ((p : Program) → ¬ Spells text p) ⊎ ((c : Certificate) → ¬ SpellsCertificate bytes c)
+    → ((p : Program) → ¬ Spells text p) ⊎ (((p : Program) × Spells text p) × ((c : Certificate) → ¬ SpellsCertificate bytes c))
 refusal text bytes r answer e =
     let answered = answer (enough r (λ four. absurd (omega (arith, e, four)))) in
-    elim (refused_of r e) [ inl script ↦ inl (answered.script_fault.0 script) | inr certificate ↦ inr (answered.certificate_fault.0 certificate).1 ]
+    elim (refused_of r e) [ inl script ↦ inl (answered.script_fault.0 script) | inr certificate ↦ inr (answered.certificate_fault.0 certificate) ]
 
 -- ---- What an answer tells
 
@@ -113,12 +114,19 @@ pub reason_told : (text bytes : List ℕ) (judged : Judged) (a : Answer) → IsJ
     → status_of (Ok judged.verdict) ≡ 1 → TellsReason text bytes a
 reason_told text bytes judged a is tells e = reason_of text bytes judged a judged.verdict is is.is_verdict tells e
 
-pub fault_told : (text bytes : List ℕ) (a : Answer) (why : Fault) → TellsFault a why → ReportsFault text bytes (Err why) → status_of (Err why) ≡ 2
-    → TellsFaultOf text bytes a
-fault_told text bytes a (faults.Script why) tells reported e = inl (why, tells, reported)
-fault_told text bytes a (faults.Certificate why) tells (inl memory) e =
+script_fault_told : (text : List ℕ) (a : Answer) (why : ScriptFault) → TellsScriptFault a why → IsScriptFaultOf text why
+    → status_of (Err (faults.Script why)) ≡ 2 → TellsScriptFaultOf text a
+script_fault_told text a script.OutOfMemory tells is e = absurd (omega (arith, e))
+script_fault_told text a why tells is e = (why, tells, λ memory. cc, is)
+
+pub fault_told : (text bytes : List ℕ) (a : Answer) (why : Fault) → TellsFault a why → ReportsFault text bytes (Err why)
+    → ((¬ IsOutOfMemory (Err why)) → IsAnswered text bytes (Err why)) → status_of (Err why) ≡ 2 → TellsFaultOf text bytes a
+fault_told text bytes a (faults.Script why) tells reported answer e = inl (script_fault_told text a why tells reported e)
+fault_told text bytes a (faults.Certificate why) tells (inl memory) answer e =
     absurd (omega (arith, subst (λ w. status_of (Err (faults.Certificate w)) ≡ 2) memory e))
-fault_told text bytes a (faults.Certificate why) tells (inr is) e = inr (why, tells, is)
+fault_told text bytes a (faults.Certificate why) tells (inr is) answer e =
+    let answered = answer (enough (Err (faults.Certificate why)) (λ four. absurd (omega (arith, e, four)))) in
+    inr ((answered.certificate_fault.0 tt).0, (why, tells, is))
 
 -- ---- What no fault and no verdict has
 

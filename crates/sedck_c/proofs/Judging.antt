@@ -5,17 +5,16 @@ use Rattle.sedck_script.specs.Spelling.{Spells}
 use Rattle.sedck_commands.specs.declared.fault.ScriptFault.{ScriptFault}
 use Rattle.sedck_commands.specs.declared.fault.ScriptFault.TheVariants as script
 use Rattle.sedck_cert.specs.Certificate.{Certificate}
-use Rattle.sedck_cert.specs.Text.{file_lists}
 use Rattle.sedck_cert.specs.Ranked.{Accepts}
-use Rattle.sedck_cert.specs.Headline.{IsSafe, IsLimit, IsScriptFaultOf}
-use Rattle.sedck_cert.specs.Everywhere.{IsSafeEverywhere, IsLimitEverywhere}
+use Rattle.sedck_cert.specs.Headline.{IsLimit, IsScriptFaultOf}
+use Rattle.sedck_cert.specs.Everywhere.{IsLimitEverywhere}
 use Rattle.sedck_cert.proofs.Promise.{safe, safe_everywhere}
 use Rattle.sedck_cert.specs.declared.verifying.Fault.TheVariants as faults
 use Rattle.sedck_engines.specs.Engines.{EngineAnswers, Writing, OfBytes, IsRefusedScript, RanksTo}
 use Rattle.sedck_engines.specs.declared.answer.Outcome.{Outcome}
 use Rattle.sedck_engines.specs.declared.answer.RunFault.{RunFault}
 use Rattle.sedck_engines.specs.declared.answer.RunFault.TheVariants as run
-use Rattle.sedck_c.specs.Answers.{HasOne, HasNone, IsListed, IsLimited, IsPut, TellsScriptFault, TellsScriptFaultOf, bound_of, lists_of}
+use Rattle.sedck_c.specs.Answers.{HasOne, HasNone, IsListed, IsTold, IsNeeded, IsPut, TellsScriptFault, TellsScriptFaultOf, bound_of, lists_of}
 use Rattle.sedck_c.specs.Private.Answers.{IsCertified, IsRefusedAs, IsRefusedBy, IsSearched, IsRefusedIn}
 use Rattle.sedck_c.specs.Private.Statuses.{status_of}
 use Rattle.sedck_c.specs.declared.answer.Answer.{Answer}
@@ -77,29 +76,33 @@ one_of text found Holds is holds =
 pub accepted_one : (text : List ℕ) (found : Certified) → IsCertified text (Some found) → HasOne text Accepts
 accepted_one text found is = one_of text found Accepts is (λ p spelled accepts limit everywhere. accepts)
 
-pub safe_one : (text : List ℕ) (found : Certified) (room : List ℕ) (needed : ℕ) → IsCertified text (Some found) → IsListed found.cert room needed
-    → HasOne text (λ p c. IsSafe p (file_lists c) × IsListed c room needed)
-safe_one text found room needed is listed =
-    one_of text found (λ p c. IsSafe p (file_lists c) × IsListed c room needed) is
-    (λ p spelled accepts limit everywhere. (safe text p found.cert spelled accepts, listed))
-
-pub safe_one_everywhere : (text : List ℕ) (found : Certified) (room : List ℕ) (needed : ℕ) → IsCertified text (Some found)
-    → IsListed found.cert room needed → HasOne text (λ p c. IsSafeEverywhere p (file_lists c) × IsListed c room needed)
-safe_one_everywhere text found room needed is listed =
-    one_of text found (λ p c. IsSafeEverywhere p (file_lists c) × IsListed c room needed) is
-    (λ p spelled accepts limit everywhere. (safe_everywhere text p found.cert spelled accepts, listed))
-
-pub limited_one : (text : List ℕ) (found : Certified) (a : Answer) → IsCertified text (Some found) → bound_of a ≡ found.bound
-    → a.reads ≡ length found.cert.reads → a.writes ≡ length found.cert.writes → HasOne text (IsLimited a)
-limited_one text found a is bound reads writes =
-    one_of text found (IsLimited a) is
+pub told_one : (text : List ℕ) (found : Certified) (a : Answer) (room : List ℕ) (needed : ℕ) → IsCertified text (Some found)
+    → IsListed found.cert room needed → bound_of a ≡ found.bound → a.reads ≡ length found.cert.reads → a.writes ≡ length found.cert.writes
+    → HasOne text (IsTold a room needed)
+told_one text found a room needed is listed bound reads writes =
+    one_of text found (IsTold a room needed) is
     (λ p spelled accepts limit everywhere.
     record {
-      limit = subst (IsLimit p found.cert) (sym bound) limit;
-      everywhere = subst (IsLimitEverywhere p) (sym bound) everywhere;
-      reads = reads;
-      writes = writes;
+      accepts = accepts;
+      safe = safe text p found.cert spelled accepts;
+      everywhere = safe_everywhere text p found.cert spelled accepts;
+      listed = listed;
+      limited = record {
+        limit = subst (IsLimit p found.cert) (sym bound) limit;
+        everywhere = subst (IsLimitEverywhere p) (sym bound) everywhere;
+        reads = reads;
+        writes = writes;
+      };
     })
+
+-- the lists that don't fit need so much room
+pub needed_one : {Put Small : Type 0} (text : List ℕ) (found : Certified) (status needed : ℕ) → IsCertified text (Some found)
+    → (status ≡ 4) ⊎ (needed ≡ length (lists_of found.cert)) → Putting status Put Small → status ≡ 5 → IsNeeded text needed × Small
+needed_one text found status needed is (inl memory) putting e = absurd (omega (arith, memory, e))
+needed_one text found status needed is (inr long) putting e = (
+  one_of text found (λ p c. Accepts p c × (needed ≡ length (lists_of c))) is (λ p spelled accepts limit everywhere. (accepts, long)),
+  put_small status putting e,
+)
 
 -- no script has one and none
 pub one_or_none : (text : List ℕ) → HasNone text → HasOne text Accepts → ⊥
@@ -114,7 +117,7 @@ no_program text why is some = is.0
 pub script_fault_told : (text : List ℕ) (a : Answer) (why : ScriptFault) → TellsScriptFault a why → IsRefusedAs text why
     → status_of (Err (faults.Script why)) ≡ 2 → TellsScriptFaultOf text a
 script_fault_told text a script.OutOfMemory tells is e = absurd (omega (arith, e))
-script_fault_told text a why tells is e = (why, tells, is.1)
+script_fault_told text a why tells is e = (why, tells, λ memory. cc, is.1)
 
 -- what `parse` says of a text that it refuses
 pub refused_as : (text : List ℕ) (why : ScriptFault) → (why ≢ script.OutOfMemory → (p : Program) → Spells text p → ⊥) → IsScriptFaultOf text why

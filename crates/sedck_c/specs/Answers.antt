@@ -1,23 +1,25 @@
 -- What a caller in C is told, this project's own (library/sedck.h).
-use Rattle.std.specs.Prelude.{◌≡◌, ◌⊎◌, ℕ, ◌<◌, List, length, take, Option, Some, None, if◌then◌else◌}
+use Rattle.std.specs.Prelude.{◌≡◌, ◌≢◌, ◌⊎◌, ℕ, ◌<◌, List, length, take, Option, Some, None, if◌then◌else◌}
 use Rattle.sedck_script.specs.Program.{Program}
 use Rattle.sedck_script.specs.Spelling.{Spells}
 use Rattle.sedck_commands.specs.FaultWords.{fault_number, fault_place}
 use Rattle.sedck_commands.specs.declared.fault.ScriptFault.{ScriptFault}
+use Rattle.sedck_commands.specs.declared.fault.ScriptFault.TheVariants.{OutOfMemory}
 use Rattle.sedck_cert.specs.Certificate.{Certificate}
-use Rattle.sedck_cert.specs.Text.{files_text}
+use Rattle.sedck_cert.specs.Text.{files_text, file_lists}
 use Rattle.sedck_cert.specs.Ranked.{Accepts}
 use Rattle.sedck_cert.specs.Faults.{line_of}
 use Rattle.sedck_cert.specs.FaultText.{number_of}
 use Rattle.sedck_cert.specs.Versions.{IsFaultIn}
-use Rattle.sedck_cert.specs.Headline.{Only, SpellBoth, IsLimit, IsScriptFaultOf}
-use Rattle.sedck_cert.specs.Everywhere.{IsLimitEverywhere}
+use Rattle.sedck_cert.specs.Headline.{Only, SpellBoth, IsSafe, IsLimit, IsScriptFaultOf}
+use Rattle.sedck_cert.specs.Everywhere.{IsSafeEverywhere, IsLimitEverywhere}
 use Rattle.sedck_cert.specs.Rejections.{IsRejection}
 use Rattle.sedck_cert.specs.declared.limits.Bound.{Bound}
 use Rattle.sedck_cert.specs.declared.reading.CertFault.{CertFault}
 use Rattle.sedck_cert.specs.declared.checking.Rejection.{Rejection}
 use Rattle.sedck_cert.specs.declared.checking.Rejection.TheVariants.{WrongCount, StartUnranked, LeavesRanked, NotLowered, ReadsDiffer, WritesDiffer}
-use Rattle.sedck_engines.specs.Engines.{OfScript}
+use Rattle.sedck_engines.specs.Engines.{OfScript, RanksTo}
+use Rattle.sedck_engines.specs.declared.answer.Outcome.{Outcome}
 use Rattle.sedck_c.specs.declared.answer.Answer.{Answer}
 
 -- ---- A script by itself
@@ -39,9 +41,11 @@ HasNone text = OfScript text (λ p. (c : Certificate) → ¬ Accepts p c)
 abbrev pub IsPut : List ℕ → List ℕ → Type 0
 IsPut text room = (length room ≡ 0) ⊎ (take (length text) room ≡ text)
 
--- there is some room, but less than is needed
-abbrev pub IsTooSmall : List ℕ → ℕ → Type 0
-IsTooSmall room needed = (0 < length room) × (length room < needed)
+-- there is some room, but less than is needed, and it is as it was
+pub record IsTooSmall (before after : List ℕ) (needed : ℕ) : Type 0 where
+  pub some : 0 < length before
+  pub small : length before < needed
+  pub kept : after ≡ before
 
 -- such a report is put, and its length told
 abbrev pub Gives : (List ℕ → Type 0) → List ℕ → ℕ → Type 0
@@ -67,6 +71,23 @@ pub record IsLimited (a : Answer) (p : Program) (c : Certificate) : Type 0 where
   pub everywhere : IsLimitEverywhere p (bound_of a)
   pub reads : a.reads ≡ length c.reads
   pub writes : a.writes ≡ length c.writes
+
+-- What the caller gets of one certificate that is accepted: the script's runs end, their files are in the lists that are put, and the answer
+-- tells its limit and the lengths of its lists.
+pub record IsTold (a : Answer) (room : List ℕ) (needed : ℕ) (p : Program) (c : Certificate) : Type 0 where
+  pub accepts : Accepts p c
+  pub safe : IsSafe p (file_lists c)
+  pub everywhere : IsSafeEverywhere p (file_lists c)
+  pub listed : IsListed c room needed
+  pub limited : IsLimited a p c
+
+-- the lists of one that is accepted need so much room
+abbrev pub IsNeeded : List ℕ → ℕ → Type 0
+IsNeeded text needed = HasOne text (λ p c. Accepts p c × (needed ≡ length (lists_of c)))
+
+-- so does the certificate or the loop that `sedck rank` prints
+abbrev pub IsNeededToRank : List ℕ → ℕ → Type 0
+IsNeededToRank text needed = (outcome : Outcome) × (report : List ℕ) × RanksTo text outcome report × (needed ≡ length report)
 
 -- the number of a reason, as the program prints it
 abbrev pub rejection_number : Rejection → ℕ
@@ -96,11 +117,14 @@ pub record TellsCertificateFault (a : Answer) (why : CertFault) : Type 0 where
   pub number : a.fault ≡ number_of why
   pub line : a.place ≡ or_zero (line_of why)
 
--- the answer tells a fault of the script
+-- the answer tells the first fault of the script
 abbrev pub TellsScriptFaultOf : List ℕ → Answer → Type 0
-TellsScriptFaultOf script a = (why : ScriptFault) × TellsScriptFault a why × IsScriptFaultOf script why
+TellsScriptFaultOf script a = (why : ScriptFault) × TellsScriptFault a why × (why ≢ OutOfMemory) × IsScriptFaultOf script why
 
--- the answer tells a fault of one of the texts
+-- the answer tells a fault of the certificate
+abbrev pub TellsCertificateFaultOf : List ℕ → Answer → Type 0
+TellsCertificateFaultOf certificate a = (why : CertFault) × TellsCertificateFault a why × IsFaultIn certificate why
+
+-- the answer tells a fault of the script, or, where that is one, of the certificate
 abbrev pub TellsFaultOf : List ℕ → List ℕ → Answer → Type 0
-TellsFaultOf script certificate a =
-    TellsScriptFaultOf script a ⊎ ((why : CertFault) × TellsCertificateFault a why × IsFaultIn certificate why)
+TellsFaultOf script certificate a = TellsScriptFaultOf script a ⊎ (((p : Program) × Spells script p) × TellsCertificateFaultOf certificate a)

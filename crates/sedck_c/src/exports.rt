@@ -7,11 +7,10 @@ ghost use Rattle.sedck_engines.specs.declared.answer.Outcome.TheVariants.{Yes, N
 ghost use Rattle.sedck_cert.specs.Certificate.{Certificate};
 ghost use Rattle.sedck_cert.specs.Versions.{SpellsCertificate};
 ghost use Rattle.sedck_cert.specs.Ranked.{Accepts};
-ghost use Rattle.sedck_cert.specs.Text.{file_lists};
 ghost use Rattle.sedck_cert.specs.Headline.{SpellBoth, ReadBoth, IsSafe};
 ghost use Rattle.sedck_cert.specs.Everywhere.{IsSafeEverywhere};
 ghost use Rattle.sedck_engines.specs.Engines.{RanksTo};
-ghost use Rattle.sedck_c.specs.Answers.{HasOne, HasNone, IsListed, IsLimited, IsTooSmall, TellsFaultOf, TellsScriptFaultOf, TellsReason, Gives};
+ghost use Rattle.sedck_c.specs.Answers.{HasOne, HasNone, IsTold, IsLimited, IsNeeded, IsNeededToRank, IsTooSmall, TellsFaultOf, TellsScriptFaultOf, TellsReason, Gives};
 
 use crate::answer::Answer;
 use crate::certified::{certify, ranked};
@@ -35,7 +34,8 @@ pub extern "C" fn sedck_check(
     // Each status exactly where it is due, unless memory runs out.
     ensures accepted { result ≢ 4 → (result ≡ 0) ↔ SpellBoth script.now certificate.now Accepts }
     ensures rejected { result ≢ 4 → (result ≡ 1) ↔ SpellBoth script.now certificate.now (λ p c. ¬ Accepts p c) }
-    ensures refused { result ≡ 2 → ((p : Program) → ¬ Spells script.now p) ⊎ ((c : Certificate) → ¬ SpellsCertificate certificate.now c) }
+    ensures refused { result ≡ 2 → ((p : Program) → ¬ Spells script.now p)
+        ⊎ (((p : Program) × Spells script.now p) × ((c : Certificate) → ¬ SpellsCertificate certificate.now c)) }
     // What the answer tells at each of them.
     ensures limited { result ≡ 0 → SpellBoth script.now certificate.now (IsLimited answer.new) }
     ensures reason { result ≡ 1 → TellsReason script.now certificate.now answer.new }
@@ -65,7 +65,7 @@ pub extern "C" fn sedck_rank(
     ensures found { result ≡ 0 → Gives (RanksTo script.now Yes) room.new needed.new }
     ensures looping { result ≡ 1 → Gives (RanksTo script.now No) room.new needed.new }
     ensures refused { result ≡ 2 → (p : Program) → ¬ Spells script.now p }
-    ensures small { result ≡ 5 → IsTooSmall room.old needed.new }
+    ensures small { result ≡ 5 → IsNeededToRank script.now needed.new × IsTooSmall room.old room.new needed.new }
 {
     *needed = 0;
     match ranked(alloc, script) {
@@ -86,16 +86,14 @@ pub extern "C" fn sedck_judge(
     room: &mut [u8],
     needed: &mut usize,
 ) -> u32
-    // The script's runs end, and their files are in the lists that the caller gets.
-    ensures promise { result ≡ 0 → HasOne script.now (λ p c. IsSafe p (file_lists c) × IsListed c room.new needed.new) }
-    ensures everywhere { result ≡ 0 → HasOne script.now (λ p c. IsSafeEverywhere p (file_lists c) × IsListed c room.new needed.new) }
+    // The script's runs end, and all that the caller gets is of one certificate.
+    ensures promise { result ≡ 0 → HasOne script.now (IsTold answer.new room.new needed.new) }
     ensures within { (result ≤ 2) ⊎ (result ≡ 4) ⊎ (result ≡ 5) }
     // Each status exactly where it is due, unless memory or the room runs out.
     ensures accepted { result ≢ 4 → result ≢ 5 → (result ≡ 0) ↔ HasOne script.now Accepts }
     ensures rejected { result ≢ 4 → result ≢ 5 → (result ≡ 1) ↔ HasNone script.now }
     ensures refused { result ≡ 2 → (p : Program) → ¬ Spells script.now p }
-    ensures small { result ≡ 5 → HasOne script.now Accepts × IsTooSmall room.old needed.new }
-    ensures limited { result ≡ 0 → HasOne script.now (IsLimited answer.new) }
+    ensures small { result ≡ 5 → IsNeeded script.now needed.new × IsTooSmall room.old room.new needed.new }
     ensures fault { result ≡ 2 → TellsScriptFaultOf script.now answer.new }
 {
     *needed = 0;

@@ -14,7 +14,7 @@ use std::alloc::{AllocError, Global};
 pub(crate) fn put(text: &[u8], room: &mut [u8], needed: &mut usize) -> bool
     ensures needed { needed.new ≡ length text.now }
     ensures put { IsTrue result → IsPut text.now room.new }
-    ensures small { result ≡ false → IsTooSmall room.old needed.new }
+    ensures small { result ≡ false → IsTooSmall room.old room.new needed.new }
     ensures kept { length room.new ≡ length room.old }
 {
     *needed = text.len();
@@ -31,7 +31,7 @@ pub(crate) fn put(text: &[u8], room: &mut [u8], needed: &mut usize) -> bool
 /// The same, and the status of a text that was to be put.
 pub(crate) fn put_with(status: u32, text: &[u8], room: &mut [u8], needed: &mut usize) -> u32
     ensures needed { needed.new ≡ length text.now }
-    ensures put { ((result ≡ status) × IsPut text.now room.new) ⊎ ((result ≡ ROOM) × IsTooSmall room.old needed.new) }
+    ensures put { ((result ≡ status) × IsPut text.now room.new) ⊎ ((result ≡ ROOM) × IsTooSmall room.old room.new needed.new) }
 {
     if put(text, room, needed) {
         status
@@ -44,7 +44,7 @@ pub(crate) fn put_with(status: u32, text: &[u8], room: &mut [u8], needed: &mut u
 pub(crate) fn put_lists(alloc: Global, cert: &Cert, room: &mut [u8], needed: &mut usize) -> u32
     ensures needed { (result ≡ MEMORY) ⊎ (needed.new ≡ length (lists_of cert.now)) }
     ensures put { (result ≡ MEMORY) ⊎ ((result ≡ ACCEPTED) × IsPut (lists_of cert.now) room.new)
-        ⊎ ((result ≡ ROOM) × IsTooSmall room.old needed.new) }
+        ⊎ ((result ≡ ROOM) × IsTooSmall room.old room.new needed.new) }
 {
     match lists(alloc, cert) {
         Ok(text) => put_with(ACCEPTED, &text, room, needed),

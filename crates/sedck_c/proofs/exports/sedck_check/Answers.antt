@@ -73,4 +73,5 @@ returns-in-Err-clause-reason c e = absurd (fault_rejects c.in-Err.fault (sym c.f
 
 pub returns-in-Err-clause-fault : goal.returns-in-Err-clause-fault
 returns-in-Err-clause-fault c e =
-    fault_told c.args.script.now c.args.certificate.now c.of_fault.result c.in-Err.fault c.of_fault.ensures c.in-Err.ensures.reported (sym c.fault_status.ensures ∙ e)
+    fault_told c.args.script.now c.args.certificate.now c.of_fault.result c.in-Err.fault c.of_fault.ensures c.in-Err.ensures.reported
+    c.in-Err.ensures.answer (sym c.fault_status.ensures ∙ e)

@@ -1,20 +1,17 @@
 use Rattle.std.proofs.Common.{◌≡◌, ◌⊎◌, ◌≤◌, ◌∙◌, Err, refl, sym, subst, inl, inr, arith}
 use Rattle.sedck_cert.specs.declared.verifying.Fault.TheVariants as faults
 use Rattle.sedck_c.proofs.Checks.{within_of, fault_accepts, fault_rejects}
-use Rattle.sedck_c.proofs.Judging.{put_within, put_listed, put_small, put_zero, put_never, accepted_one, safe_one, safe_one_everywhere, limited_one, one_or_none, fault_within, fault_has_room, no_program, script_fault_told, unspelled_one, unspelled_none}
+use Rattle.sedck_c.proofs.Judging.{put_within, put_listed, put_zero, put_never, accepted_one, told_one, needed_one, one_or_none, fault_within, fault_has_room, no_program, script_fault_told, unspelled_one, unspelled_none}
 use Rattle.sedck_c.proofs.exports.sedck_judge.Goals as goal
 
 -- ---- Where a certificate is found
 
 pub returns-in-Ok-Some-clause-promise : goal.returns-in-Ok-Some-clause-promise
 returns-in-Ok-Some-clause-promise c e =
-    safe_one c.args.script.now c.in-Ok-Some.found c.put_lists.new.room c.put_lists.new.needed (rw c.in-Ok-Some.field-0-is at c.in-Ok-Some.ensures).found
+    told_one c.args.script.now c.in-Ok-Some.found c.of_accepted.result c.put_lists.new.room c.put_lists.new.needed
+    (rw c.in-Ok-Some.field-0-is at c.in-Ok-Some.ensures).found
     (put_listed c.in-Ok-Some.found.cert c.put_lists.result c.put_lists.new.room c.put_lists.new.needed c.put_lists.ensures.needed c.put_lists.ensures.put e)
-
-pub returns-in-Ok-Some-clause-everywhere : goal.returns-in-Ok-Some-clause-everywhere
-returns-in-Ok-Some-clause-everywhere c e =
-    safe_one_everywhere c.args.script.now c.in-Ok-Some.found c.put_lists.new.room c.put_lists.new.needed (rw c.in-Ok-Some.field-0-is at c.in-Ok-Some.ensures).found
-    (put_listed c.in-Ok-Some.found.cert c.put_lists.result c.put_lists.new.room c.put_lists.new.needed c.put_lists.ensures.needed c.put_lists.ensures.put e)
+    c.of_accepted.ensures.bound c.of_accepted.ensures.reads c.of_accepted.ensures.writes
 
 pub returns-in-Ok-Some-clause-within : goal.returns-in-Ok-Some-clause-within
 returns-in-Ok-Some-clause-within c = put_within c.put_lists.result c.put_lists.ensures.put
@@ -36,12 +33,8 @@ returns-in-Ok-Some-clause-refused c e = absurd (put_never c.put_lists.result c.p
 
 pub returns-in-Ok-Some-clause-small : goal.returns-in-Ok-Some-clause-small
 returns-in-Ok-Some-clause-small c e =
-    (accepted_one c.args.script.now c.in-Ok-Some.found (rw c.in-Ok-Some.field-0-is at c.in-Ok-Some.ensures).found, put_small c.put_lists.result c.put_lists.ensures.put e)
-
-pub returns-in-Ok-Some-clause-limited : goal.returns-in-Ok-Some-clause-limited
-returns-in-Ok-Some-clause-limited c e =
-    limited_one c.args.script.now c.in-Ok-Some.found c.of_accepted.result (rw c.in-Ok-Some.field-0-is at c.in-Ok-Some.ensures).found c.of_accepted.ensures.bound c.of_accepted.ensures.reads
-    c.of_accepted.ensures.writes
+    needed_one c.args.script.now c.in-Ok-Some.found c.put_lists.result c.put_lists.new.needed (rw c.in-Ok-Some.field-0-is at c.in-Ok-Some.ensures).found
+    c.put_lists.ensures.needed c.put_lists.ensures.put e
 
 pub returns-in-Ok-Some-clause-fault : goal.returns-in-Ok-Some-clause-fault
 returns-in-Ok-Some-clause-fault c e = absurd (put_never c.put_lists.result c.put_lists.ensures.put (inr e))
@@ -59,9 +52,6 @@ returns-in-Ok-None-clause-rejected c some room = (λ _. (rw c.in-Ok-None.field-0
 
 pub returns-in-Err-clause-promise : goal.returns-in-Err-clause-promise
 returns-in-Err-clause-promise c e = absurd (fault_accepts (faults.Script c.in-Err.why) (sym c.fault_status.ensures ∙ e))
-
-pub returns-in-Err-clause-everywhere : goal.returns-in-Err-clause-everywhere
-returns-in-Err-clause-everywhere c e = absurd (fault_accepts (faults.Script c.in-Err.why) (sym c.fault_status.ensures ∙ e))
 
 pub returns-in-Err-clause-within : goal.returns-in-Err-clause-within
 returns-in-Err-clause-within c = subst (λ s. (s ≤ 2) ⊎ (s ≡ 4) ⊎ (s ≡ 5)) (sym c.fault_status.ensures) (fault_within (within_of (Err (faults.Script c.in-Err.why))))
@@ -84,9 +74,6 @@ returns-in-Err-clause-refused c e =
 
 pub returns-in-Err-clause-small : goal.returns-in-Err-clause-small
 returns-in-Err-clause-small c e = absurd (fault_has_room _ (within_of (Err (faults.Script c.in-Err.why))) (sym c.fault_status.ensures ∙ e))
-
-pub returns-in-Err-clause-limited : goal.returns-in-Err-clause-limited
-returns-in-Err-clause-limited c e = absurd (fault_accepts (faults.Script c.in-Err.why) (sym c.fault_status.ensures ∙ e))
 
 pub returns-in-Err-clause-fault : goal.returns-in-Err-clause-fault
 returns-in-Err-clause-fault c e =
