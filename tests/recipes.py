@@ -32,9 +32,9 @@ def read(name):
         return file.read()
 
 
-def block(head, language, nth=0, page="docs/RECIPES.md"):
+def block(head, language, nth=0):
     """A block of a section of the page; the others are examples of what it prints."""
-    section = re.split(r"^## ", read(page).split("\n## %s\n" % head, 1)[1], flags=re.M)[0]
+    section = re.split(r"^## ", read("docs/RECIPES.md").split("\n## %s\n" % head, 1)[1], flags=re.M)[0]
     return re.findall(r"^```%s\n(.*?)^```$" % language, section, flags=re.M | re.S)[nth]
 
 
