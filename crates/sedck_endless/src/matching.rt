@@ -22,6 +22,9 @@ pub(crate) fn anchors_of(expression: &Bre) -> Option<Anchors> {
     let Bre::Seq(items) = expression else {
         return None;
     };
+    if has_split_dollar(items) {
+        return None;
+    }
     let last = items.len().saturating_sub(1);
     let mut anchors = Anchors {
         start: false,
@@ -45,7 +48,8 @@ fn is_plain(item: &Bre) -> bool {
     match item {
         Bre::Start | Bre::End | Bre::Maybe(_) => false,
         Bre::Group(_, body) => is_plain(body),
-        Bre::Repeat { body, .. } => is_plain(body),
+        // The matcher of glibc may have the text of such a group begin in an earlier round.
+        Bre::Repeat { body, .. } => is_plain(body) && !repeats_group(body),
         Bre::Seq(items) => are_plain(items),
         // Above 127 a byte is a part of a character in UTF-8, where `xé*` matches an `x`.
         Bre::Byte(byte) => *byte < 128,
@@ -60,7 +64,56 @@ fn are_plain(items: &[Bre]) -> bool {
             return false;
         }
     }
-    true
+    !has_split_dollar(items)
+}
+
+/// Whether a `$` is right before a `)` or a bar, where GNU sed takes it for an anchor.
+fn has_split_dollar(items: &[Bre]) -> bool {
+    let mut is_dollar = false;
+    for item in items {
+        if is_dollar && is_operator(item) {
+            return true;
+        }
+        is_dollar = matches!(item, Bre::Byte(b'$'));
+    }
+    false
+}
+
+/// Whether the item is a `)` or a bar, or repeats one.
+fn is_operator(item: &Bre) -> bool {
+    match item {
+        Bre::Repeat { body, .. } => is_bar(body),
+        _ => is_bar(item),
+    }
+}
+
+fn is_bar(item: &Bre) -> bool {
+    matches!(item, Bre::Byte(b')' | b'|'))
+}
+
+/// Whether a group in the tree is repeated.
+#[cycle(groups)]
+fn repeats_group(tree: &Bre) -> bool {
+    match tree {
+        Bre::Group(_, body) => repeats_group(body),
+        Bre::Repeat { body, .. } => is_group(body) || repeats_group(body),
+        Bre::Seq(items) => one_repeats_group(items),
+        _ => false,
+    }
+}
+
+fn is_group(item: &Bre) -> bool {
+    matches!(item, Bre::Group(_, _))
+}
+
+#[cycle(groups)]
+fn one_repeats_group(items: &[Bre]) -> bool {
+    for item in items {
+        if repeats_group(item) {
+            return true;
+        }
+    }
+    false
 }
 
 /// The first match that begins at the offset or after it.
