@@ -182,7 +182,7 @@ function cancel() {
 
 const REPLIES = {
   accepted: ["yes", "Accepted.", "Every run of this script ends, and touches only the files listed below."],
-  loop: ["no", "No.", "A run of this script may never end: the loop below rules out every certificate. There may be no input that runs it for ever."],
+  loop: ["no", "No.", "A run of this script may never end: the loop below rules out every certificate."],
   "script-refused": ["no", "Refused.", "This isn't a script that sedck reads, so nothing is known of its runs."],
 };
 
@@ -196,7 +196,7 @@ function setVerdict(kind, head, text, ...more) {
   const box = byId("verdict");
   box.className = "verdict " + kind;
   setBusy(false);
-  box.replaceChildren(make("p", {}, make("strong", {}, head), " " + text), ...more.filter((part) => part !== null));
+  box.replaceChildren(make("p", {}, make("strong", {}, head), " ", ...withCode(text)), ...more.filter((part) => part !== null));
 }
 
 function showUnknown(why) {
@@ -237,6 +237,15 @@ function parsed(verdict) {
   }
 }
 
+/** What is known of the input on which the script never ends: the lines, where the report has some. */
+function inputOf(report) {
+  if (report.answer !== "loop") return "";
+  const messages = report.findings.map((finding) => finding.message);
+  const known = messages.map((message) => /in the POSIX locale the script (never ends on the lines? `.*)$/.exec(message)).find((match) => match !== null);
+  if (known) return " In the POSIX locale it " + known[1] + ".";
+  return messages.some((message) => message.endsWith("it never ends once it is entered")) ? "" : " There may be no input that runs it for ever.";
+}
+
 function showVerdict(verdict) {
   const report = parsed(verdict);
   if (!report || !REPLIES[report.answer]) {
@@ -249,7 +258,7 @@ function showVerdict(verdict) {
   }
   const [kind, head, text] = REPLIES[report.answer];
   const isYes = report.answer === "accepted", hasWarning = report.findings.some((finding) => finding.level === "warning");
-  setVerdict(kind, head, text + (isYes && hasWarning ? " Read the warnings first: it may not hold for your sed." : ""), isYes ? make("p", { class: "aside" }, "The small module has checked the certificate, and accepted it.") : null);
+  setVerdict(kind, head, text + inputOf(report) + (isYes && hasWarning ? " Read the warnings first: it may not hold for your sed." : ""), isYes ? make("p", { class: "aside" }, "The small module has checked the certificate, and accepted it.") : null);
   const parts = [...report.findings.map(findingBox), loopListing(report)];
   if (isYes) parts.push(...limitsOf(report), ...filesOf(report), ...certificateOf(verdict));
   byId("report").replaceChildren(...parts.filter((part) => part !== null), make("div", { id: "rest" }));

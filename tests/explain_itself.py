@@ -91,8 +91,35 @@ def check_runs(tools):
                 tools.same("%s: sed runs on by it, and ends by a copy" % write, [runs_on(folder, path, script) for path in ("self.sed", "copy.sed")], [True, False])
 
 
+# Words of a call of sed, and how many warnings there are. Of the files `write.sed` has `w write.sed`, and `other.sed` has `p`.
+CALLS = [
+    (["-n", "-f", "write.sed", "in"], 1), (["-nfwrite.sed", "in"], 1), (["--file=./write.sed", "in"], 1), (["-f", "sub/../write.sed"], 1), (["-f", "sub/write.sed"], 1),
+    (["-f", "other.sed", "-f", "write.sed"], 1), (["-f", "other.sed", "-e", "w other.sed"], 1), (["-f", "other.sed", "-f", "write.sed", "-e", "w other.sed"], 2),
+    (["-e", "w write.sed", "in"], 0), (["w -"], 0), (["-f", "other.sed", "-e", "w in", "x"], 0), (["-f", "other.sed", "-e", "r other.sed"], 0), (["-f", "-"], 0),
+]
+
+
+def check_calls(tools):
+    """Of a call each file of `-f` is one that the script may name."""
+    for path, text in (("write.sed", b"w write.sed\n"), ("sub/write.sed", b"w write.sed\n"), ("other.sed", b"p\n")):
+        tools.write(path, text)
+    for words, due in CALLS:
+        status, report, _ = tools.explain("--format", "json", "--sed", "--", *words, given=b"w -\n")
+        tools.same("the call %s" % words, (status, len(places(json.loads(report)))), (0, due))
+        tools.same("the call %s with a denial" % words, tools.explain("--deny", CODE, "--sed", "--", *words, given=b"w -\n")[0], 1 if due else 0)
+    if is_gnu():
+        # The file's first block ends in the middle of a name.
+        head, tail = "w write.sed\n#", "\nw outfile\n"
+        with tempfile.TemporaryDirectory(prefix="sedck-itself-") as folder:
+            with open(os.path.join(folder, "write.sed"), "w") as file:
+                file.write(head + "x" * (BLOCK - len(head) - len(tail) + len("file\n")) + tail)
+            subprocess.run(["sed", "-n", "-f", "write.sed"], cwd=folder, input=b"x\n", capture_output=True, timeout=30, check=False)
+            tools.same("what sed makes by a call that is warned of", sorted(os.listdir(folder)), ["out", "write.sed"])
+
+
 def check(tools: Tools) -> None:
     """Compares which scripts are warned of, and what a sed makes of some."""
     check_rows(tools)
+    check_calls(tools)
     check_folders(tools)
     check_runs(tools)

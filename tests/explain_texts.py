@@ -6,10 +6,10 @@ from refusals import both, certificate
 
 IDLE = "this loop reads no line and never shortens the pattern space: it may run forever"
 CERTAIN = "this loop reads no line and never shortens the pattern space: it never ends once it is entered"
-ENDLESS = CERTAIN + ", and the script never ends on the line `x`"
-ON_TWO = "this loop reads no line and never shortens the pattern space: the script never ends on the lines `x` and `x`"
+ENDLESS = CERTAIN + ", and in the POSIX locale the script never ends on the line `x` with a newline"
+ON_TWO = "this loop reads no line and never shortens the pattern space: in the POSIX locale the script never ends on the lines `x` and `x` with newlines"
 GROWING = "this loop reads no line and may lengthen the pattern space each time: it may run forever"
-ON_ONE = "this loop reads no line and may lengthen the pattern space each time: the script never ends on the line `x`"
+ON_ONE = "this loop reads no line and may lengthen the pattern space each time: in the POSIX locale the script never ends on the line `x` with a newline"
 ROUND = ("make each round read a line, with `n`, `N` or `d`, or shorten the pattern space; or write the commands out a fixed number "
          "of times")
 ONCE = ("write one `s` with the flag `g`, and then `t c` and `:c`, since the loop leaves the flag of `t` unset: it does the same, since "

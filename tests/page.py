@@ -267,7 +267,8 @@ def hold_look(built, tab, width, scheme):
     tab.open(PAGE)
     tab.until(SETTLED)
     what = "%s at %d" % (scheme, width)
-    holds("the verdict of the first example, " + what, tab.value(VERDICT).startswith("No."))
+    said = tab.value(VERDICT)
+    holds("the verdict of the first example, " + what, said.startswith("No.") and "never ends on the line x with a newline" in said and "no input" not in said)
     same("the ground, " + what, tab.value("getComputedStyle(document.body).backgroundColor"), {"light": "rgb(255, 255, 255)", "dark": "rgb(13, 17, 23)"}[scheme])
     for example in built.facts["examples"]:
         tab.value("byId('example').value = %s; byId('example').dispatchEvent(new Event('change'))" % json.dumps(example["name"]))

@@ -50,10 +50,10 @@ fn unplaced_files<'a>(alloc: Global, names: &[&'a [u8]]) -> Result<Vec<NamedFile
     Ok(files)
 }
 
-/// The files of a script: the path of its own, if it has one, the operands of its call, and those that it names.
+/// The files of a script: the paths of its own ones, the operands of its call, and those that it names.
 #[derive(Clone, Copy)]
 pub struct NamedFiles<'a> {
-    pub own: Option<&'a [u8]>,
+    pub own: &'a [&'a [u8]],
     pub inputs: &'a [&'a [u8]],
     pub reads: &'a [NamedFile<'a>],
     pub writes: &'a [NamedFile<'a>],

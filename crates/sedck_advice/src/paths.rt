@@ -28,12 +28,14 @@ impl<'a> Paths<'a> {
         Ok(Paths { files, sorted })
     }
 
-    /// Whether the last part of this name is that of the script's own path: from which folder sed will be called is unknown.
+    /// Whether the last part of this name is that of a path of the script's own: from which folder sed will be called is unknown.
     pub(crate) fn is_own(&self, name: &[u8]) -> bool {
-        match self.files.own {
-            Some(own) => last_part(own) == last_part(name),
-            None => false,
+        for own in self.files.own {
+            if last_part(own) == last_part(name) {
+                return true;
+            }
         }
+        false
     }
 
     /// Whether the name leads to an operand of the call. The operand `-` is standard input.

@@ -14,6 +14,7 @@ mod warnings;
 
 pub use certificates::{certificate_refusal, rejection};
 pub use denied::{Deniable, Denied, has_reads, has_writes, with_denials};
+pub use endless::LineEnd;
 pub use ends::with_end;
 pub use loops::{growth_note, loop_finding};
 pub use refusals::script_refusal;

@@ -5,7 +5,7 @@ ghost use Rattle.sedck_report.specs.declared.finding.Level.TheVariants.{Error, N
 ghost use Rattle.sedck_errors.specs.Errors.{first_position};
 
 use crate::certain::is_repeated_once;
-use crate::endless::add_ending;
+use crate::endless::{LineEnd, add_ending};
 use crate::steps::{position_of, step, target_step};
 use sedck_cert::{Cert, Limits, first_growth};
 use sedck_flow::{Edge, Kind, Node};
@@ -14,19 +14,20 @@ use sedck_script::{Address, Part, Pattern, Script, Substitution, Verb};
 use sedck_search::{Form, Walk};
 use std::alloc::{AllocError, Global};
 
-/// The finding for a loop that rules all certificates out.
+/// The finding for a loop that rules all certificates out, where lines end so.
 pub fn loop_finding(
     alloc: Global,
     script: &Script,
     positions: &[Position],
     walk: &Walk,
+    line_end: LineEnd,
 ) -> Result<Finding, AllocError>
     ensures level { IfOk result (λ finding. finding.level ≡ Error) }
     ensures position { IfOk result (λ finding. finding.position ≡ first_position positions.now walk.now.nodes.items) }
 {
     let (code, words) = loop_words(walk.form);
     let mut message = String::from_str(alloc, words)?;
-    add_ending(alloc, &mut message, script, walk)?;
+    add_ending(alloc, &mut message, script, walk, line_end)?;
     let steps = loop_steps(alloc, script, positions, walk)?;
     let mut finding = Finding::new(alloc, Level::Error, code, message);
     finding.position = loop_position(positions, walk);

@@ -5,11 +5,11 @@ ghost use Rattle.sedck_explanation.specs.Called.{IsCalled, IsDenied, is_denied_c
 ghost use Rattle.sedck_explanation.specs.Explanations.{IsExplanation, Keeps};
 ghost use Rattle.sedck_answer.specs.Status.{IsOfAnswer};
 
-use crate::explaining::explain_call;
+use crate::explaining::{Beside, explain_call};
 use crate::options::{call_warnings, denied_overwriting, is_in_place};
 use sedck_answer::{Explanation, Status};
-use sedck_call::Call;
-use sedck_errors::Denied;
+use sedck_call::{Call, CallOption, Given, Piece};
+use sedck_errors::{Denied, LineEnd};
 use sedck_report::{Code, Finding, Level};
 use std::alloc::{AllocError, Global};
 
@@ -28,7 +28,13 @@ pub fn explain_called<'a>(
 {
     let warnings = call_warnings(alloc, words, call, !text.is_empty())?;
     let inputs = inputs_of(alloc, words, call)?;
-    let explanation = explain_call(alloc, text, &inputs, warnings, denied)?;
+    let own = script_files(alloc, words, call)?;
+    let beside = Beside {
+        own: &own,
+        inputs: &inputs,
+        line_end: line_end_of(call),
+    };
+    let explanation = explain_call(alloc, text, beside, warnings, denied)?;
     if is_denied_call(denied, call, explanation.status) {
         return denied_call(alloc, words, call, explanation);
     }
@@ -48,6 +54,34 @@ fn inputs_of<'a>(
         }
     }
     Ok(inputs)
+}
+
+/// The files that the script is in, by their paths. The path `-` is standard input.
+fn script_files<'a>(
+    alloc: Global,
+    words: &[&'a [u8]],
+    call: &Call,
+) -> Result<Vec<&'a [u8]>, AllocError> {
+    let mut files = Vec::new(alloc);
+    for piece in &call.pieces {
+        if let Piece::File(origin) = *piece {
+            let path = origin.text(words);
+            if path != b"-".as_slice() {
+                files.push(path)?;
+            }
+        }
+    }
+    Ok(files)
+}
+
+/// With what lines end for the call.
+fn line_end_of(call: &Call) -> LineEnd {
+    for given in &call.given {
+        if let Given::Alone(CallOption::NullData, _) = *given {
+            return LineEnd::Zero;
+        }
+    }
+    LineEnd::Newline
 }
 
 /// Whether the script is accepted, but the call overwrites operands where writing is denied.

@@ -23,8 +23,8 @@ use sedck_advice::{
 };
 use sedck_answer::{Answer, Explanation, Status};
 use sedck_errors::{
-    Deniable, Denied, certificate_refusal, growth_note, loop_finding, rejection, script_refusal,
-    with_denials,
+    Deniable, Denied, LineEnd, certificate_refusal, growth_note, loop_finding, rejection,
+    script_refusal, with_denials,
 };
 use sedck_report::{Finding, NamedFile, Position, positions};
 use sedck_script::{Access, Located, Location, Script};
@@ -42,33 +42,47 @@ pub fn explain<'a>(
     ensures explanation { IfOk result (IsExplanation text.now (option_map (λ bytes. bytes.now) certificate.entry) denied) }
     ensures few { IfOk result (λ e. IsOfAnswer e.status) }
 {
+    let mut paths = Vec::new(alloc);
+    if let Some(path) = own {
+        paths.push(path)?;
+    }
+    let beside = Beside {
+        own: &paths,
+        inputs: &[],
+        line_end: LineEnd::Newline,
+    };
     let asked = Asked {
         text,
-        own,
-        inputs: &[],
+        beside,
         warnings: Vec::new(alloc),
         denied,
     };
     explained_with(alloc, certificate, asked)
 }
 
-/// A script's text with what is known beside it: the path of its file, if it has one, the operands of its call, what is warned of that
-/// call, and what is denied.
+/// What is known beside a script's text: the paths of its files, the operands of its call, and with what lines end.
+#[derive(Clone, Copy)]
+pub(crate) struct Beside<'i> {
+    pub own: &'i [&'i [u8]],
+    pub inputs: &'i [&'i [u8]],
+    pub line_end: LineEnd,
+}
+
+/// A script's text, what is known beside it, what is warned of its call, and what is denied.
 #[derive(Drop)]
 struct Asked<'i, 'a> {
     text: &'a [u8],
-    own: Option<&'i [u8]>,
-    inputs: &'i [&'i [u8]],
+    beside: Beside<'i>,
     warnings: Vec<Finding>,
     denied: Denied,
 }
 
-/// Explains the script of a call of sed with these operands, as `explain` does without a certificate. What is warned of the call is
-/// reported with the script's own warnings, and is denied with them.
+/// Explains the script of a call of sed, as `explain` does without a certificate. What is warned of the call is reported with the script's
+/// own warnings, and is denied with them.
 pub(crate) fn explain_call<'a>(
     alloc: Global,
     text: &'a [u8],
-    inputs: &[&[u8]],
+    beside: Beside,
     warnings: Vec<Finding>,
     denied: Denied,
 ) -> Result<Explanation<'a>, AllocError>
@@ -80,8 +94,7 @@ pub(crate) fn explain_call<'a>(
 {
     let asked = Asked {
         text,
-        own: None,
-        inputs,
+        beside,
         warnings,
         denied,
     };
@@ -190,22 +203,22 @@ fn reports(
 {
     let Asked {
         text,
-        own,
-        inputs,
+        beside,
         mut warnings,
         denied,
     } = asked;
     let locations = &located.locations;
     let words = ignoring_words(alloc, text)?;
-    let mut found = answer_findings(alloc, text, &located.script, &lists.positions, answer)?;
+    let end = beside.line_end;
+    let mut found = answer_findings(alloc, text, &located.script, &lists.positions, answer, end)?;
     found.append(&mut warnings)?;
     due_warnings(alloc, &mut found, text, located, denied)?;
     let script = ReadScript {
         text,
         locations,
         files: NamedFiles {
-            own,
-            inputs,
+            own: beside.own,
+            inputs: beside.inputs,
             reads: &lists.reads,
             writes: &lists.writes,
         },
@@ -394,13 +407,14 @@ fn answer_findings(
     script: &Script,
     positions: &[Position],
     answer: &Answer,
+    end: LineEnd,
 ) -> Result<Vec<Finding>, AllocError>
     requires { CanBeReported text.now answer.now }
     ensures answer { IfOk result (λ findings. AreFindingsOf text.now positions.now answer.now findings.items) }
     ensures locale { IfOk result (λ findings. has_locale findings.items ≡ false) }
 {
     let mut findings = Vec::new(alloc);
-    let Some(finding) = answer_finding(alloc, text, script, positions, answer)? else {
+    let Some(finding) = answer_finding(alloc, text, script, positions, answer, end)? else {
         return Ok(findings);
     };
     findings.push(finding)?;
@@ -414,6 +428,7 @@ fn answer_finding(
     script: &Script,
     positions: &[Position],
     answer: &Answer,
+    end: LineEnd,
 ) -> Result<Option<Finding>, AllocError>
     requires { CanBeReported text.now answer.now }
     ensures answer { IfOk result (IsFindingOf text.now positions.now answer.now) }
@@ -425,7 +440,7 @@ fn answer_finding(
         Answer::Rejected { cert, why } => {
             Ok(Some(rejection(alloc, script, positions, cert, *why)?))
         }
-        Answer::Endless(walk) => Ok(Some(loop_finding(alloc, script, positions, walk)?)),
+        Answer::Endless(walk) => Ok(Some(loop_finding(alloc, script, positions, walk, end)?)),
         Answer::Accepted { cert, limits } => growth_note(alloc, script, positions, cert, *limits),
         Answer::NotJudged => Ok(None),
     }
