@@ -107,7 +107,7 @@ def check_calls(tools):
         status, report, _ = tools.explain("--format", "json", "--sed", "--", *words, given=b"w -\n")
         tools.same("the call %s" % words, (status, len(places(json.loads(report)))), (0, due))
         tools.same("the call %s with a denial" % words, tools.explain("--deny", CODE, "--sed", "--", *words, given=b"w -\n")[0], 1 if due else 0)
-    if is_gnu():
+    if has_gnu_sed("explain", "a call that writes the file of its script, as it runs on"):
         # The file's first block ends in the middle of a name.
         head, tail = "w write.sed\n#", "\nw outfile\n"
         with tempfile.TemporaryDirectory(prefix="sedck-itself-") as folder:
