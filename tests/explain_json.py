@@ -252,10 +252,10 @@ def check_certificates(tools):
 
 
 def check_paths(tools):
-    """Paths are just what was given; in ASCII. Other formats have a `?` for each control character, and `./` before a path whose line a host of
+    """Paths are just what was given; in ASCII. Other formats have a `?` for each character that isn't seen, and `./` before a path whose line a host of
     code would take for a command."""
     for name, shown in (("\u00e9\u2603\U0001f600.sed", None), ('"\\<b>&\'.sed', None), ("a\x1b[31m\n\u009b\x7f.sed", "a?[31m???.sed"),
-                        ("::error::x.sed", "./::error::x.sed"), ("\t \u3000:x.sed", "./? \u3000:x.sed"), ("x::y.sed", None)):
+                        ("::error::x.sed", "./::error::x.sed"), ("\t \u3000:x.sed", "./? ?:x.sed"), ("x::y.sed", None)):
         tools.write(name, b"b z\n")
         report, = reports(tools, [name])
         tools.same("path %r" % name, report["file"], name)

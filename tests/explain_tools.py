@@ -74,13 +74,13 @@ def is_letter(data):
         return False
 
 
-# Characters that aren't shown and that Unicode has neither as controls, nor as formats, nor as separators.
+# Characters that aren't shown, though some of them are letters or marks to Unicode.
 UNSEEN = re.compile("[\u034f\u115f\u1160\u17b4\u17b5\u180b-\u180f\u2060-\u206f\u3164\ufdd0-\ufdef\ufe00-\ufe0f\uffa0\ufff0-\uffff\U000e0000-\U000e0fff]")
 
 
 def is_seen(letter: str) -> bool:
     """Whether a page shows the character: a blank, or none that has no shape of its own, or turns or separates what is around it."""
-    hidden = unicodedata.category(letter) in ("Cc", "Cf", "Cs", "Co", "Zs", "Zl", "Zp") or ord(letter) & 0xfffe == 0xfffe
+    hidden = unicodedata.category(letter) in ("Cc", "Cf", "Cs", "Co", "Cn", "Zs", "Zl", "Zp")
     return letter == " " or not (hidden or UNSEEN.fullmatch(letter))
 
 
