@@ -98,6 +98,9 @@ def ended(words: list[str], environment: dict[str, str]) -> int:
         raise Stopped
 
     before = signal.signal(signal.SIGTERM, stop)
+    # What a shell starts in the background ignores SIGINT, and hands that down.
+    if signal.getsignal(signal.SIGINT) == signal.SIG_IGN:
+        signal.signal(signal.SIGINT, signal.default_int_handler)
     with subprocess.Popen(words, cwd=TOP, env=environment) as running:
         try:
             return running.wait()
