@@ -1,5 +1,5 @@
 -- What two reads of a file gave, one after the other, and the status of what was read.
-use Rattle.sedck_calls_in_files.proofs.Common.{◌≡◌, ◌∙◌, ◌+◌, ◌≤◌, ℕ, Bool, true, false, inl, inr, List, ◌++◌, length, Option, Some, None, IfSome, refl, sym, ap, subst, arith, true≢false, Denied, known_bytes, Status, TextStatus, PathStatus, IsHeldAt, ContentsStatus}
+use Rattle.sedck_calls_in_files.proofs.Common.{◌≡◌, ◌∙◌, ◌+◌, ◌≤◌, ℕ, Bool, true, false, inl, inr, List, ◌++◌, length, Option, Some, None, IfSome, refl, sym, ap, subst, arith, true≢false, AskedOfCalls, known_bytes, Status, TextStatus, PathStatus, IsHeldAt, ContentsStatus}
 use Rattle.std.proofs.Common.{IsTrue, codes, length-append}
 use Rattle.std.proofs.lemmas.List.{length-take, take_all}
 use Rattle.std.specs.Io.KnownBytes.{Consumes}
@@ -57,14 +57,14 @@ held_file k path left failed Unopened is same fails held = absurd held
 held_file k path left failed Unreadable is same fails held = inl (fails held)
 
 -- the status of what is at a path
-pub held_status : (k : Known) (found : List ℕ → List ℕ → Option Holds) (denied : Denied) (path : List ℕ) (c : Contents) (status : Status)
-    → IsHeldAt k path c → ContentsStatus (found path) denied c status → PathStatus k found denied path status
-held_status k found denied path (Text kind text) status held has = inr (inr (of_known (known_bytes k path) held))
+pub held_status : (k : Known) (found : List ℕ → List ℕ → Option Holds) (asked : AskedOfCalls) (path : List ℕ) (c : Contents) (status : Status)
+    → IsHeldAt k path c → ContentsStatus (found path) asked c status → PathStatus k found asked path status
+held_status k found asked path (Text kind text) status held has = inr (inr (of_known (known_bytes k path) held))
   where
-    of_known : (known : Option (List ℕ)) → IfSome known (λ bytes. text.items ≡ bytes) → IfSome known (λ bytes. TextStatus (found path bytes) denied bytes status)
+    of_known : (known : Option (List ℕ)) → IfSome known (λ bytes. text.items ≡ bytes) → IfSome known (λ bytes. TextStatus (found path bytes) asked bytes status)
     of_known None held = tt
-    of_known (Some bytes) held = subst (λ text. TextStatus (found path text) denied text status) held has
-held_status k found denied path Other status held has = absurd held
-held_status k found denied path TooLong status held has = inl has
-held_status k found denied path Unopened status held has = inl has
-held_status k found denied path Unreadable status held has = inl has
+    of_known (Some bytes) held = subst (λ text. TextStatus (found path text) asked text status) held has
+held_status k found asked path Other status held has = absurd held
+held_status k found asked path TooLong status held has = inl has
+held_status k found asked path Unopened status held has = inl has
+held_status k found asked path Unreadable status held has = inl has

@@ -7,4 +7,9 @@ agrees_on one two three first second = record {
   script = second.script ∙ first.script;
   reads = second.reads ∙ first.reads;
   writes = second.writes ∙ first.writes;
+  findings = record {
+    kept = λ is has. second.findings.kept is (first.findings.kept is has);
+    errors = second.findings.errors ∙ first.findings.errors;
+    locale = second.findings.locale ∙ first.findings.locale;
+  };
 }

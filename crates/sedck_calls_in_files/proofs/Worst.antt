@@ -1,22 +1,22 @@
 -- The worst status, a call after the other.
-use Rattle.sedck_calls_in_files.proofs.Common.{◌<◌, ◌+◌, ℕ, List, [], ◌∷◌, ◌++◌, map, length, get_or, take, sym, ap, subst, Denied, worse, Status, Accepted, Explanation, FoundCall, IsSaidOfFound, IsWorst, IsWorstOf}
+use Rattle.sedck_calls_in_files.proofs.Common.{◌<◌, ◌+◌, ℕ, List, [], ◌∷◌, ◌++◌, map, length, get_or, take, sym, ap, subst, AskedOfCalls, worse, Status, Accepted, Explanation, FoundCall, IsSaidOfFound, IsWorst, IsWorstOf}
 use Rattle.std.proofs.lemmas.List.{take_more, map-append}
 
 -- one call more
-worst_snoc : (file : List ℕ) (denied : Denied) (known : Status) (calls : List FoundCall) (found : FoundCall) (status : Status) (e : Explanation)
-    → IsWorst file denied known calls status → IsSaidOfFound file denied found e
-    → IsWorst file denied known (calls ++ found ∷ []) (worse status e.status)
-worst_snoc file denied known [] found status e worst said = (e, said, ap (λ s. worse s e.status) worst)
-worst_snoc file denied known (first ∷ calls) found status e worst said =
-    (worst.0, worst.1, worst_snoc file denied (worse known worst.0.status) calls found status e worst.2 said)
+worst_snoc : (file : List ℕ) (asked : AskedOfCalls) (known : Status) (calls : List FoundCall) (found : FoundCall) (status : Status) (e : Explanation)
+    → IsWorst file asked known calls status → IsSaidOfFound file asked found e
+    → IsWorst file asked known (calls ++ found ∷ []) (worse status e.status)
+worst_snoc file asked known [] found status e worst said = (e, said, ap (λ s. worse s e.status) worst)
+worst_snoc file asked known (first ∷ calls) found status e worst said =
+    (worst.0, worst.1, worst_snoc file asked (worse known worst.0.status) calls found status e worst.2 said)
 
-pub next_worst : (file : List ℕ) (denied : Denied) (known : Status) (calls : List FoundCall) (i : ℕ) (d : FoundCall) (status : Status) (e : Explanation)
-    → i < length calls → IsWorst file denied known (take i calls) status
-    → IsSaidOfFound file denied (get_or calls i d) e
-    → IsWorst file denied known (take (i + 1) calls) (worse status e.status)
-next_worst file denied known calls i d status e within worst said =
-    subst (λ front. IsWorst file denied known front (worse status e.status)) (sym (take_more calls i d within))
-    (worst_snoc file denied known (take i calls) (get_or calls i d) status e worst said)
+pub next_worst : (file : List ℕ) (asked : AskedOfCalls) (known : Status) (calls : List FoundCall) (i : ℕ) (d : FoundCall) (status : Status) (e : Explanation)
+    → i < length calls → IsWorst file asked known (take i calls) status
+    → IsSaidOfFound file asked (get_or calls i d) e
+    → IsWorst file asked known (take (i + 1) calls) (worse status e.status)
+next_worst file asked known calls i d status e within worst said =
+    subst (λ front. IsWorst file asked known front (worse status e.status)) (sym (take_more calls i d within))
+    (worst_snoc file asked known (take i calls) (get_or calls i d) status e worst said)
 
 -- ---- Paths
 

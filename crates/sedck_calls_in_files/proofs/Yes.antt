@@ -1,5 +1,5 @@
 -- What a yes says of a call.
-use Rattle.sedck_calls_in_files.proofs.Common.{◌≡◌, ◌∙◌, inl, inr, ℕ, Bool, true, false, List, [], ◌∷◌, None, refl, sym, ap, true≢false, IsCall, IsCalled, Denied, Status, Explanation, FoundCall, words_of, is_open, status_with, IsJudged, IsSaidOfCall, IsSaidOfText, IsSaidOf, IsSaidOfFound, IsAcceptedFound, denied_of, has_set}
+use Rattle.sedck_calls_in_files.proofs.Common.{◌≡◌, ◌∙◌, inl, inr, ℕ, Bool, true, false, List, [], ◌∷◌, None, refl, sym, ap, true≢false, IsCall, IsCalled, Denied, Status, Explanation, FoundCall, words_of, is_open, status_with, IsJudged, IsSaidOfCall, IsSaidOfText, IsSaidOf, IsSaidOfFound, IsAcceptedFound, AskedOfCalls, denied_of, is_set_in}
 use Rattle.std.proofs.Common.{◌⊎◌, MatchBool}
 use Rattle.sedck_call.specs.declared.call.Call.{Call}
 use Rattle.sedck_explanation.specs.Called.{has_foreign, is_denied_call, IsDenied}
@@ -91,11 +91,11 @@ yes_of_script file denied words (Foreign call) e said is = absurd (yes_is_judged
 yes_of_script file denied words (Refused fault) e said is = absurd (yes_is_judged exit.Refused e refl said is)
 yes_of_script file denied words (Unknown why) e said is = absurd (yes_is_judged exit.Unknown e refl said is)
 
-pub yes_of_found : (file : List ℕ) (denied : Denied) (found : FoundCall) (e : Explanation)
-    → IsSaidOfFound file denied found e → e.status ≡ exit.Accepted → IsAcceptedFound file denied found
-yes_of_found file denied found e said is =
-    let known = yes_is_known (has_set found.followed.items) said.before.status (sym said.is_status ∙ is) in
+pub yes_of_found : (file : List ℕ) (asked : AskedOfCalls) (found : FoundCall) (e : Explanation)
+    → IsSaidOfFound file asked found e → e.status ≡ exit.Accepted → IsAcceptedFound file asked found
+yes_of_found file asked found e said is =
+    let known = yes_is_known (is_set_in asked.assumed found) said.before.status (sym said.is_status ∙ is) in
     record {
-      accepted = yes_of_script file (denied_of found denied) found.words.items found.script said.before said.is_said known.1;
+      accepted = yes_of_script file (denied_of found asked.denied) found.words.items found.script said.before said.is_said known.1;
       unset = known.0;
     }

@@ -2,7 +2,7 @@
 
 ghost use Rattle.std.specs.Prelude.{◌≡◌, IfOk};
 ghost use Rattle.sedck_report.specs.Positions.{position_in};
-ghost use Rattle.sedck_calls_in_files.specs.Scanned.{IsWorst, TextStatus, unread_status};
+ghost use Rattle.sedck_calls_in_files.specs.Scanned.{asked_of, IsWorst, TextStatus, unread_status};
 
 use crate::answers::{call_report, path_report, write_report};
 use crate::conditions::Conditions;
@@ -22,7 +22,7 @@ pub fn explain_text<F: Finder, W: Sink>(
     counts: &mut Counts,
     out: &mut W,
 ) -> Result<Status, Unexplained>
-    ensures { IfOk result (TextStatus (F.found finder.now asked.now.file.path.now asked.now.file.text.now) asked.now.scan.now.denied asked.now.file.text.now) }
+    ensures { IfOk result (TextStatus (F.found finder.now asked.now.file.path.now asked.now.file.text.now) (asked_of asked.now.scan.now) asked.now.file.text.now) }
 {
     let found = finder.find(asked.alloc, &asked.file, asked.scan.assumed)?;
     counts.files = counts.files.saturating_add(1);
@@ -71,7 +71,7 @@ pub fn explain_calls<W: Sink>(
     counts: &mut Counts,
     out: &mut W,
 ) -> Result<Status, Unexplained>
-    ensures { IfOk result (IsWorst asked.now.file.text.now asked.now.scan.now.denied known calls.now) }
+    ensures { IfOk result (IsWorst asked.now.file.text.now (asked_of asked.now.scan.now) known calls.now) }
 {
     let text = asked.file.text;
     let mut conditions = Conditions::of(asked, calls, counts)?;
@@ -80,7 +80,7 @@ pub fn explain_calls<W: Sink>(
     let mut position = position_at(text, 0);
     for call in calls {
         position = call_position(text, position, call.start);
-        let explanation = explain_found(asked.alloc, text, position, call, asked.scan.denied)?;
+        let explanation = explain_found(asked.alloc, text, position, call, asked.scan)?;
         counts.add(CallAnswer::of(&explanation));
         status = status.worse(explanation.status);
         let reported = conditions.reported_once(explanation)?;

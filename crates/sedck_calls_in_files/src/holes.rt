@@ -4,6 +4,7 @@ ghost use Rattle.std.specs.Prelude.{◌≡◌, IfOk};
 ghost use Rattle.std.specs.List.{All};
 ghost use Rattle.sedck_report.specs.Positions.{position_in};
 ghost use Rattle.sedck_calls_in_files.specs.Placed.{IsFindingIn};
+ghost use Rattle.sedck_calls_in_files.specs.Private.Kinds.{IsWarningIn};
 
 use crate::places::Places;
 use sedck_explanation::{Code, Finding, Level, Position, call_finding, shown_name};
@@ -45,7 +46,7 @@ pub(crate) fn open_warnings(
     holes: &[OpenHole],
 ) -> Result<Vec<Finding>, AllocError>
     requires { places.old.file.now ≡ file.now }
-    ensures { IfOk result (λ findings. All (IsFindingIn file.now) findings.items) }
+    ensures { IfOk result (λ findings. All (IsWarningIn file.now) findings.items) }
 {
     let mut findings = Vec::new(alloc);
     for hole in holes {
@@ -63,7 +64,7 @@ fn open_warning(
 ) -> Result<Finding, AllocError>
     requires { places.old.file.now ≡ file.now }
     ensures file { places.new.file ≡ places.old.file }
-    ensures finding { IfOk result (IsFindingIn file.now) }
+    ensures finding { IfOk result (IsWarningIn file.now) }
 {
     let Hole { start, end, .. } = hole.hole;
     let message = hole_words(alloc, file, hole)?;
@@ -82,7 +83,7 @@ pub(crate) fn value_notes(
     followed: &[Followed],
 ) -> Result<Vec<Finding>, AllocError>
     requires { places.old.file.now ≡ file.now }
-    ensures { IfOk result (λ findings. All (IsFindingIn file.now) findings.items) }
+    ensures { IfOk result (λ findings. All (IsWarningIn file.now) findings.items) }
 {
     let mut findings = Vec::new(alloc);
     for one in followed {
@@ -100,7 +101,7 @@ fn value_note(
 ) -> Result<Finding, AllocError>
     requires { places.old.file.now ≡ file.now }
     ensures file { places.new.file ≡ places.old.file }
-    ensures finding { IfOk result (IsFindingIn file.now) }
+    ensures finding { IfOk result (IsWarningIn file.now) }
 {
     let message = followed_words(alloc, file, followed)?;
     let is_given = matches!(followed.value, KnownValue::Given | KnownValue::Unset);
@@ -163,7 +164,7 @@ pub(crate) fn overwriting_warning(
 ) -> Result<Finding, AllocError>
     requires { places.old.file.now ≡ file.now }
     ensures file { places.new.file ≡ places.old.file }
-    ensures finding { IfOk result (IsFindingIn file.now) }
+    ensures finding { IfOk result (IsWarningIn file.now) }
 {
     let written = shown_part(alloc, file, one.start, one.end)?;
     let message = overwriting_words(alloc, written.as_str(), one)?;

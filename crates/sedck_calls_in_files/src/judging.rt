@@ -4,20 +4,24 @@ ghost use Rattle.std.specs.Prelude.{◌≡◌, ◌≤◌, true, length, IfOk};
 ghost use Rattle.std.specs.List.{All};
 ghost use Rattle.sedck_report.specs.Positions.{position_in};
 ghost use Rattle.sedck_calls_in_files.specs.Placed.{IsFindingIn};
-ghost use Rattle.sedck_calls_in_files.specs.Judged.{Agrees, IsUnjudged, status_with, words_of, IsSaidOf, IsSaidOfText, IsSaidOfCall, IsSaidOfFound, IsJudged, IsAcceptedFound, denied_of, is_open as is_open_script, is_set as is_set_value, has_set as has_set_value};
+ghost use Rattle.sedck_calls_in_files.specs.Private.Kinds.{IsWarningIn};
+ghost use Rattle.sedck_calls_in_files.specs.Judged.{Agrees, IsUnjudged, status_with, words_of, IsSaidOf, IsSaidOfText, IsSaidOfCall, IsSaidOfFound, IsJudged, IsAcceptedFound, denied_of, is_open as is_open_script, is_set_in as is_set_in_call};
+ghost use Rattle.sedck_calls_in_files.specs.Scanned.{asked_of};
 
 use crate::holes::{
     open_warnings, overwriting_warning, unknown_warning, unread_warning, value_notes, written_words,
 };
 use crate::placed::{place_findings, placed};
 use crate::places::Places;
+use crate::request::Scan;
 use crate::tracing::{bytes_of, is_in_file, slices_of};
+use crate::values::is_set_in;
 use sedck_call::{Call, CallFault, call_of};
 use sedck_explanation::{
     Denied, Explanation, Finding, Position, Status, explain_called, foreign_findings, has_foreign,
     not_judged, refusal_of,
 };
-use sedck_find::{Followed, FoundCall, FoundScript, KnownValue, OpenHole, Unknown};
+use sedck_find::{Assumed, FoundCall, FoundScript, OpenHole, Unknown};
 use sedck_origin::{Traced, has_hole};
 use std::alloc::{AllocError, Global};
 
@@ -31,12 +35,12 @@ pub fn explain_found<'a>(
     file: &'a [u8],
     position: Position,
     found: &'a FoundCall,
-    denied: Denied,
+    scan: &Scan,
 ) -> Result<Explanation<'a>, AllocError>
     requires { position ≡ position_in file.now position.offset }
-    ensures said { IfOk result (IsSaidOfFound file.now denied found.now) }
+    ensures said { IfOk result (IsSaidOfFound file.now (asked_of scan.now) found.now) }
     ensures places { IfOk result (λ e. All (IsFindingIn file.now) e.findings.items) }
-    ensures yes { IfOk result (λ e. e.status ≡ Status.Accepted → IsAcceptedFound file.now denied found.now) }
+    ensures yes { IfOk result (λ e. e.status ≡ Status.Accepted → IsAcceptedFound file.now (asked_of scan.now) found.now) }
 {
     let written = written_words(alloc, file, &found.words)?;
     let shown = slices_of(alloc, &written)?;
@@ -46,10 +50,10 @@ pub fn explain_found<'a>(
         position,
         words: &found.words,
         shown: &shown,
-        denied: with_locale(denied, found),
+        denied: with_locale(scan.denied, found),
     };
     let explanation = explain_found_script(&given, &found.script)?;
-    with_values(alloc, file, position, explanation, found)
+    with_values(&given, explanation, found, scan.assumed.variables)
 }
 
 /// A call in a file.
@@ -101,52 +105,54 @@ fn explain_found_script<'a>(
 /// The explanation with a warning for each variable that is replaced by its value, and for an output that goes to what is read. It is no
 /// yes where the file sets such a value.
 fn with_values<'a>(
-    alloc: Global,
-    file: &[u8],
-    position: Position,
+    given: &Given<'a, '_>,
     explanation: Explanation<'a>,
     found: &FoundCall,
+    assumed: &[Assumed],
 ) -> Result<Explanation<'a>, AllocError>
-    requires position { position ≡ position_in file.now position.offset }
-    requires findings { All (IsFindingIn file.now) explanation.findings.items }
+    requires position { given.now.position ≡ position_in given.now.file.now given.now.position.offset }
+    requires findings { All (IsFindingIn given.now.file.now) explanation.findings.items }
     ensures agrees { IfOk result (Agrees explanation.entry) }
-    ensures status { IfOk result (λ e. e.status ≡ status_with (has_set_value found.now.followed.items) explanation.entry.status) }
-    ensures places { IfOk result (λ e. All (IsFindingIn file.now) e.findings.items) }
+    ensures status { IfOk result (λ e. e.status ≡ status_with (is_set_in_call assumed.now found.now) explanation.entry.status) }
+    ensures places { IfOk result (λ e. All (IsFindingIn given.now.file.now) e.findings.items) }
 {
     let mut explanation = explanation;
-    let mut places = Places::new(alloc, file, position, &[])?;
-    if let Some(one) = found.overwritten {
-        let warning = overwriting_warning(alloc, file, &mut places, one)?;
-        explanation.findings.push(warning)?;
-    }
-    let mut notes = value_notes(alloc, file, &mut places, &found.followed)?;
-    explanation.findings.append(&mut notes)?;
-    explanation.status = status_of(explanation.status, &found.followed);
+    let mut warnings = value_warnings(given, found)?;
+    explanation.findings.append(&mut warnings)?;
+    explanation.status = status_of(explanation.status, is_set_in(assumed, found));
     Ok(explanation)
 }
 
-/// The status of what is said of a call, where these variables are replaced by their values.
-fn status_of(status: Status, followed: &[Followed]) -> Status
-    ensures { result ≡ status_with (has_set_value followed.now) status }
+/// Those warnings.
+fn value_warnings(given: &Given, found: &FoundCall) -> Result<Vec<Finding>, AllocError>
+    requires { given.now.position ≡ position_in given.now.file.now given.now.position.offset }
+    ensures { IfOk result (λ warnings. All (IsWarningIn given.now.file.now) warnings.items) }
 {
-    if has_set(followed) && status.is_accepted() {
+    let Given {
+        alloc,
+        file,
+        position,
+        ..
+    } = *given;
+    let mut places = Places::new(alloc, file, position, &[])?;
+    let mut warnings = Vec::new(alloc);
+    if let Some(one) = found.overwritten {
+        let warning = overwriting_warning(alloc, file, &mut places, one)?;
+        warnings.push(warning)?;
+    }
+    let mut notes = value_notes(alloc, file, &mut places, &found.followed)?;
+    warnings.append(&mut notes)?;
+    Ok(warnings)
+}
+
+/// The status of what is said of a call, where a value that the file sets may be put in.
+fn status_of(status: Status, is_set: bool) -> Status
+    ensures { result ≡ status_with is_set status }
+{
+    if is_set && status.is_accepted() {
         return Status::Unknown;
     }
     status
-}
-
-/// Whether the file sets one of the values.
-fn has_set(followed: &[Followed]) -> bool
-    ensures { result ≡ has_set_value followed.now }
-{
-    followed.iter().any(|one| is_set(one.value))
-}
-
-/// Whether the file sets the value.
-fn is_set(value: KnownValue) -> bool
-    ensures { result ≡ is_set_value value }
-{
-    !matches!(value, KnownValue::Given | KnownValue::Unset)
 }
 
 /// Explains the call, whose script is this text.
@@ -225,7 +231,7 @@ fn opened<'a>(
     warnings: Vec<Finding>,
 ) -> Result<Explanation<'a>, AllocError>
     requires findings { All (IsFindingIn file.now) explanation.findings.items }
-    requires warnings { All (IsFindingIn file.now) warnings.items }
+    requires warnings { All (IsWarningIn file.now) warnings.items }
     ensures agrees { IfOk result (Agrees explanation.entry) }
     ensures status { IfOk result (λ e. e.status ≡ status_with true explanation.entry.status) }
     ensures places { IfOk result (λ e. All (IsFindingIn file.now) e.findings.items) }

@@ -20,6 +20,7 @@ mod places;
 mod reading;
 mod request;
 mod tracing;
+mod values;
 mod walk;
 
 pub use delivery::{Named, Reporter, deliver};

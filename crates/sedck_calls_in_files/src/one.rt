@@ -2,7 +2,7 @@
 
 ghost use Rattle.std.specs.Prelude.{◌≡◌, ◌≢◌, Contains, None, IfSome};
 ghost use Rattle.std.specs.Io.KnownBytes.{Keeps};
-ghost use Rattle.sedck_calls_in_files.specs.Scanned.{SpellsOne};
+ghost use Rattle.sedck_calls_in_files.specs.Scanned.{asked_of, SpellsOne};
 ghost use Rattle.sedck_calls_in_files.specs.Private.Spelling.{SpellsCall, SpellsIn};
 
 use crate::answers::call_report;
@@ -45,7 +45,7 @@ pub fn spell_call<R: Input + AllocGlobal, O: Opener, F: Finder, W: Sink, E: Sink
     err: &mut E,
 ) -> Status
     ensures spelled { result ≢ Status.Misused → result ≢ Status.Failed
-        → SpellsOne (O.known walk.now.files.now) (F.found walk.now.finder.now) walk.now.scan.now.denied path.now
+        → SpellsOne (O.known walk.now.files.now) (F.found walk.now.finder.now) (asked_of walk.now.scan.now) path.now
         (record { before = W.taken out.old; after = W.taken out.new }) result }
     ensures refused { result ≡ Status.Misused → Keeps (W.taken out.old) (W.taken out.new) }
     ensures silent { result ≡ Status.Accepted → Keeps (E.taken err.old) (E.taken err.new) }
@@ -82,7 +82,7 @@ fn spell_in<F: Finder, W: Sink, E: Sink>(
     err: &mut E,
 ) -> Status
     ensures spelled { result ≢ Status.Misused → result ≢ Status.Failed
-        → SpellsIn (F.found finder.now asked.now.file.path.now asked.now.file.text.now) asked.now.scan.now.denied
+        → SpellsIn (F.found finder.now asked.now.file.path.now asked.now.file.text.now) (asked_of asked.now.scan.now)
         asked.now.file.text.now (record { before = W.taken out.old; after = W.taken out.new }) result }
     ensures refused { result ≡ Status.Misused → Keeps (W.taken out.old) (W.taken out.new) }
     ensures silent { result ≡ Status.Accepted → Keeps (E.taken err.old) (E.taken err.new) }
@@ -132,14 +132,14 @@ fn spell_one<W: Sink, E: Sink>(
     err: &mut E,
 ) -> Status
     ensures spelled { result ≢ Status.Failed
-        → SpellsCall asked.now.scan.now.denied asked.now.file.text.now call.now
+        → SpellsCall (asked_of asked.now.scan.now) asked.now.file.text.now call.now
         (record { before = W.taken out.old; after = W.taken out.new }) result }
     ensures refused { result ≡ Status.Misused → Keeps (W.taken out.old) (W.taken out.new) }
     ensures silent { result ≡ Status.Accepted → Keeps (E.taken err.old) (E.taken err.new) }
 {
-    let FileScan { alloc, scan, file } = asked;
+    let FileScan { alloc, file, .. } = asked;
     let position = position_at(file.text, call.start);
-    let Ok(explanation) = explain_found(*alloc, file.text, position, call, scan.denied) else {
+    let Ok(explanation) = explain_found(*alloc, file.text, position, call, asked.scan) else {
         return out_of_memory(err);
     };
     let reporter = OneCall {

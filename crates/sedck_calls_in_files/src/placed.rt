@@ -5,6 +5,7 @@ ghost use Rattle.std.specs.List.{All};
 ghost use Rattle.sedck_calls_in_files.specs.Placed.{IsFindingIn, IsSomeIn};
 ghost use Rattle.sedck_report.specs.Files.{names_of};
 ghost use Rattle.sedck_calls_in_files.specs.Judged.{Agrees};
+ghost use Rattle.sedck_calls_in_files.specs.Private.Kinds.{kinds_of};
 
 use crate::places::Places;
 use sedck_explanation::{Explanation, Finding, NamedFile, Position, Step};
@@ -53,6 +54,7 @@ fn place_files(places: &mut Places, files: &mut Vec<NamedFile>)
 pub(crate) fn place_findings(places: &mut Places, findings: &mut Vec<Finding>)
     ensures file { places.new.file ≡ places.old.file }
     ensures findings { All (IsFindingIn places.old.file.now) findings.new.items }
+    ensures kinds { kinds_of findings.new.items ≡ kinds_of findings.old.items }
 {
     for finding in findings.iter_mut() {
         place_finding(places, finding);
@@ -63,6 +65,8 @@ pub(crate) fn place_findings(places: &mut Places, findings: &mut Vec<Finding>)
 fn place_finding(places: &mut Places, finding: &mut Finding)
     ensures file { places.new.file ≡ places.old.file }
     ensures finding { IsFindingIn places.old.file.now finding.new }
+    ensures level { finding.new.level ≡ finding.old.level }
+    ensures code { finding.new.code ≡ finding.old.code }
 {
     finding.end = match (finding.position, finding.end) {
         (Some(start), Some(end)) => Some(places.end(start, end)),

@@ -1,8 +1,8 @@
 //! Whether the file has what was read of a call, which isn't trusted.
 
 ghost use Rattle.std.specs.Prelude.{◌≡◌, map, IfOk};
-ghost use Rattle.std.specs.List.{list_any};
-ghost use Rattle.sedck_calls_in_files.specs.Judged.{words_of, piece_text, script_in, is_file as is_file_piece, are_traced as are_traced_texts, is_in_file as is_call_in_file};
+ghost use Rattle.std.specs.List.{list_all, list_any};
+ghost use Rattle.sedck_calls_in_files.specs.Judged.{words_of, piece_text, script_in, is_standard as is_standard_path, is_at_hand as is_piece_at_hand, is_file as is_file_piece, are_traced as are_traced_texts, is_in_file as is_call_in_file};
 
 use sedck_call::{Call, Piece, joined};
 use sedck_origin::{Traced, has_hole, is_traced};
@@ -30,7 +30,8 @@ pub(crate) fn bytes_of<'a>(alloc: Global, words: &'a [Traced]) -> Result<Vec<&'a
     Ok(slices)
 }
 
-/// Whether the file has the words and the script where their origins say, and the words give just this script.
+/// Whether the file has the words and the script where their origins say, no part of the script is in another file, and the words give just
+/// this script.
 pub(crate) fn is_in_file(
     alloc: Global,
     file: &[u8],
@@ -43,10 +44,13 @@ pub(crate) fn is_in_file(
     if !are_traced(file, words) || !is_traced(file, &text.bytes, &text.origins) {
         return Ok(false);
     }
+    let slices = bytes_of(alloc, words)?;
+    if !are_at_hand(&slices, &call.pieces) {
+        return Ok(false);
+    }
     if has_hole(&text.origins) || has_file(&call.pieces) {
         return Ok(true);
     }
-    let slices = bytes_of(alloc, words)?;
     let script = script_of(alloc, &slices, &call.pieces)?;
     Ok(script.as_slice() == text.bytes.as_slice())
 }
@@ -58,6 +62,30 @@ fn are_traced(file: &[u8], texts: &[Traced]) -> bool
     texts
         .iter()
         .all(|text| is_traced(file, &text.bytes, &text.origins))
+}
+
+/// Whether no part of the script is in another file.
+fn are_at_hand(words: &[&[u8]], pieces: &[Piece]) -> bool
+    ensures { result ≡ list_all (is_piece_at_hand (map (λ word. word.now) words.now)) pieces.now }
+{
+    pieces.iter().all(|piece| is_at_hand(words, *piece))
+}
+
+/// Whether the part of the script is in a word, or is read from standard input.
+fn is_at_hand(words: &[&[u8]], piece: Piece) -> bool
+    ensures { result ≡ is_piece_at_hand (map (λ word. word.now) words.now) piece }
+{
+    match piece {
+        Piece::Text(_) => true,
+        Piece::File(origin) => is_standard(origin.text(words)),
+    }
+}
+
+/// Whether the path is that of standard input.
+fn is_standard(path: &[u8]) -> bool
+    ensures { result ≡ is_standard_path path.now }
+{
+    path == b"-".as_slice() || path == b"/dev/stdin".as_slice()
 }
 
 /// Whether a part of the script is a file.

@@ -2,7 +2,7 @@
 
 ghost use Rattle.std.specs.Prelude.{◌≡◌, ◌≢◌, map, IfOk};
 ghost use Rattle.std.specs.Io.KnownBytes.{Keeps};
-ghost use Rattle.sedck_calls_in_files.specs.Scanned.{PathStatus, IsWorstOf};
+ghost use Rattle.sedck_calls_in_files.specs.Scanned.{asked_of, PathStatus, IsWorstOf};
 ghost use Rattle.sedck_calls_in_files.specs.Private.Contents.{ContentsStatus, IsHeldAt};
 
 use crate::answers::{path_report, write_report};
@@ -60,7 +60,7 @@ pub fn scan_files<
 >(walk: &Walk<R, O, F>, out: &mut W, err: &mut E) -> Status
     ensures known { result ≢ Status.Misused }
     ensures worst { result ≢ Status.Failed
-        → IsWorstOf (PathStatus (O.known walk.now.files.now) (F.found walk.now.finder.now) walk.now.scan.now.denied) Status.Accepted
+        → IsWorstOf (PathStatus (O.known walk.now.files.now) (F.found walk.now.finder.now) (asked_of walk.now.scan.now)) Status.Accepted
         (map (λ path. path.now) walk.now.scan.now.paths.now) result }
     ensures silent { result ≢ Status.Failed → Keeps (E.taken err.old) (E.taken err.new) }
 {
@@ -93,7 +93,7 @@ fn status_of(status: Status) -> Status
 impl<R: Files + Input + AllocGlobal + Clone + Drop, O: Opener, F: Finder> Walk<'_, '_, R, O, F> {
     /// Visits all that is given, and writes how many calls there are. Answers the worst status.
     fn visit_all<W: Sink>(&self, pass: &mut Pass<W>) -> Result<Status, Unexplained>
-        ensures { IfOk result (IsWorstOf (PathStatus (O.known self.now.files.now) (F.found self.now.finder.now) self.now.scan.now.denied) Status.Accepted
+        ensures { IfOk result (IsWorstOf (PathStatus (O.known self.now.files.now) (F.found self.now.finder.now) (asked_of self.now.scan.now)) Status.Accepted
             (map (λ path. path.now) self.now.scan.now.paths.now)) }
     {
         let mut status = Status::Accepted;
@@ -108,7 +108,7 @@ impl<R: Files + Input + AllocGlobal + Clone + Drop, O: Opener, F: Finder> Walk<'
     /// Visits a file that is given, or a folder with all that is below it: the worst status, `Failed` where something
     /// can't be read. The path `-` is standard input.
     fn visit_path<W: Sink>(&self, path: &str, pass: &mut Pass<W>) -> Result<Status, Unexplained>
-        ensures { IfOk result (PathStatus (O.known self.now.files.now) (F.found self.now.finder.now) self.now.scan.now.denied path.now) }
+        ensures { IfOk result (PathStatus (O.known self.now.files.now) (F.found self.now.finder.now) (asked_of self.now.scan.now) path.now) }
     {
         let contents = contents_at(self, path)?;
         if matches!(&contents, Contents::Unreadable) && path != "-" && self.is_folder(path) {
@@ -124,7 +124,7 @@ impl<R: Files + Input + AllocGlobal + Clone + Drop, O: Opener, F: Finder> Walk<'
         contents: &Contents,
         pass: &mut Pass<W>,
     ) -> Result<Status, Unexplained>
-        ensures { IfOk result (ContentsStatus (F.found self.now.finder.now path.now) self.now.scan.now.denied contents.now) }
+        ensures { IfOk result (ContentsStatus (F.found self.now.finder.now path.now) (asked_of self.now.scan.now) contents.now) }
     {
         match contents {
             Contents::Text(kind, text) => {

@@ -1,5 +1,5 @@
 -- From what was explained to the status of what the words ask for.
-use Rattle.sedck_explain_cli.proofs.Common.{◌≡◌, ℕ, Bool, true, false, List, Option, Some, inl, inr, subst, String, Global, Known, Status, Accepted, Output, Holds, IsWorstOf, HasCallStatus, texts_of, scripts_of, is_plain, IsIn, IsPlainly, SpellsScript, SpellsFound, Request, StatusAt, call_of}
+use Rattle.sedck_explain_cli.proofs.Common.{◌≡◌, ℕ, Bool, true, false, List, Option, Some, inl, inr, subst, String, Global, Known, Status, Accepted, Output, Holds, IsWorstOf, HasCallStatus, texts_of, scripts_of, asked_by, is_plain, IsIn, IsPlainly, SpellsScript, SpellsFound, Request, StatusAt, call_of}
 use Rattle.std.specs.Prelude.{MatchBool}
 use Rattle.sedck_explain_cli.specs.Requests.{IsRequest}
 use Rattle.sedck_explain_cli.specs.Spelled.{SpellsCall}
@@ -15,10 +15,10 @@ pub scripts_status : (k : Known) (found : List ℕ → List ℕ → Option Holds
 scripts_status k found request call status other calls sed has = rw (other, calls, sed) has
 
 pub plain_found : (k : Known) (found : List ℕ → List ℕ → Option Holds) (request : Request) (call : Option (List (List ℕ))) (out : Output) (status : Status)
-    → is_plain request.format ≡ true → request.calls ≡ true → SpellsFound k found request.denied (scripts_of request) out status
+    → is_plain request.format ≡ true → request.calls ≡ true → SpellsFound k found (asked_by request) (scripts_of request) out status
     → HasStatusFor k found request call status
 plain_found k found request call out status plain calls has =
-    let one = found_status k found request.denied (scripts_of request) out status has in rw (plain, calls) one
+    let one = found_status k found (asked_by request) (scripts_of request) out status has in rw (plain, calls) one
 
 pub plain_scripts : (k : Known) (found : List ℕ → List ℕ → Option Holds) (request : Request) (call : Option (List (List ℕ))) (status : Status)
     → is_plain request.format ≡ true → request.calls ≡ false → request.sed ≡ false
@@ -33,7 +33,7 @@ call_status k found request call words status calls sed is has = rw (calls, sed,
 -- ---- What is written
 
 pub found_spelled : (k : Known) (found : List ℕ → List ℕ → Option Holds) (request : Request) (call : Option (List (List ℕ))) (out : Output) (status : Status)
-    → request.calls ≡ true → SpellsFound k found request.denied (scripts_of request) out status → SpellsFor k found request call out status
+    → request.calls ≡ true → SpellsFound k found (asked_by request) (scripts_of request) out status → SpellsFor k found request call out status
 found_spelled k found request call out status calls spells = rw calls spells
 
 pub call_spelled : (k : Known) (found : List ℕ → List ℕ → Option Holds) (request : Request) (call : Option (List (List ℕ))) (words : List (List ℕ))
@@ -49,7 +49,7 @@ last_of A B C first second one other c = rw (one, other) c
 pub script_spelled : (k : Known) (found : List ℕ → List ℕ → Option Holds) (request : Request) (call : Option (List (List ℕ))) (out : Output) (status : Status)
     → request.calls ≡ false → request.sed ≡ false → SpellsScript k request (scripts_of request) out status → SpellsFor k found request call out status
 script_spelled k found request call out status calls sed spells =
-    last_of (SpellsFound k found request.denied (scripts_of request) out status) (SpellsGiven request.mends k request.denied call out status)
+    last_of (SpellsFound k found (asked_by request) (scripts_of request) out status) (SpellsGiven request.mends k request.denied call out status)
     (SpellsScript k request (scripts_of request) out status) request.calls request.sed calls sed spells
 
 -- ---- By the words

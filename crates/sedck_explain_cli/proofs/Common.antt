@@ -22,7 +22,7 @@ pub use Rattle.sedck_explain_cli.specs.Mended.{IsOfMendedCall, IsUnder}
 pub use Rattle.sedck_explain_cli.specs.Private.Readings.{asked_of}
 pub use Rattle.sedck_explain_cli.specs.Private.Said.{IsSaid, IsJudgedCall, IsExplainedUnder}
 pub use Rattle.sedck_explain_cli.specs.Readings.{texts_of, Asked, after, nothing_asked, is_named}
-pub use Rattle.sedck_explain_cli.specs.Requests.{scripts_of, is_plain, certificate_of}
+pub use Rattle.sedck_explain_cli.specs.Requests.{scripts_of, asked_by, is_plain, certificate_of}
 pub use Rattle.sedck_explain_cli.specs.Spelled.{IsIn, IsPlainly, SpellsScript, SpellsFound, IsAnsweredCall}
 pub use Rattle.sedck_explain_cli.specs.Statuses.{StatusAt, IsGiven}
 pub use Rattle.sedck_explain_cli.specs.declared.request.Request.{Request}

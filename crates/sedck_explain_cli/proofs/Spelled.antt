@@ -12,6 +12,7 @@ use Rattle.sedck_answer.specs.declared.status.Status.TheVariants as exit
 use Rattle.sedck_plain.specs.WrittenLists.{HaveSameLists}
 use Rattle.sedck_formats.specs.Plain.{IsPlainStatus, IsPlainOutput}
 use Rattle.sedck_call.specs.Scripts.{joined_texts}
+use Rattle.sedck_calls_in_files.specs.Judged.{AskedOfCalls}
 use Rattle.sedck_explain_cli.specs.Answers.{HasOneStatus}
 use Rattle.sedck_explain_cli.specs.Private.Said.{IsExplainedAt}
 use Rattle.sedck_explain_cli.proofs.Greatest.{yes_gives_way}
@@ -184,8 +185,8 @@ one_greatest Has paths path status same has =
 
 -- ---- Calls in files
 
-pub found_status : (k : Known) (found : List ℕ → List ℕ → Option Holds) (denied : Denied) (paths : List (List ℕ)) (out : Output) (status : Status)
-    → SpellsFound k found denied paths out status → IsPlainly (HasOneStatus k found denied paths) status
-found_status k found denied [] out status s = absurd s
-found_status k found denied (path ∷ []) out status s = (s.explanation.status, (s.explanation, s.is_said, refl), s.is_status)
-found_status k found denied (path ∷ other ∷ more) out status s = absurd s
+pub found_status : (k : Known) (found : List ℕ → List ℕ → Option Holds) (asked : AskedOfCalls) (paths : List (List ℕ)) (out : Output) (status : Status)
+    → SpellsFound k found asked paths out status → IsPlainly (HasOneStatus k found asked paths) status
+found_status k found asked [] out status s = absurd s
+found_status k found asked (path ∷ []) out status s = (s.explanation.status, (s.explanation, s.is_said, refl), s.is_status)
+found_status k found asked (path ∷ other ∷ more) out status s = absurd s

@@ -8,10 +8,11 @@ use Rattle.sedck_errors.specs.declared.denied.Denied.{Denied}
 use Rattle.sedck_answer.specs.declared.status.Status.{Status}
 use Rattle.sedck_answer.specs.declared.status.Status.TheVariants.{Accepted}
 use Rattle.sedck_formats.specs.Plain.{Output}
+use Rattle.sedck_calls_in_files.specs.Judged.{AskedOfCalls}
 use Rattle.sedck_calls_in_files.specs.Scanned.{Holds, PathStatus, OneStatus, IsWorstOf}
 use Rattle.sedck_explain_cli.specs.CallStatus.{HasCallStatus}
 use Rattle.sedck_explain_cli.specs.Readings.{texts_of, read}
-use Rattle.sedck_explain_cli.specs.Requests.{scripts_of, is_plain, is_plain_name, IsRequest}
+use Rattle.sedck_explain_cli.specs.Requests.{scripts_of, asked_by, is_plain, is_plain_name, IsRequest}
 use Rattle.sedck_explain_cli.specs.Spelled.{IsPlainly, SpellsScript, SpellsFound, SpellsCall}
 use Rattle.sedck_explain_cli.specs.declared.request.Request.{Request}
 use Rattle.sedck_explain_cli.specs.declared.words.Words.{Words}
@@ -53,16 +54,16 @@ HasJudgedStatus k OfFound request call status =
     (MatchBool request.sed (IsStatusOfCall request.mends k request.denied call status) (IsWorstOf (StatusAt k request) Accepted (scripts_of request) status))
 
 -- the status of one of the calls that are found in the file at the only path
-abbrev pub HasOneStatus : Known → (List ℕ → List ℕ → Option Holds) → Denied → List (List ℕ) → Status → Type 0
-HasOneStatus k found denied (path ∷ []) status = OneStatus k found denied path status
-HasOneStatus k found denied _ status = ⊥
+abbrev pub HasOneStatus : Known → (List ℕ → List ℕ → Option Holds) → AskedOfCalls → List (List ℕ) → Status → Type 0
+HasOneStatus k found asked (path ∷ []) status = OneStatus k found asked path status
+HasOneStatus k found asked _ status = ⊥
 
 -- the same in the format that is asked for; calls in files are found so
 abbrev pub HasStatusFor : Known → (List ℕ → List ℕ → Option Holds) → Request → Option (List (List ℕ)) → Status → Type 0
 HasStatusFor k found request call status =
     MatchBool (is_plain request.format)
-    (IsPlainly (HasJudgedStatus k (HasOneStatus k found request.denied (scripts_of request)) request call) status)
-    (HasJudgedStatus k (IsWorstOf (PathStatus k found request.denied) Accepted (scripts_of request)) request call status)
+    (IsPlainly (HasJudgedStatus k (HasOneStatus k found (asked_by request) (scripts_of request)) request call) status)
+    (HasJudgedStatus k (IsWorstOf (PathStatus k found (asked_by request)) Accepted (scripts_of request)) request call status)
 
 -- the words ask for scripts in their plain spelling
 abbrev pub asks_for_plain : Words → Bool
@@ -84,7 +85,7 @@ SpellsGiven mends k denied (Some words) out status = SpellsCall mends k denied w
 -- so it is of what is asked for: of a call in a file, of the call with these words, or of a script
 abbrev pub SpellsFor : Known → (List ℕ → List ℕ → Option Holds) → Request → Option (List (List ℕ)) → Output → Status → Type 0
 SpellsFor k found request call out status =
-    MatchBool request.calls (SpellsFound k found request.denied (scripts_of request) out status)
+    MatchBool request.calls (SpellsFound k found (asked_by request) (scripts_of request) out status)
     (MatchBool request.sed (SpellsGiven request.mends k request.denied call out status) (SpellsScript k request (scripts_of request) out status))
 
 -- the words are a request, and where it is for that format this is written; or they ask for the help or the version

@@ -6,6 +6,7 @@ use Rattle.sedck_report.specs.declared.code.Code.{Code}
 use Rattle.sedck_report.specs.declared.code.Code.TheVariants as code
 use Rattle.sedck_errors.specs.declared.denied.Denied.{Denied}
 use Rattle.sedck_errors.specs.declared.warnings.DeniedWarnings.{DeniedWarnings}
+use Rattle.sedck_calls_in_files.specs.Judged.{AskedOfCalls}
 use Rattle.sedck_explain_cli.specs.Readings.{Asked, is_among, read}
 use Rattle.sedck_explain_cli.specs.declared.format.Format.{Format}
 use Rattle.sedck_explain_cli.specs.declared.format.Format.TheVariants as format
@@ -18,6 +19,10 @@ certificate_of request = option_map (λ path. path.now) request.certificate
 -- the paths of its scripts, in their order
 abbrev pub scripts_of : Request → List (List ℕ)
 scripts_of request = map (λ path. path.now) request.scripts.items
+
+-- what it asks of calls in files
+abbrev pub asked_by : Request → AskedOfCalls
+asked_by request = record { denied = request.denied; assumed = request.assumed.items }
 
 -- a character is a byte in the locale of this name
 abbrev pub has_bytes : Option (List ℕ) → Bool

@@ -12,6 +12,7 @@ use Rattle.sedck_answer.specs.declared.explanation.Explanation.{Explanation}
 use Rattle.sedck_answer.specs.declared.status.Status.{Status}
 use Rattle.sedck_answer.specs.declared.status.Status.TheVariants.{Accepted, Unknown}
 use Rattle.sedck_formats.specs.Plain.{Output, IsPlainStatus}
+use Rattle.sedck_calls_in_files.specs.Judged.{AskedOfCalls}
 use Rattle.sedck_calls_in_files.specs.Scanned.{Holds, SpellsOne}
 use Rattle.sedck_explain_cli.specs.CallStatus.{HasCallStatus}
 use Rattle.sedck_explain_cli.specs.Mended.{IsOfMended, IsOfAnswerUnder, IsUnder}
@@ -71,9 +72,9 @@ SpellsScript k request (path ∷ []) out status = SpellsAt k request path out st
 SpellsScript k request _ out status = ⊥
 
 -- where it is accepted a text is written that spells the script of one of the calls that are found in the only file at these paths
-abbrev pub SpellsFound : Known → (List ℕ → List ℕ → Option Holds) → Denied → List (List ℕ) → Output → Status → Type 0
-SpellsFound k found denied (path ∷ []) out status = SpellsOne k found denied path out status
-SpellsFound k found denied _ out status = ⊥
+abbrev pub SpellsFound : Known → (List ℕ → List ℕ → Option Holds) → AskedOfCalls → List (List ℕ) → Output → Status → Type 0
+SpellsFound k found asked (path ∷ []) out status = SpellsOne k found asked path out status
+SpellsFound k found asked _ out status = ⊥
 
 -- the call with these words is accepted, and what its script spells is written, its parts joined
 abbrev pub CopiesCall : Known → Denied → List (List ℕ) → Output → Type 0

@@ -3,7 +3,7 @@
 ghost use Rattle.std.specs.Prelude.{◌≡◌, ◌≢◌};
 ghost use Rattle.std.specs.Io.KnownBytes.{Keeps};
 ghost use Rattle.sedck_calls_in_files.specs.Scanned.{PathStatus, IsWorstOf};
-ghost use Rattle.sedck_explain_cli.specs.Requests.{scripts_of};
+ghost use Rattle.sedck_explain_cli.specs.Requests.{scripts_of, asked_by};
 ghost use Rattle.sedck_explain_cli.specs.Spelled.{SpellsFound};
 
 use crate::request::Request;
@@ -26,7 +26,7 @@ pub(crate) fn explain_files<
     E: Sink,
 >(session: &Session<R, O, F>, out: &mut W, err: &mut E) -> Status
     ensures status { result ≢ Status.Misused → result ≢ Status.Failed
-        → IsWorstOf (PathStatus (O.known session.now.files.now) (F.found session.now.finder.now) session.now.request.now.denied) Status.Accepted
+        → IsWorstOf (PathStatus (O.known session.now.files.now) (F.found session.now.finder.now) (asked_by session.now.request.now)) Status.Accepted
         (scripts_of session.now.request.now) result }
     ensures refused { result ≡ Status.Misused → Keeps (W.taken out.old) (W.taken out.new) }
     ensures silent { result ≢ Status.Misused → result ≢ Status.Failed → Keeps (E.taken err.old) (E.taken err.new) }
@@ -53,7 +53,7 @@ pub(crate) fn spell_found<
     E: Sink,
 >(session: &Session<R, O, F>, out: &mut W, err: &mut E) -> Status
     ensures spelled { result ≢ Status.Misused → result ≢ Status.Failed
-        → SpellsFound (O.known session.now.files.now) (F.found session.now.finder.now) session.now.request.now.denied
+        → SpellsFound (O.known session.now.files.now) (F.found session.now.finder.now) (asked_by session.now.request.now)
         (scripts_of session.now.request.now) (record { before = W.taken out.old; after = W.taken out.new }) result }
     ensures refused { result ≡ Status.Misused → Keeps (W.taken out.old) (W.taken out.new) }
     ensures silent { result ≡ Status.Accepted → Keeps (E.taken err.old) (E.taken err.new) }
@@ -78,6 +78,7 @@ pub(crate) fn spell_found<
 fn scan_of<'a>(request: &'a Request<'_>, look: Look) -> Scan<'a>
     ensures paths { result.paths.now ≡ request.now.scripts.items }
     ensures denied { result.denied ≡ request.now.denied }
+    ensures assumed { result.assumed.variables.now ≡ request.now.assumed.items }
 {
     Scan {
         paths: &request.scripts,

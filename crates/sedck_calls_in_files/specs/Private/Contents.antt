@@ -1,10 +1,10 @@
 -- What was read of a file, and the status of it.
 use Rattle.std.specs.Prelude.{◌≡◌, ◌⊎◌, ℕ, Bool, false, IsTrue, List, Option, None, IfSome}
 use Rattle.sedck_engines.specs.Opened.{Known}
-use Rattle.sedck_errors.specs.declared.denied.Denied.{Denied}
 use Rattle.sedck_explanation.specs.Called.{known_bytes}
 use Rattle.sedck_answer.specs.declared.status.Status.{Status}
 use Rattle.sedck_answer.specs.declared.status.Status.TheVariants.{Accepted, Failed}
+use Rattle.sedck_calls_in_files.specs.Judged.{AskedOfCalls}
 use Rattle.sedck_calls_in_files.specs.Scanned.{Holds, TextStatus}
 use Rattle.sedck_calls_in_files.specs.declared.reading.Contents.{Contents}
 use Rattle.sedck_calls_in_files.specs.declared.reading.Contents.TheVariants.{Text, Other, TooLong, Unopened, Unreadable}
@@ -27,7 +27,7 @@ IsHeldAt k path Unopened = Unit {0}
 IsHeldAt k path Unreadable = k.may_fail ⊎ (known_bytes k path ≡ None)
 
 -- the status of a file that holds this
-abbrev pub ContentsStatus : (List ℕ → Option Holds) → Denied → Contents → Status → Type 0
-ContentsStatus found denied (Text kind text) status = TextStatus (found text.items) denied text.items status
-ContentsStatus found denied Other status = status ≡ Accepted
-ContentsStatus found denied _ status = status ≡ Failed
+abbrev pub ContentsStatus : (List ℕ → Option Holds) → AskedOfCalls → Contents → Status → Type 0
+ContentsStatus found asked (Text kind text) status = TextStatus (found text.items) asked text.items status
+ContentsStatus found asked Other status = status ≡ Accepted
+ContentsStatus found asked _ status = status ≡ Failed

@@ -1,5 +1,5 @@
-use Rattle.sedck_calls_in_files.proofs.Common.{◌≡◌, All, IsFindingIn}
+use Rattle.sedck_calls_in_files.proofs.Common.{◌≡◌, All, IsWarningIn}
 use Rattle.sedck_calls_in_files.proofs.holes.open_warnings.Given as goal
 
 abbrev pub invariant-loop-hole : goal.invariant-loop-hole
-invariant-loop-hole l = (l.places.file.now ≡ l.file) × All (IsFindingIn l.file) l.findings.items
+invariant-loop-hole l = (l.places.file.now ≡ l.file) × All (IsWarningIn l.file) l.findings.items
