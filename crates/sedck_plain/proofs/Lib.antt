@@ -3,3 +3,4 @@ pub mod PlainLemmas
 pub mod CutLemmas
 pub mod LeftLemmas
 pub mod WrittenLemmas
+pub mod MendedLemmas

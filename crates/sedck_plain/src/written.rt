@@ -103,7 +103,7 @@ fn push_lists<'a>(
 }
 
 /// Whether the byte is one of an address that begins no expression, or is between addresses and a verb.
-fn is_passed(byte: u8) -> bool
+pub(crate) fn is_passed(byte: u8) -> bool
     ensures { result ≡ is_passed byte }
 {
     byte.is_ascii_digit() || b" \t!$,".contains(&byte)

@@ -2,12 +2,12 @@
 use Rattle.std.specs.Prelude.{◌≡◌, ◌≢◌, ℕ, Bool, true, not, ◌||◌, if◌then◌else◌, List, [], ◌∷◌, length, ◌++◌, drop, Vec}
 use Rattle.std.specs.Global.{Global}
 use Rattle.sedck_text.specs.Text.{one_of}
-use Rattle.sedck_text.specs.Classes.{is_digit, is_mark}
 use Rattle.sedck_commands.specs.Program.{Address}
 use Rattle.sedck_commands.specs.Parts.{DelimitedExpression}
 use Rattle.sedck_commands.specs.Items.{WrittenVerb, CommandText, Item, Items}
 use Rattle.sedck_commands.specs.Locations.{locations_of}
 use Rattle.sedck_commands.specs.declared.location.Location.{Location}
+pub use Rattle.sedck_plain.specs.Mended.{is_passed}
 use Rattle.sedck_plain.specs.WrittenLists.{after, is_in_list, lists_from, expression_lists, command_lists, written_lists}
 use Rattle.sedck_plain.specs.declared.written.Position.{Position}
 use Rattle.sedck_plain.specs.declared.written.Position.TheVariants.{Outside}
@@ -32,10 +32,6 @@ HasAdded delimiter text before lists position rest =
 abbrev pub AreAdded : ℕ → List ℕ → List ℕ → List ℕ → List ℕ → Type 0
 AreAdded delimiter text before lists rest = (expression left : List ℕ) → delimiter ≢ 92 → DelimitedExpression delimiter text expression left
     → (lists ≡ before ++ expression_lists expression) × (left ≡ rest)
-
--- a byte of an address that begins no expression, or what is between addresses and a verb
-abbrev pub is_passed : ℕ → Bool
-is_passed b = is_digit b || is_mark b || one_of "$," b
 
 -- the verb of a command that has no expression
 abbrev pub is_other : ℕ → Bool
