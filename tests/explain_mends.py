@@ -21,7 +21,7 @@ MENDED = [
     ("y/a/b/;s/[/]a/x/2p", 1, "/a/a\n/b/b/a\n"),
 ]
 # Scripts that get the same report with the option.
-UNCHANGED = [b"p\n", b"s,[/],x,\n", b"s/[[:alpha:]/]//\n", b"s/[]/]//\n", b"s/[/\n", b"b x\n", b":a;ba\n", b"s/[/]/x/;b x\n", b"w f\n"]
+UNCHANGED = [b"p\n", b"s,[/],x,\n", b"s/[[:alpha:]/]//\n", b"s/[[:alpha:]][/]//\n", b"s/[]/]//\n", b"s/[/\n", b"b x\n", b":a;ba\n", b"s/[/]/x/;b x\n", b"w f\n"]
 FORMATS = ("text", "gcc", "json", "sarif", "html", "dot", "sed")
 
 

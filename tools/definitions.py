@@ -376,7 +376,7 @@ cert.Rejections
 cert.Bounds cert.SpaceLimit cert.Limits cert.StepLimit flow.Spaces
 text.Cursors model.Spots model.States endless.Endless
 search.Found search.Obstacle search.Rows search.NodeSet flow.VersionOne flow.LiteralKinds search.VersionOne
-commands.Locations plain.WrittenLists plain.Plain locales.Written locales.Locales locales.Laws
+commands.Locations plain.WrittenLists plain.Plain plain.Mended locales.Written locales.Locales locales.Laws
 commands.ReadItems commands.Labels commands.Blocks
 script.FirstFault commands.FirstFaults commands.Faults expressions.Faults expressions.FirstFault expressions.Reading expressions.BracketReading expressions.IntervalReading cert.Faults
 commands.FaultWords expressions.FaultWords cert.FaultText cli.Lines

@@ -17,7 +17,7 @@ foreign_said mends k denied words call e is foreign refused = refused_said mends
 
 -- a call has the statuses of what is said of its script
 pub under_text : (mends : Bool) (k : Known) (denied : Denied) (words : List (List ℕ)) (call : Call) (text : List ℕ) (e : Explanation) (status : Status)
-    → IsJudgedCall k denied words call text e → IsUnder mends (IsOfMendedCall denied call) e.status status → HasCallStatus mends k denied words status
+    → IsJudgedCall k denied words call text e → IsUnder mends (IsOfMendedCall denied call text) e.status status → HasCallStatus mends k denied words status
 under_text mends k denied words call text e status judged is = inl (
   call,
   judged.is_call,
@@ -26,7 +26,7 @@ under_text mends k denied words call text e status judged is = inl (
     are_parts = judged.are_parts;
     explanation = e;
     is_called = subst (λ text. IsCalled text denied call e) judged.is_text judged.is_called;
-    is_status = is;
+    is_status = subst (λ t. IsUnder mends (IsOfMendedCall denied call t) e.status status) judged.is_text is;
   }),
 )
 

@@ -2,6 +2,7 @@
 use Rattle.sedck_explain_cli.proofs.Common.{◌≡◌, ◌≢◌, ◌∙◌, ℕ, Bool, true, false, List, Option, None, Result, Ok, Err, IfOk, IfSome, inl, inr, refl, sym, ap, subst, Keeps, false≢true, Call, Known, RunFault, Denied, IsCalled, IsExplanation, IsOfAnswer, Explanation, Status, Output, Writes, IsDelivered, HasCallStatus, IsExplained, IsOfMendedCall, IsUnder, IsExplainedUnder, IsJudgedCall, IsIn, IsAnsweredCall}
 use Rattle.std.specs.Prelude.{◌⊎◌}
 use Rattle.sedck_answer.specs.declared.status.Status.TheVariants as exit
+use Rattle.sedck_plain.specs.Mended.{IsMended}
 use Rattle.sedck_explain_cli.specs.Mended.{under_condition, IsOfMended, IsOfAnswerUnder}
 use Rattle.sedck_explain_cli.specs.Private.Said.{IsDeliveredUnder}
 use Rattle.sedck_explain_cli.specs.Spelled.{CopiesMended}
@@ -89,10 +90,11 @@ silent_of : (plain : Bool) (e : Explanation) (out err : Output) (status : Status
 silent_of plain e out err status d (inl other) = d.silent other
 silent_of plain e out err status d (inr accepted) = absurd (no_yes plain e.status status d.is_status accepted)
 
-copied_mended : (mended : List ℕ) (denied : Denied) (other shown : Explanation) (out : Output) → IsExplanation mended None denied other
-    → other.status ≡ exit.Accepted → IsReported other shown → IfSome shown.script (Writes out shown.source.now) → CopiesMended denied out
-copied_mended mended denied other shown out is accepted same writes = record {
+copied_mended : (text mended : List ℕ) (denied : Denied) (other shown : Explanation) (out : Output) → IsMended text mended → IsExplanation mended None denied other
+    → other.status ≡ exit.Accepted → IsReported other shown → IfSome shown.script (Writes out shown.source.now) → CopiesMended denied text out
+copied_mended text mended denied other shown out is_mended is accepted same writes = record {
   mended = mended;
+  is_mended = is_mended;
   explanation = other;
   is_explanation = is;
   is_yes = accepted;
@@ -102,13 +104,15 @@ copied_mended mended denied other shown out is accepted same writes = record {
 
 -- of a script
 pub explained_under : (plain : Bool) (text mended : List ℕ) (given : Option (List ℕ)) (denied : Denied) (e other shown : Explanation) (out err : Output)
-    (status : Status) → IsExplanation text given denied e → e.status ≡ exit.Refused → IsExplanation mended None denied other → IsOfAnswer other.status
+    (status : Status) → IsMended text mended → IsExplanation text given denied e → e.status ≡ exit.Refused → IsExplanation mended None denied other
+    → IsOfAnswer other.status
     → IsReported other shown → IsDeliveredUnder plain shown out err status → IsExplainedUnder true plain text given denied out err status
-explained_under plain text mended given denied e other shown out err status is refused is_other few same d =
+explained_under plain text mended given denied e other shown out err status is_mended is refused is_other few same d =
     let few_shown = subst IsOfAnswer (sym same.status) few in
     let accepted_by : under_condition shown.status ≡ exit.Unknown → other.status ≡ exit.Accepted = λ unknown. sym same.status ∙ yes_of shown.status few_shown unknown in
-    let of_mended : IsOfMended denied (under_condition shown.status) = record {
+    let of_mended : IsOfMended denied text (under_condition shown.status) = record {
       mended = mended;
+      is_mended = is_mended;
       explanation = other;
       is_explanation = is_other;
       is_status = ap under_condition same.status;
@@ -118,13 +122,13 @@ explained_under plain text mended given denied e other shown out err status is r
       few = few_of true plain shown.status status refl few_shown d.is_status;
       explanation = e;
       is_explanation = is;
-      is_status = in_of plain (IsUnder true (IsOfMended denied) e.status) status
-          (has_under true plain (IsOfMended denied) e.status shown.status status refl refused of_mended d.is_status);
+      is_status = in_of plain (IsUnder true (IsOfMended denied text) e.status) status
+          (has_under true plain (IsOfMended denied text) e.status shown.status status refl refused of_mended d.is_status);
       writes = λ plainly. record {
         spelled = λ accepted. absurd (no_yes plain shown.status status d.is_status accepted);
         mended = λ unknown. (
           refl,
-          copied_mended mended denied other shown out is_other
+          copied_mended text mended denied other shown out is_mended is_other
               (sym same.status ∙ yes_under plain shown.status status few_shown d.is_status unknown) same (d.writes plainly unknown),
         );
         kept = λ _ known. d.kept plainly known;
@@ -134,15 +138,16 @@ explained_under plain text mended given denied e other shown out err status is r
 
 -- and of a call
 pub answered_under : (mends plain : Bool) (k : Known) (denied : Denied) (words : List (List ℕ)) (call : Call) (text mended : List ℕ) (e other shown : Explanation)
-    (out err : Output) (status : Status) → mends ≡ true → IsJudgedCall k denied words call text e → e.status ≡ exit.Refused → IsCalled mended denied call other
+    (out err : Output) (status : Status) → mends ≡ true → IsMended text mended → IsJudgedCall k denied words call text e → e.status ≡ exit.Refused → IsCalled mended denied call other
     → IsOfAnswer other.status → (other.status ≡ exit.Accepted → IsExplanation mended None denied other) → IsReported other shown
     → IsDeliveredUnder plain shown out err status → IsAnsweredCall mends plain k denied words out err status
-answered_under mends plain k denied words call text mended e other shown out err status asked judged refused called few explained same d =
+answered_under mends plain k denied words call text mended e other shown out err status asked is_mended judged refused called few explained same d =
     let few_shown = subst IsOfAnswer (sym same.status) few in
     let accepted_by : under_condition shown.status ≡ exit.Unknown → (other.status ≡ exit.Accepted) × IsExplanation mended None denied other =
     λ unknown. let is = sym same.status ∙ yes_of shown.status few_shown unknown in (is, explained is) in
-    let of_mended : IsOfMendedCall denied call (under_condition shown.status) = record {
+    let of_mended : IsOfMendedCall denied call text (under_condition shown.status) = record {
       mended = mended;
+      is_mended = is_mended;
       explanation = other;
       is_called = called;
       is_status = ap under_condition same.status;
@@ -151,11 +156,20 @@ answered_under mends plain k denied words call text mended e other shown out err
     record {
       few = few_of mends plain shown.status status asked few_shown d.is_status;
       has_status = in_of plain (HasCallStatus mends k denied words) status (under_text mends k denied words call text e status judged
-          (has_under mends plain (IsOfMendedCall denied call) e.status shown.status status asked refused of_mended d.is_status));
+          (has_under mends plain (IsOfMendedCall denied call text) e.status shown.status status asked refused of_mended d.is_status));
       spelled = λ plainly. record {
         spelled = λ accepted. absurd (no_yes plain shown.status status d.is_status accepted);
-        mended = λ unknown. let is = sym same.status ∙ yes_under plain shown.status status few_shown d.is_status unknown in
-            (asked, copied_mended mended denied other shown out (explained is) is same (d.writes plainly unknown));
+        mended = λ unknown. let is = sym same.status ∙ yes_under plain shown.status status few_shown d.is_status unknown in (
+          asked,
+          record {
+            call = call;
+            is_call = judged.is_call;
+            parts = judged.parts;
+            are_parts = judged.are_parts;
+            copies = subst (λ t. CopiesMended denied t out) judged.is_text
+                (copied_mended text mended denied other shown out is_mended (explained is) is same (d.writes plainly unknown));
+          },
+        );
         kept = λ _ known. d.kept plainly known;
       };
       silent = silent_of plain shown out err status d;

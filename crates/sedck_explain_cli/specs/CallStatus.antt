@@ -17,7 +17,7 @@ pub record HasJudgedStatus (mends : Bool) (k : Known) (denied : Denied) (words :
   pub are_parts : AreParts k words call.pieces.items parts
   pub explanation : Explanation
   pub is_called : IsCalled (joined_texts parts) denied call explanation
-  pub is_status : IsUnder mends (IsOfMendedCall denied call) explanation.status status
+  pub is_status : IsUnder mends (IsOfMendedCall denied call (joined_texts parts)) explanation.status status
 
 -- the status of the words after the name of sed: that of what is refused where they are no call, or an option changes the language
 abbrev pub HasCallStatus : Bool → Known → Denied → List (List ℕ) → Status → Type 0

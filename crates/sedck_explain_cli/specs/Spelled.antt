@@ -2,11 +2,14 @@
 use Rattle.std.specs.Prelude.{◌≡◌, ◌≢◌, ◌⊎◌, ℕ, Bool, true, false, MatchBool, List, [], ◌∷◌, Option, None}
 use Rattle.std.specs.Io.KnownBytes.{Keeps, Appends}
 use Rattle.sedck_plain.specs.Plain.{SpellSame}
+use Rattle.sedck_plain.specs.Mended.{IsMended}
+use Rattle.sedck_call.specs.Calls.{IsCall}
 use Rattle.sedck_call.specs.Scripts.{joined_texts}
+use Rattle.sedck_call.specs.declared.call.Call.{Call}
 use Rattle.sedck_engines.specs.Inputs.{IsRead}
 use Rattle.sedck_engines.specs.Opened.{Known}
 use Rattle.sedck_errors.specs.declared.denied.Denied.{Denied}
-use Rattle.sedck_explanation.specs.Called.{IsAcceptedCall, known_bytes}
+use Rattle.sedck_explanation.specs.Called.{AreParts, IsAcceptedCall, known_bytes}
 use Rattle.sedck_explanation.specs.Explanations.{IsExplanation}
 use Rattle.sedck_answer.specs.declared.explanation.Explanation.{Explanation}
 use Rattle.sedck_answer.specs.declared.status.Status.{Status}
@@ -37,25 +40,26 @@ pub record WritesSame (script : List ℕ) (out : Output) (status : Status) : Typ
   pub spelled : status ≡ Accepted → Copies script out
   pub kept : status ≢ Accepted → Keeps out.before out.after
 
--- a text is written that spells what another text spells, which is explained and accepted
-pub record CopiesMended (denied : Denied) (out : Output) : Type 0 where
+-- a text is written that spells what the script's text spells with other delimiters, which is explained and accepted
+pub record CopiesMended (denied : Denied) (script : List ℕ) (out : Output) : Type 0 where
   pub mended : List ℕ
+  pub is_mended : IsMended script mended
   pub explanation : Explanation
   pub is_explanation : IsExplanation mended None denied explanation
   pub is_yes : explanation.status ≡ Accepted
   pub copies : Copies mended out
 
--- the script's copy is written where it is accepted; where mends are asked for, that of another text under a condition; else nothing is
+-- the script's copy is written where it is accepted; where mends are asked for, that of the text with other delimiters under a condition; else nothing is
 pub record WritesUnder (mends : Bool) (denied : Denied) (script : List ℕ) (out : Output) (status : Status) : Type 0 where
   pub spelled : status ≡ Accepted → Copies script out
-  pub mended : status ≡ Unknown → (mends ≡ true) × CopiesMended denied out
+  pub mended : status ≡ Unknown → (mends ≡ true) × CopiesMended denied script out
   pub kept : status ≢ Accepted → status ≢ Unknown → Keeps out.before out.after
 
 -- the explanation of a script's text, and of a certificate's where there is one, has this status; and this is written
 pub record IsSpelled (mends : Bool) (text : List ℕ) (given : Option (List ℕ)) (denied : Denied) (out : Output) (status : Status) : Type 0 where
   pub explanation : Explanation
   pub is_explanation : IsExplanation text given denied explanation
-  pub is_status : IsPlainly (IsUnder mends (IsOfMended denied) explanation.status) status
+  pub is_status : IsPlainly (IsUnder mends (IsOfMended denied text) explanation.status) status
   pub writes : WritesUnder mends denied text out status
 
 -- so it is for what is read of the script at the path, and of the request's certificate, whose explanation the status is of
@@ -80,10 +84,18 @@ SpellsFound k found asked _ out status = ⊥
 abbrev pub CopiesCall : Known → Denied → List (List ℕ) → Output → Type 0
 CopiesCall k denied words out = (yes : IsAcceptedCall k denied words) × Copies (joined_texts yes.parts) out
 
--- that is so where it is accepted; where mends are asked for, a copy of another text is written under a condition; else nothing is
+-- the words are a call, and so it is written of its script, its parts joined
+pub record CopiesMendedCall (k : Known) (denied : Denied) (words : List (List ℕ)) (out : Output) : Type 0 where
+  pub call : Call
+  pub is_call : IsCall words call
+  pub parts : List (List ℕ)
+  pub are_parts : AreParts k words call.pieces.items parts
+  pub copies : CopiesMended denied (joined_texts parts) out
+
+-- that is so where it is accepted; where mends are asked for, it is written with other delimiters under a condition; else nothing is
 pub record SpellsCall (mends : Bool) (k : Known) (denied : Denied) (words : List (List ℕ)) (out : Output) (status : Status) : Type 0 where
   pub spelled : status ≡ Accepted → CopiesCall k denied words out
-  pub mended : status ≡ Unknown → (mends ≡ true) × CopiesMended denied out
+  pub mended : status ≡ Unknown → (mends ≡ true) × CopiesMendedCall k denied words out
   pub kept : status ≢ Accepted → status ≢ Unknown → Keeps out.before out.after
 
 -- What holds of the call with these words where it is explained, in the format `sed` or in another one: its status is one of an answer,

@@ -24,7 +24,7 @@ pub record HasStatus (k : Known) (denied : Denied) (mends : Bool) (certificate :
   pub is_given : IsGiven k certificate given
   pub explanation : Explanation
   pub is_explanation : IsExplanation text given denied explanation
-  pub is_status : IsUnder mends (IsOfMended denied) explanation.status status
+  pub is_status : IsUnder mends (IsOfMended denied text) explanation.status status
 
 -- the status of the script at the path
 abbrev pub StatusAt : Known → Request → List ℕ → Status → Type 0

@@ -121,7 +121,7 @@ fn shown_judged<R: AllocGlobal, O: Opener, F, W: Sink, E: Sink>(
     let Judged { call, text, said } = judged;
     let request = session.request;
     let alloc = session.alloc();
-    let Some(mended) = mend_of(alloc, request.mends, &said.explanation)? else {
+    let Some(mended) = mend_of(alloc, request.mends, text, said.explanation.status)? else {
         return shown(session, words, &said, out, err);
     };
     let explanation = explain_called(alloc, &mended.text, words, call, request.denied)?;

@@ -143,7 +143,7 @@ fn explain_under<F: Reporter, W: Sink, E: Sink>(
     let given = inputs.certificate.as_deref();
     let own = own_path(named.name);
     let explanation = explain(named.alloc, own, &inputs.text, given, denied)?;
-    let Some(mended) = mend_of(named.alloc, true, &explanation)? else {
+    let Some(mended) = mend_of(named.alloc, true, &inputs.text, explanation.status)? else {
         return deliver(named, &explanation, out, err);
     };
     let other = explain(named.alloc, own, &mended.text, None, denied)?;

@@ -1,10 +1,12 @@
 //! Scripts whose commands have their own delimiters in lists, with other delimiters: as GNU sed, BusyBox and toybox read them.
 
 ghost use Rattle.std.specs.Prelude.{◌≡◌, true, IfOk, IfSome};
+ghost use Rattle.sedck_plain.specs.Mended.{IsMended};
 
 use crate::conditions::{placed, warnings_of};
 use sedck_explanation::{Explanation, Finding, Status};
 use sedck_parts::{Mend, Reading, escapes_delimiter, mends_in};
+use sedck_plain::is_mended;
 use sedck_report::positions;
 use std::alloc::{AllocError, Global};
 
@@ -17,26 +19,31 @@ pub(crate) struct Mended {
     mends: Vec<Mend>,
 }
 
-/// The script of this explanation with another delimiter for each command that has its own in a list, where that is asked for, the script is
-/// refused and there is such a command.
+/// The text of a script of this status with another delimiter for each command that has its own in a list, where that is asked for, the
+/// script is refused and there is such a command. Which text that is isn't trusted: `is_mended` compares it with the given one.
 pub(crate) fn mend_of(
     alloc: Global,
     mends: bool,
-    explanation: &Explanation,
+    text: &[u8],
+    status: Status,
 ) -> Result<Option<Mended>, AllocError>
-    ensures { IfOk result (λ found. IfSome found (λ mended. (mends ≡ true) × (explanation.now.status ≡ Status.Refused))) }
+    ensures { IfOk result (λ found. IfSome found (λ mended. (mends ≡ true) × (status ≡ Status.Refused) × IsMended text.now mended.text.items)) }
 {
     if !mends {
         return Ok(None);
     }
-    let Status::Refused = explanation.status else {
+    let Status::Refused = status else {
         return Ok(None);
     };
-    let found = mends_in(alloc, explanation.text)?;
+    let found = mends_in(alloc, text)?;
     if found.is_empty() {
         return Ok(None);
     }
-    Ok(Some(mended_by(alloc, explanation.text, found)?))
+    let mended = mended_by(alloc, text, found)?;
+    if !is_mended(alloc, text, &mended.text)? {
+        return Ok(None);
+    }
+    Ok(Some(mended))
 }
 
 /// The text with another delimiter for each of these commands. Escaped delimiters of such a command lose their backslashes.

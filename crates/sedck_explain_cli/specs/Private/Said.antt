@@ -27,7 +27,7 @@ pub record IsExplainedUnder (mends plain : Bool) (text : List ℕ) (given : Opti
   pub few : IsOfAnswerUnder mends status
   pub explanation : Explanation
   pub is_explanation : IsExplanation text given denied explanation
-  pub is_status : IsIn plain (IsUnder mends (IsOfMended denied) explanation.status) status
+  pub is_status : IsIn plain (IsUnder mends (IsOfMended denied text) explanation.status) status
   pub writes : plain ≡ true → WritesUnder mends denied text out status
   pub silent : (plain ≡ false) ⊎ (status ≡ Accepted) → Keeps err.before err.after
 

@@ -1,4 +1,5 @@
-use Rattle.sedck_explain_cli.proofs.Common.{◌≡◌, true, IfSome, subst, option_map, is_some, IsExplanation, on_ok, Refused, Output}
+use Rattle.sedck_explain_cli.proofs.Common.{◌≡◌, true, IfSome, sym, subst, option_map, is_some, IsExplanation, on_ok, Refused, Output}
+use Rattle.sedck_plain.specs.Mended.{IsMended}
 use Rattle.sedck_explain_cli.proofs.Mended.{delivered_same, explained_under}
 use Rattle.sedck_explain_cli.proofs.explaining.explain_under.Goals as goal
 
@@ -48,11 +49,14 @@ returns g c =
     subst (λ given. IsExplanation inputs.text.items given c.args.denied e) c.as_deref-given.ensures.value
     (subst (λ text. IsExplanation text (option_map (λ bytes. bytes.now) c.as_deref-given.result) c.args.denied e) c.deref.ensures.value
     c.in_ok-explanation.ensures.explanation) in
-    let found : (true ≡ true) × (e.status ≡ Refused) =
-    subst (λ found. IfSome found (λ _. (true ≡ true) × (e.status ≡ Refused))) c.in-Some.is c.in_ok-mended.ensures in
+    let mended = c.in-Some.mended.text.items in
+    let found : (true ≡ true) × (e.status ≡ Refused) × IsMended c.deref-2.result.now mended =
+    subst (λ found. IfSome found (λ m. (true ≡ true) × (e.status ≡ Refused) × IsMended c.deref-2.result.now m.text.items)) c.in-Some.is c.in_ok-mended.ensures in
+    let is_mended : IsMended inputs.text.items c.deref-3.result.now =
+    subst (λ m. IsMended inputs.text.items m) (sym c.deref-3.ensures.value) (subst (λ t. IsMended t mended) c.deref-2.ensures.value found.2) in
     on_ok _ _ c.deliver_under.result
-    (λ status d. explained_under (is_some named.plain) inputs.text.items c.deref-2.result.now given c.args.denied e c.in_ok-other.other c.in_ok-other-2.other
-    out err status is found.1 c.in_ok-other.ensures.explanation c.in_ok-other.ensures.few (record {
+    (λ status d. explained_under (is_some named.plain) inputs.text.items c.deref-3.result.now given c.args.denied e c.in_ok-other.other c.in_ok-other-2.other
+    out err status is_mended is found.1 c.in_ok-other.ensures.explanation c.in_ok-other.ensures.few (record {
       status = c.in_ok-other-2.ensures.status;
       script = c.in_ok-other-2.ensures.script;
       source = c.in_ok-other-2.ensures.source;
