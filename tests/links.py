@@ -2,13 +2,14 @@
 """Checks links, versions, edits and crates in the documents: python3 tests/links.py, in any folder.
 
 Each link to a file of the repository must lead to one, and to a heading of it where it names one, also those to pages of docs/ that
-the code has as texts; a link from a name in code to a file of Rattle leads to one that declares this name; each page is linked from docs/README.md; the manual pages have the version of the first entry of CHANGELOG.md; each
+the code has as texts; a link from a name in code to a file of Rattle leads to one that declares this name; each page is linked from docs/README.md; the manual pages and the programs have the version of the first entry of CHANGELOG.md, and no other file has one; each
 edit says what is wrong and which function of its crate promises otherwise, and docs/PROVED.md lists those that the gate tries, as
 tools/edits.py does; CONTRIBUTING.md has a line for each crate of crates.txt, with the crates right below it, and each file of a crate's
 src begins with what it is for. The status is 0 only where all of this holds.
 """
 import re
 import sys
+from collections.abc import Iterator
 from pathlib import Path
 
 TOP = Path(__file__).resolve().parent.parent
@@ -19,6 +20,9 @@ PAGES = [TOP / "README.md", TOP / "CONTRIBUTING.md", TOP / "CHANGELOG.md", TOP /
          TOP / "tests" / "seds" / "README.md", *sorted((TOP / "docs").glob("*.md"))]
 INDEX = TOP / "docs" / "README.md"
 MANUAL = sorted((TOP / "man").glob("sedck*.[1-8]"))
+WORDS = TOP / "crates" / "sedck_formats" / "src" / "words.rt"
+# What has its version from CHANGELOG.md, by tools/dist.py.
+FILLED = ("library/sedck.pc",)
 
 
 def without_code(text):
@@ -31,7 +35,7 @@ def anchors(page: Path) -> set[str]:
     return {re.sub(r"[^\w\- ]", "", head.lower()).replace(" ", "-") for head in heads}
 
 
-def links(page):
+def links(page: Path) -> Iterator[tuple[str, Path, str]]:
     """The links and pictures of a page that name no other host: the file, and the heading or an empty text."""
     text = re.sub(r"``?[^`\n]*``?(?![^\[\]]*\]\()", "", without_code(page.read_text()))
     for target in re.findall(r"\]\(([^)\s]+)\)", text) + re.findall(r'\bsrc(?:set)?="([^"\s]+)"', text):
@@ -79,6 +83,23 @@ def crates():
             yield "%s doesn't begin with a line //! that says what it is for" % file.relative_to(TOP)
 
 
+def versions():
+    """Files with another version than the first entry of CHANGELOG.md, and files that have one though they get it when they are packed."""
+    version = re.search(r"^## (\d+\.\d+\.\d+) \(", (TOP / "CHANGELOG.md").read_text(), flags=re.M)[1]
+    for page in MANUAL:
+        if '"sedck %s"' % version not in page.read_text().split("\n")[0]:
+            yield "%s isn't of version %s" % (page.relative_to(TOP), version)
+    if 'pub const VERSION: &str = "%s";\n' % version not in WORDS.read_text():
+        yield "%s isn't of version %s" % (WORDS.relative_to(TOP), version)
+    for name in FILLED:
+        text = (TOP / name).read_text()
+        if "@VERSION@" not in text or re.search(r"\b%s\b" % re.escape(version), text):
+            yield "%s doesn't get its version when it is packed" % name
+    for page in PAGES:
+        for name in re.findall(r"sedck-\d[\w.-]*\.tar\.gz", page.read_text()):
+            yield "%s names the archive %s, which has another name in the next version" % (page.relative_to(TOP), name)
+
+
 def faults():
     yield from edits.head_faults()
     if edits.tried() not in (TOP / "docs" / "PROVED.md").read_text():
@@ -91,7 +112,7 @@ def faults():
                 yield "%s: no heading %s" % (page.relative_to(TOP), target)
         yield from undeclared(page)
     for source in sorted(TOP.glob("crates/*/src/**/*.rt")):
-        for name, head in re.findall(r'"([A-Z]+\.md)#([^"\s]+)"', source.read_text()):
+        for name, head in re.findall(r"\b([A-Z]+\.md)#([\w-]+)", source.read_text()):
             page = TOP / "docs" / name
             if not page.exists() or head not in anchors(page):
                 yield "%s: no heading %s#%s" % (source.relative_to(TOP), name, head)
@@ -100,10 +121,7 @@ def faults():
     for page in [page for page in PAGES if page != INDEX] + MANUAL:
         if page not in linked:
             yield "docs/README.md has no link to %s" % page.relative_to(TOP)
-    version = re.search(r"^## (\d+\.\d+\.\d+) \(", (TOP / "CHANGELOG.md").read_text(), flags=re.M)[1]
-    for page in MANUAL:
-        if '"sedck %s"' % version not in page.read_text().split("\n")[0]:
-            yield "%s isn't of version %s" % (page.relative_to(TOP), version)
+    yield from versions()
 
 
 def main():
