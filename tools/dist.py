@@ -55,7 +55,7 @@ def installed():
         files.update({PAGES + str(path.relative_to(TOP)): str(path.relative_to(TOP)) for path in sorted((TOP / folder).rglob("*"))
                       if path.is_file() and path.suffix in (".md", ".svg", ".sed", ".cert", ".c", ".py") and path.name != "heap.c"})
     # The action runs the program that is beside it.
-    files.update({PAGES + name.lstrip("."): name for name in (".pre-commit-hooks.yaml", "action.yml", "wrapper/sarif-of-tree")})
+    files.update({PAGES + name.lstrip("."): name for name in (".pre-commit-hooks.yaml", "action.yml", "wrapper/judge-tree", "wrapper/sarif-of-tree")})
     page = TOP / "build" / "page"
     files.update({"share/sedck/page/" + str(path.relative_to(page)): str(path.relative_to(TOP)) for path in sorted(page.rglob("*")) if path.is_file()})
     return files
