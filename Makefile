@@ -5,7 +5,7 @@ RT ?= rt
 PREFIX ?= /usr/local
 
 .PHONY: all build sedck lib demo try page try-page test docs examples rows explain-tests refusals streams tools-tests calls-tests wrapper-tests \
-	page-tests library-tests integration-tests archive-tests bench planted seds matchers states changes shells measures probe install uninstall dist clean
+	page-tests library-tests integration-tests archive-tests bench planted seds matchers states changes shells measures probe install uninstall packable dist verify clean
 
 # One target after the other, also under `make -j`: proofs want all processors and much memory, and tests have limits of time.
 .NOTPARALLEL:
@@ -170,9 +170,18 @@ install:
 uninstall:
 	@PREFIX="$(PREFIX)" DESTDIR="$(DESTDIR)" sh tools/install.sh --uninstall
 
-dist: build lib
+# Nothing is packed of files that aren't as they were committed: that is looked at before anything is built.
+packable:
+	@python3 tools/dist.py --look
+
+# With ADDRESS=https://HOST/OWNER/sedck/blob the pages in the archive have links to the sources of the commit, below that address.
+dist: packable build lib
 	@echo "Packing the programs, the library, their pages and all that is installed, with their check sums ..."
-	@python3 tools/dist.py "$(RT)"
+	@CC="$(CC)" ADDRESS="$(ADDRESS)" python3 tools/dist.py "$(RT)" --by "make dist"
+
+# Builds the commit of an archive again, in a clone, and compares each file. BUILD names another command for the build.
+verify:
+	@BUILD="$(BUILD)" python3 tools/verify.py "$(ARCHIVE)" "$(RT)"
 
 clean:
 	@echo "Removing what was built, and what checks left in crates/*/out ..."

@@ -1,7 +1,7 @@
 #!/usr/bin/env python3
 """Packs what build/ has, and tries the archive as somebody who has nothing else: python3 tests/archive.py
 
-The archive is made in a copy of the repository whose ledger of wrong bodies is up to date. It is unpacked in an empty folder, its sums and
+The archive is made in a copy of the repository that has a commit of its own. It is unpacked in an empty folder, its sums and
 its list of materials are compared with its files, and it is installed below a PREFIX and a DESTDIR, with nothing of Rattle on the path. From
 there README's examples, the library with its header by pkg-config, the manual pages and the pages that reports name are tried. The status is 0
 only where all is as it is due.
@@ -18,7 +18,9 @@ import tempfile
 import time
 from pathlib import Path
 
-from skips import has
+import copies
+from packing import dead_links
+from skips import WHOLE, has, present
 
 TOP = Path(__file__).resolve().parent.parent
 MADE = ("sedck", "sedck-explain", "libsedck.a")
@@ -39,25 +41,18 @@ def run(words, folder, **environment):
     return done.returncode, done.stdout
 
 
-def copied(folder):
-    """A copy of the repository, with what is made, in which no wrong body is behind."""
-    ignored = shutil.ignore_patterns("out", "__pycache__", "build", ".git", "must-fail")
-    shutil.copytree(TOP, folder, ignore=ignored)
-    (folder / "build").mkdir()
-    for name in MADE:
-        if (TOP / "build" / name).exists():
-            shutil.copy(TOP / "build" / name, folder / "build" / name)
+def copied(folder: Path) -> Path:
+    """A copy of the repository with what is made, and the command `rt` of a toolchain that stands in for the one that made it."""
+    copies.repository(folder / "copy", {name: (TOP / "build" / name).read_bytes() for name in MADE})
     if (TOP / "build" / "page").is_dir():
-        shutil.copytree(TOP / "build" / "page", folder / "build" / "page")
-    enter = "import sys; sys.path.insert(0, 'tools'); import planted; [planted.entered(name, planted.sums_of(name), {}) for name in planted.crates()]"
-    subprocess.run([sys.executable, "-c", enter], cwd=folder, check=True)
-    (folder / "rt").write_text("#!/bin/sh\necho 'rattle-kit-0 logic 0'\n")
-    (folder / "rt").chmod(0o755)
+        shutil.copytree(TOP / "build" / "page", folder / "copy" / "build" / "page")
+    rows = dict(re.findall(r"^(\w+)[^:#\n]*:(.*)$", (TOP / "crates.txt").read_text(), re.M))
+    return copies.toolchain(folder / "kit", {name for names in rows.values() for name in names.split() if name not in rows})
 
 
-def unpacked(copy, folder):
+def unpacked(copy, rt, folder):
     """The folder of the archive."""
-    status, said = run([sys.executable, "tools/dist.py", "./rt"], copy)
+    status, said = run([sys.executable, "tools/dist.py", str(rt)], copy)
     expect(status == 0, "dist.py ends with %d: %s" % (status, said))
     with tarfile.open(next((copy / "build").glob("*.tar.gz"))) as archive:
         archive.extractall(folder)
@@ -65,21 +60,18 @@ def unpacked(copy, folder):
 
 
 def check_lists(whole):
-    """Each file has its sum, and stands in the list of materials with both sums; the list names each library of the toolchain."""
+    """Each file has its sum, and stands in the list of materials with both sums."""
     status, said = run(["sha256sum", "-c", "--quiet", "SHA256SUMS"], whole)
     expect(status == 0, "SHA256SUMS: %s" % said)
     files = {str(path.relative_to(whole)): path.read_bytes() for path in whole.rglob("*") if path.is_file()}
     listed = json.loads(files["sbom.spdx.json"])
     due = {"./" + name: (hashlib.sha1(text).hexdigest(), hashlib.sha256(text).hexdigest()) for name, text in files.items()
-           if name not in ("SHA256SUMS", "sbom.spdx.json")}
+           if name not in ("SHA256SUMS", "sbom.spdx.json", "PROVENANCE", "share/doc/sedck/PROVENANCE")}
     seen = {one["fileName"]: tuple(row["checksumValue"] for row in one["checksums"]) for one in listed["files"]}
     expect(seen == due, "the list of materials has other files or sums: %s" % sorted(set(seen.items()) ^ set(due.items()))[:3])
     code = hashlib.sha1("".join(sorted(sums[0] for sums in due.values())).encode()).hexdigest()
     own = [one["packageVerificationCode"]["packageVerificationCodeValue"] for one in listed["packages"] if one["filesAnalyzed"]]
     expect(own == [code], "the list of materials has the code %s" % own)
-    rows = dict(re.findall(r"^(\w+)[^:#\n]*:(.*)$", (TOP / "crates.txt").read_text(), re.M))
-    libraries = {"rattle-" + name for names in rows.values() for name in names.split() if name not in rows} | {"rattle-std", "rattle", "glibc", "sedck"}
-    expect({one["name"] for one in listed["packages"]} == libraries, "the list of materials names %s" % sorted(one["name"] for one in listed["packages"]))
     numbers = {one["SPDXID"] for one in listed["packages"] + listed["files"]} | {"SPDXRef-DOCUMENT"}
     expect(len(numbers) == len(listed["packages"]) + len(listed["files"]) + 1, "two materials have one number")
     expect({one[end] for one in listed["relationships"] for end in ("spdxElementId", "relatedSpdxElement")} == numbers, "a material is related to none")
@@ -248,6 +240,8 @@ def check_pages(place):
     # What the action runs is beside it.
     runs = re.findall(r"\$GITHUB_ACTION_PATH/([\w/.-]+)", (place / "share/doc/sedck/action.yml").read_text())
     expect(runs and all((place / "share/doc/sedck" / name).is_file() for name in runs), "the action that is installed runs %s" % runs)
+    dead, count = dead_links(place)
+    expect(not dead and count > 200, "%d of %d links of the installed pages are dead: %s" % (len(dead), count, dead[:5]))
     pages = {path.name for path in (TOP / "man").glob("sedck*.[1-8]")}
     expect({path.name for path in (place / "share/man").rglob("*.*")} == pages, "the manual pages aren't all there")
     if has("archive", "a manual page as it is shown", "man"):
@@ -256,6 +250,15 @@ def check_pages(place):
     for name in ("sedck", "sedck-explain", "sedck-fmt", "sedck-known", "sedck-run", "sedck-sed"):
         for path in ("bash-completion/completions/" + name, "fish/vendor_completions.d/%s.fish" % name):
             expect((place / "share" / path).is_file(), "share/%s isn't there" % path)
+
+
+def check_processors(place):
+    """On a processor that lacks a feature of x86-64-v2 the programs end with 127 and say so; on one that has all of them they answer."""
+    emulator = next(iter(present("archive", "the programs on other processors", ["qemu-x86_64"])), None)
+    for name, due in (("Penryn", 127), ("Nehalem", 0)) if emulator else ():
+        for words in (["sedck", "rank"], ["sedck-explain", "--"]):
+            status, said = run([emulator, "-cpu", name, str(place / "bin" / words[0]), *words[1:], "share/doc/sedck/examples/mail-body.sed"], place)
+            expect(status == due and (due == 0) != ("x86-64-v2" in said), "on the processor %s %s ends with %d: %s" % (name, words[0], status, said))
 
 
 def check_library(place, folder):
@@ -303,15 +306,17 @@ def check_make_install(copy, folder):
 
 
 def main():
+    if not has("archive", "what is packed", "git"):
+        return WHOLE
     lacks = [name for name in MADE if not (TOP / "build" / name).exists()]
     if lacks:
         print("archive: build/ lacks %s; `make build lib` makes it" % ", ".join(lacks))
         return 1
     with tempfile.TemporaryDirectory(prefix="sedck-archive-") as name:
         folder = Path(name)
-        copied(folder / "copy")
+        rt = copied(folder)
         (folder / "empty").mkdir()
-        whole = unpacked(folder / "copy", folder / "empty")
+        whole = unpacked(folder / "copy", rt, folder / "empty")
         check_lists(whole)
         for check in (check_refusals, check_modes, check_uninstalling, check_prefixes, check_installing):
             check(whole, folder)
@@ -320,6 +325,7 @@ def main():
         check_readme(prefix, folder / "work")
         expect(time.monotonic() - begun < SECONDS, "the first answers took more than %d seconds" % SECONDS)
         check_pages(prefix)
+        check_processors(prefix)
         check_library(prefix, folder / "work")
         check_make_install(folder / "copy", folder / "made")
     if not wrong:

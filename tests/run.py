@@ -39,6 +39,7 @@ explain-tests locales.py {explain}
 refusals refusals.py {probe} {sedck} {refuse} {explain}
 streams streams.sh {sedck} {explain}
 tools-tests tools.py
+tools-tests packing.py
 tools-tests forge.py
 calls-tests calls.py {explain}
 calls-tests calls_in_files.py {explain}

@@ -1,21 +1,27 @@
 #!/usr/bin/env python3
-"""Packs build/sedck-VERSION-KIT.tar.gz, or installs: python3 tools/dist.py [RT] | --install PREFIX [DESTDIR]
+"""Packs build/sedck-VERSION-KIT-PROCESSOR-COMMIT.tar.gz, or installs: python3 tools/dist.py [RT] [--by COMMAND] | --look | --install PREFIX [DESTDIR]
 
 The archive has what is installed, at the paths that it gets below PREFIX: the programs and the library of build/, the programs of wrapper/,
 completions, manual pages, the pages that reports name with README.md and the examples, the macro of Autoconf, and what build/page holds
-where it is there. Beside that it has install.sh, README.md, SECURITY.md, a list of what it was made of (sbom.spdx.json), and SHA256SUMS, for
-`sha256sum -c` in its folder. VERSION is that of CHANGELOG.md, KIT the first word of `rt version`. The same files give the same archive: names
-are sorted, and owners and times are fixed. Nothing is packed, and the status is 1, while something of build/ is missing, or there are crates
-whose planted wrong bodies weren't tried since their code, definitions or edits changed (tools/planted.py). It is printed below which crates
-something has changed since.
+where it is there. Links of pages lead to what is packed, to the sources of the commit below ADDRESS where the environment has one, or are
+plain words (tools/packed_links.py). Beside that it has install.sh, README.md, SECURITY.md, a list
+of what it was made of (sbom.spdx.json), the statement where it comes from (PROVENANCE), and SHA256SUMS, for `sha256sum -c` in its folder.
+
+VERSION is that of CHANGELOG.md, KIT the first word of `rt version`, COMMIT the beginning of the commit's number. The same files of the same
+commit give the same archive: names are sorted, owners and times are fixed, and the list has the commit's time. Nothing is packed, and the
+status is 1, where a file isn't as it was committed, while something of build/ is missing, or there are crates whose planted wrong bodies
+weren't tried since their code, definitions or edits changed (tools/planted.py). It is printed below which crates something has changed since.
+`--look` looks only at what is so before anything is built. `--by` names the command that has built and packs; without it the statement says
+that it isn't known when build/ was made.
 
 `--install` puts the same files below DESTDIR and PREFIX by the same install.sh, as far as build/ has them. It proves and builds nothing: what
 is missing is named, with the target that makes it, and the status is 1 where build/ has no program.
 """
+import datetime
+import email.utils
 import gzip
 import hashlib
 import io
-import json
 import os
 import re
 import shlex
@@ -23,10 +29,13 @@ import subprocess
 import sys
 import tarfile
 import tempfile
-import time
 from pathlib import Path
 
+import page
 import planted
+from materials import materials
+from packed_links import rewritten
+from provenance import STATEMENTS, Commit, Fault, architecture, commit_of, shown, statement, tracked
 
 TOP = Path(__file__).resolve().parent.parent
 PAGES = "share/doc/sedck/"
@@ -47,8 +56,8 @@ def installed():
     for name in COMPLETED:
         files["share/bash-completion/completions/" + name] = "completions/sedck.bash"
         files["share/fish/vendor_completions.d/%s.fish" % name] = "completions/%s.fish" % name
-    for page in sorted((TOP / "man").glob("sedck*.[1-8]")):
-        files["share/man/man%s/%s" % (page.suffix[1:], page.name)] = "man/" + page.name
+    for manual in sorted((TOP / "man").glob("sedck*.[1-8]")):
+        files["share/man/man%s/%s" % (manual.suffix[1:], manual.name)] = "man/" + manual.name
     for name in ("README.md", "SECURITY.md", "CHANGELOG.md"):
         files[PAGES + name] = name
     for folder in ("docs", "examples", "library"):
@@ -56,8 +65,8 @@ def installed():
                       if path.is_file() and path.suffix in (".md", ".svg", ".sed", ".cert", ".c", ".py") and path.name != "heap.c"})
     # The action runs the program that is beside it.
     files.update({PAGES + name.lstrip("."): name for name in (".pre-commit-hooks.yaml", "action.yml", "wrapper/judge-tree", "wrapper/sarif-of-tree")})
-    page = TOP / "build" / "page"
-    files.update({"share/sedck/page/" + str(path.relative_to(page)): str(path.relative_to(TOP)) for path in sorted(page.rglob("*")) if path.is_file()})
+    browser = TOP / "build" / "page"
+    files.update({"share/sedck/page/" + str(path.relative_to(browser)): str(path.relative_to(TOP)) for path in sorted(browser.rglob("*")) if path.is_file()})
     return files
 
 
@@ -70,62 +79,37 @@ def version():
     return re.search(r"^## (\d+\.\d+\.\d+) \(", (TOP / "CHANGELOG.md").read_text(), re.M)[1]
 
 
-def kit_of(rt):
-    """The line of `rt version`."""
-    return subprocess.run(shlex.split(rt) + ["version"], stdout=subprocess.PIPE, encoding="utf-8", check=True).stdout.strip()
+def name_of(kit: str, processor: str, commit: Commit) -> str:
+    """The name of the archive without its end, and of the folder in it. A commit has one tree."""
+    return "sedck-%s-%s-%s-%s" % (version(), re.sub(r"[^A-Za-z0-9._-]+", "-", kit.split()[0]), processor, commit.number[:12])
 
 
-def name_of(kit):
-    """The name of the archive without its end, and of the folder in it."""
-    return "sedck-%s-%s" % (version(), re.sub(r"[^A-Za-z0-9._-]+", "-", kit.split()[0]))
+def beside():
+    """What is in the archive and isn't installed: as `installed`."""
+    return {"README.md": "README.md", "SECURITY.md": "SECURITY.md", "install.sh": "tools/install.sh"}
 
 
-def filled(path, text):
-    """The text as it is installed: the version in place of @VERSION@."""
-    return text.replace(b"@VERSION@", version().encode()) if path.endswith(".pc") else text
+def filled(path, source, places, address, values):
+    """The file of the repository as it is packed: with values in place of @VERSION@ and the like, and links that lead to what is packed."""
+    text = (TOP / source).read_bytes()
+    if path.endswith(".md"):
+        return rewritten(text.decode(), source, path, places, address).encode()
+    if path.endswith(".pc"):
+        return re.sub(rb"@([A-Z]+)@", lambda place: values[place[1].decode()].encode(), text)
+    return text
 
 
-def contents(leaves_out=()):
-    """The files that are installed, as bytes, without those that need what isn't there."""
-    needs = {path: need for path in installed() for start, need in NEEDS.items() if path.startswith(start)}
-    return {path: filled(path, (TOP / source).read_bytes()) for path, source in installed().items()
-            if source not in leaves_out and needs.get(path) not in leaves_out}
-
-
-def crates_of_kit():
-    """The libraries of the kit that crates.txt names."""
-    rows = dict(re.findall(r"^(\w+)[^:#\n]*:(.*)$", (TOP / "crates.txt").read_text(), re.M))
-    return sorted({name for names in rows.values() for name in names.split() if name not in rows})
-
-
-def package(name, number, **more):
-    return {"SPDXID": "SPDXRef-" + re.sub(r"[^A-Za-z0-9.-]", "-", name), "name": name, "versionInfo": number, "downloadLocation": "NOASSERTION",
-            "filesAnalyzed": False, "licenseConcluded": "NOASSERTION", "licenseDeclared": "NOASSERTION", "copyrightText": "NOASSERTION", **more}
-
-
-def materials(kit, files):
-    """What the archive was made of, in SPDX 2.3."""
-    whole = hashlib.sha256("".join("%s %s\n" % (path, hashlib.sha256(files[path]).hexdigest()) for path in sorted(files)).encode()).hexdigest()
-    made = time.strftime("%Y-%m-%dT%H:%M:%SZ", time.gmtime(int(os.environ.get("SOURCE_DATE_EPOCH", "0"))))
-    tools = [package("rattle", kit, comment="the toolchain: compiler, prover, LLVM and the libraries below")]
-    tools += [package("rattle-" + name, kit.split()[0], comment="a library of the toolchain") for name in ["std", *crates_of_kit()]]
-    libc = package("glibc", "2.34 or later", comment="the programs need it where they run; it isn't in the archive")
-    listed = [{"SPDXID": "SPDXRef-File-%d" % at, "fileName": "./" + path, "licenseConcluded": "NOASSERTION", "copyrightText": "NOASSERTION",
-               "checksums": [{"algorithm": "SHA1", "checksumValue": hashlib.sha1(files[path]).hexdigest()},
-                             {"algorithm": "SHA256", "checksumValue": hashlib.sha256(files[path]).hexdigest()}]} for at, path in enumerate(sorted(files))]
-    code = hashlib.sha1("".join(sorted(hashlib.sha1(text).hexdigest() for text in files.values())).encode()).hexdigest()
-    own = package("sedck", version(), filesAnalyzed=True, packageVerificationCode={"packageVerificationCodeValue": code})
-    related = [("SPDXRef-DOCUMENT", "DESCRIBES", "SPDXRef-sedck"), ("SPDXRef-glibc", "RUNTIME_DEPENDENCY_OF", "SPDXRef-sedck"),
-               ("SPDXRef-rattle", "BUILD_TOOL_OF", "SPDXRef-sedck")]
-    related += [("SPDXRef-sedck", "STATIC_LINK", one["SPDXID"]) for one in tools[1:]]
-    related += [("SPDXRef-sedck", "CONTAINS", one["SPDXID"]) for one in listed]
-    return json.dumps({
-        "spdxVersion": "SPDX-2.3", "dataLicense": "CC0-1.0", "SPDXID": "SPDXRef-DOCUMENT", "name": "sedck-" + version(),
-        "documentNamespace": "https://spdx.org/spdxdocs/sedck-%s-%s" % (version(), whole),
-        "creationInfo": {"created": made, "creators": ["Tool: tools/dist.py of sedck"]},
-        "packages": [own, *tools, libc], "files": listed,
-        "relationships": [{"spdxElementId": one, "relationshipType": word, "relatedSpdxElement": other} for one, word, other in related],
-    }, indent=1) + "\n"
+def contents(leaves_out=(), address="", values=None):
+    """The files that are installed, as bytes, without those that need what isn't there; with values also what is beside them in an archive."""
+    files = {path: source for path, source in installed().items()
+             if source not in leaves_out and not any(path.startswith(start) and need in leaves_out for start, need in NEEDS.items())}
+    far = {}
+    for path, source in files.items():
+        far.setdefault(source, path)
+    whole = {path: filled(path, source, far, address, values or {"VERSION": version()}) for path, source in files.items()}
+    # A page at the top of the archive leads to the one beside it where there is one.
+    near = {**far, **{source: path for path, source in beside().items() if path.endswith(".md")}}
+    return whole if values is None else {**whole, **{path: filled(path, source, near, address, values) for path, source in beside().items()}}
 
 
 def with_sums(files):
@@ -169,33 +153,58 @@ def install(prefix, root):
     return status
 
 
-def pack(rt):
-    """Packs the archive; the exit status."""
+def looked_at():
+    """What must be so before anything is built: the commit, and what is said of the wrong bodies."""
     late, *others = planted.compared()
     if late:
-        print("dist: `make planted` comes first: the wrong bodies of %s weren't tried since something changed there" % ", ".join(late))
-        return 1
-    print("\n".join("dist: wrong bodies: " + line for line in planted.said_of(late, *others)))
-    for path, target in missing().items():
-        print("dist: %s is missing: `%s` makes it" % (path, target))
+        raise Fault("`make planted` comes first: the wrong bodies of %s weren't tried since something changed there" % ", ".join(late))
+    commit, known = commit_of(), tracked()
+    for source in sorted({*installed().values(), *beside().values()}):
+        if not source.startswith("build/") and source not in known:
+            raise Fault("%s isn't in the commit" % shown(source))
+    return commit, planted.said_of(late, *others)
+
+
+def pack(rt, command):
+    """Packs the archive."""
+    commit, of_ledger = looked_at()
+    print("\n".join("dist: wrong bodies: " + line for line in of_ledger))
     if missing():
-        return 1
-    kit = kit_of(rt)
-    files = {**contents(), **{name: (TOP / source).read_bytes() for name, source in (
-        ("README.md", "README.md"), ("SECURITY.md", "SECURITY.md"), ("install.sh", "tools/install.sh"))}}
-    files["sbom.spdx.json"] = materials(kit, files).encode()
-    name = name_of(kit)
-    (TOP / "build" / (name + ".tar.gz")).write_bytes(packed(name, with_sums(files)))
+        raise Fault("; ".join("%s is missing: `%s` makes it" % row for row in missing().items()))
+    processors = {architecture((TOP / path).read_bytes(), path) for path in MADE if not path.endswith(".a")}
+    if len(processors) != 1:
+        raise Fault("the programs of build are for several processors: %s" % ", ".join(sorted(processors)))
+    try:
+        kit = page.Kit(rt)
+    except page.Fault as fault:
+        raise Fault(str(fault)) from fault
+    address = os.environ.get("ADDRESS", "").rstrip("/")
+    name = name_of(kit.version, processors.pop(), commit)
+    date = email.utils.format_datetime(datetime.datetime.fromtimestamp(commit.time, datetime.timezone.utc))
+    values = {"VERSION": version(), "NAME": name, "COMMIT": commit.number, "MAINTAINER": commit.maintainer, "DATE": date}
+    files = contents(address="%s/%s" % (address, commit.number) if address else "", values=values)
+    files["sbom.spdx.json"] = materials(version(), commit, kit, os.environ.get("CC") or "cc", files).encode()
+    given = {"command": command or "not known: the programs were packed as they lay in build", **({"address": address} if address else {})}
+    said = statement(commit, kit.version, given, files, of_ledger)
+    (TOP / "build" / (name + ".tar.gz")).write_bytes(packed(name, with_sums({**files, **dict.fromkeys(STATEMENTS, said)})))
     print("The archive is build/%s.tar.gz." % name)
     print("The checker in it is bin/sedck, with the SHA-256 sum %s." % hashlib.sha256(files["bin/sedck"]).hexdigest())
-    return 0
 
 
 def main():
     words = sys.argv[1:]
     if words[:1] == ["--install"] and 2 <= len(words) <= 3:
         return install(words[1], (words[2:] or [""])[0])
-    return pack((words or ["rt"])[0])
+    command = words[words.index("--by") + 1] if "--by" in words[:-1] else ""
+    try:
+        if words == ["--look"]:
+            looked_at()
+        else:
+            pack((words or ["rt"])[0], command)
+    except Fault as fault:
+        print("dist: %s" % fault)
+        return 1
+    return 0
 
 
 if __name__ == "__main__":

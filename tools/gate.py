@@ -3,6 +3,8 @@
 
 With --bench nothing is run: what the last run cost is put into docs/BENCH.md, in place of what is there.
 
+What it said last is kept in build/gate-said, with the commit if no file was changed, before and after: tools/dist.py packs it.
+
 What it cost is printed, and kept in build/gate-cost: a table of processor seconds by crate, and its sum also in units, the processor
 seconds of `rt selftest` right before, so that the speed of the machine goes out of the figure. Nothing here changes what that takes.
 
@@ -26,6 +28,7 @@ from pathlib import Path
 
 import edits
 import planted
+import provenance
 
 TOP = Path(__file__).resolve().parent.parent
 # What `rt` says of a wrong body that shows nothing, though it may count it as refused.
@@ -149,19 +152,20 @@ def unit_of(rt: str) -> float:
 
 
 def run(rt):
-    """Runs `rt ci` and prints what it prints: its status, the lines on wrong bodies that show nothing, and its costs if they were seen."""
+    """Runs `rt ci` and prints what it prints: its status, the lines on wrong bodies that show nothing, its costs if they were seen, and its last line."""
     with subprocess.Popen(shlex.split(rt) + ["ci"], cwd=TOP, stdout=subprocess.PIPE, encoding="utf-8", errors="replace") as gate:
         watch = Watch(gate.pid)
         if os.path.isdir("/proc/%d" % gate.pid):
             watch.start()
-        lines = []
+        lines, last = [], ""
         for line in gate.stdout:
             print(line, end="", flush=True)
+            last = line.strip() or last
             if SHOWS_NOTHING.search(line):
                 lines.append(line.rstrip("\n"))
         status = gate.wait()
     watch.ended.set()
-    return status, lines, Costs(watch.below())
+    return status, lines, Costs(watch.below()), last
 
 
 def put_into_bench():
@@ -181,12 +185,14 @@ def main():
         print("gate: " + fault)
     if faults:
         return 1
+    provenance.SAID.unlink(missing_ok=True)
     try:
         if not planted.takes_names(rt):
             os.environ.setdefault("RT_JOBS", str(jobs()))
         unit = unit_of(rt)
         begun, before = time.monotonic(), resource.getrusage(resource.RUSAGE_CHILDREN)
-        status, lines, costs = run(rt)
+        commit = provenance.known_commit()
+        status, lines, costs, last = run(rt)
     except OSError as error:
         print("gate: %s can't be started: %s" % (rt, error.strerror))
         return 1
@@ -201,7 +207,9 @@ def main():
     print(cost, end="")
     (TOP / "build").mkdir(exist_ok=True)
     (TOP / "build" / "gate-cost").write_text(cost)
-    return (status if 0 <= status < 256 else 1) or (1 if lines else 0)
+    ended = (status if 0 <= status < 256 else 1) or (1 if lines else 0)
+    provenance.keep_said(shlex.split(rt), commit, ended, last)
+    return ended
 
 
 if __name__ == "__main__":

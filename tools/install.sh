@@ -5,8 +5,11 @@
 # first, and nothing is installed where a file differs, is missing, or isn't listed. A file that is there is replaced. The list of what was
 # installed is kept in share/sedck/installed below PREFIX: files of an earlier installation that are no longer there are removed, but with
 # --keep, and --uninstall removes all of them, with the folders that were made for them.
+#
+# The programs need a processor of x86-64-v2. Where this one lacks a feature of it, by /proc/cpuinfo or by what CPUINFO names, nothing is
+# installed, unless a DESTDIR says that it may be for another machine.
 set -eu
-PREFIX=${PREFIX-/usr/local} DESTDIR=${DESTDIR-}
+PREFIX=${PREFIX-/usr/local} DESTDIR=${DESTDIR-} CPUINFO=${CPUINFO:-/proc/cpuinfo}
 LC_ALL=C
 export LC_ALL
 parts='(bin|include|lib|libexec|share)'
@@ -95,8 +98,22 @@ read_sums() {
     esac
 }
 
+# Looks whether the programs can start here. They end with 127 and say so where the processor lacks a feature.
+check_processor() {
+    [ -z "$DESTDIR" ] || return 0
+    if [ ! -r "$CPUINFO" ]; then
+        say "$CPUINFO can't be read, so it isn't known whether this processor is of x86-64-v2"
+        return 0
+    fi
+    for feature in cx16 lahf_lm popcnt pni sse4_1 sse4_2 ssse3; do
+        grep -Eq "^flags[[:blank:]]*:(.*[[:blank:]])?$feature([[:blank:]]|\$)" "$CPUINFO" ||
+            stop 1 "the programs need a processor of x86-64-v2, and this one lacks $feature; nothing is installed"
+    done
+}
+
 install() {
     read_sums
+    check_processor
     read_kept
     mkdir -p "$to"
     make_folder "${kept%/*}"
@@ -112,6 +129,7 @@ install() {
     fi
     keep_list "$scratch/stay" "$scratch/list"
     echo "Installed below $to: $(grep -c . "$scratch/list") files."
+    echo "The pages that reports name, as docs/TRUST.md, are below $to/share/doc/sedck."
     # What a report of a wrong yes names: the checker alone answers for it.
     [ ! -f bin/sedck ] || echo "The checker is bin/sedck, with the SHA-256 sum $(sha256sum bin/sedck | cut -d ' ' -f 1)."
 }
