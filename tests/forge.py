@@ -24,7 +24,7 @@ MESSAGES = (
 )
 # What must be believed, or decides what runs.
 OWNED = ("crates/sedck_cert/specs/Headline.antt", "tools/definitions.txt", "tools/gate.py", ".github/workflows/gate.yml", ".github/CODEOWNERS", ".ci/run",
-         "library/heap.c", "Makefile", "HANDLES", "planted.sums", "action.yml", "wrapper/sed", "SECURITY.md")
+         "library/heap.c", "Makefile", "HANDLES", "planted.sums", "action.yml", "wrapper/sed", "SECURITY.md", "packaging/debian/rules")
 failures = []
 
 

@@ -22,7 +22,7 @@ INDEX = TOP / "docs" / "README.md"
 MANUAL = sorted((TOP / "man").glob("sedck*.[1-8]"))
 WORDS = TOP / "crates" / "sedck_formats" / "src" / "words.rt"
 # What has its version from CHANGELOG.md, by tools/dist.py.
-FILLED = ("library/sedck.pc",)
+FILLED = ("library/sedck.pc", "packaging/debian/changelog", "packaging/sedck.spec")
 
 
 def without_code(text):

@@ -107,11 +107,12 @@ def due_files():
     due |= {own + name for name in ("README.md", "SECURITY.md", "CHANGELOG.md", "PROVENANCE", "action.yml", "pre-commit-hooks.yaml", "wrapper/judge-tree",
                                     "wrapper/sarif-of-tree", "library/example.c", "library/example.py")}
     due |= {"lib/libsedck.a", "lib/pkgconfig/sedck.pc", "include/sedck.h", "share/aclocal/sedck.m4", "share/zsh/site-functions/_sedck", "README.md",
-            "SECURITY.md", "PROVENANCE", "SHA256SUMS", "sbom.spdx.json"}
+            "SECURITY.md", "PROVENANCE", "SHA256SUMS", "sbom.spdx.json", "Containerfile", "sedck.spec"}
+    due |= {"debian/" + name for name in ("changelog", "clean", "control", "copyright", "libsedck-dev.install", "sedck.install", "source/format")}
     for name in ("sedck", "sedck-explain", "sedck-fmt", "sedck-known", "sedck-run", "sedck-sed"):
         due |= {"share/bash-completion/completions/" + name, "share/fish/vendor_completions.d/%s.fish" % name}
     run_as = {"bin/" + name for name in ("sedck", "sedck-explain", "sedck-fmt", "sedck-known", "sedck-run", "sedck-sed", "sedck-lsp")}
-    return run_as | {"libexec/sedck/sed", "install.sh"}, due
+    return run_as | {"libexec/sedck/sed", "install.sh", "debian/rules"}, due
 
 
 def check_files(copy, archive):

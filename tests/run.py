@@ -41,6 +41,7 @@ streams streams.sh {sedck} {explain}
 tools-tests tools.py
 tools-tests packing.py
 tools-tests forge.py
+integration-tests packages.py {sedck} {explain}
 calls-tests calls.py {explain}
 calls-tests calls_in_files.py {explain}
 calls-tests attacks.py {explain}

@@ -4,7 +4,7 @@
 The archive has what is installed, at the paths that it gets below PREFIX: the programs and the library of build/, the programs of wrapper/,
 completions, manual pages, the pages that reports name with README.md and the examples, the macro of Autoconf, and what build/page holds
 where it is there. Links of pages lead to what is packed, to the sources of the commit below ADDRESS where the environment has one, or are
-plain words (tools/packed_links.py). Beside that it has install.sh, README.md, SECURITY.md, a list
+plain words (tools/packed_links.py). Beside that it has install.sh, README.md, SECURITY.md, what builds packages for systems (packaging/), a list
 of what it was made of (sbom.spdx.json), the statement where it comes from (PROVENANCE), and SHA256SUMS, for `sha256sum -c` in its folder.
 
 VERSION is that of CHANGELOG.md, KIT the first word of `rt version`, COMMIT the beginning of the commit's number. The same files of the same
@@ -86,7 +86,9 @@ def name_of(kit: str, processor: str, commit: Commit) -> str:
 
 def beside():
     """What is in the archive and isn't installed: as `installed`."""
-    return {"README.md": "README.md", "SECURITY.md": "SECURITY.md", "install.sh": "tools/install.sh"}
+    files = {"README.md": "README.md", "SECURITY.md": "SECURITY.md", "install.sh": "tools/install.sh"}
+    files.update({str(path.relative_to(TOP / "packaging")): str(path.relative_to(TOP)) for path in sorted((TOP / "packaging").rglob("*")) if path.is_file()})
+    return files
 
 
 def filled(path, source, places, address, values):
@@ -94,7 +96,7 @@ def filled(path, source, places, address, values):
     text = (TOP / source).read_bytes()
     if path.endswith(".md"):
         return rewritten(text.decode(), source, path, places, address).encode()
-    if path.endswith(".pc"):
+    if path.endswith(".pc") or source.startswith("packaging/"):
         return re.sub(rb"@([A-Z]+)@", lambda place: values[place[1].decode()].encode(), text)
     return text
 
@@ -118,7 +120,7 @@ def with_sums(files):
 
 
 def mode_of(path):
-    return 0o755 if path in PROGRAMS or path == "install.sh" else 0o644
+    return 0o755 if path in PROGRAMS or path in ("install.sh", "debian/rules") else 0o644
 
 
 def packed(name, files):
