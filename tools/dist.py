@@ -24,7 +24,6 @@ import hashlib
 import io
 import os
 import re
-import shlex
 import subprocess
 import sys
 import tarfile

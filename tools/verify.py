@@ -5,7 +5,8 @@ The archive's own sums are compared first, and its statement PROVENANCE. This na
 file is in, and the toolchain, which must be that of RT. In the clone the command of the environment variable BUILD runs, by default the
 `make dist` of the statement, which proves everything; it leaves an archive in build. Then a line for each file of both archives says whether
 it is the same, byte for byte and by its mode. In PROVENANCE and SHA256SUMS what the packer says of the gate is left out, since no build says
-it again. At the end stands the sum of the checker. The status is 0 only where each file is the same, 1 where one isn't, 3 where the arguments are invalid, and 4 where nothing could be compared.
+it again. At the end stands the sum of the checker. The status is 0 only where each file is the same, 1 where one isn't, 3 where the arguments
+are invalid, and 4 where nothing could be compared.
 """
 import hashlib
 import json
