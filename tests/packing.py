@@ -244,7 +244,8 @@ def check_changes(copy):
     refuses("a repository around it", "is no repository of its own")
     shutil.rmtree(copy.folder / ".git")
     (copy.folder / "no-git").rename(copy.top / ".git")
-    for data, word in ((b"a program", "build/sedck is no program"), (copies.PROGRAM[:18] + b"\xb7" + copies.PROGRAM[19:], "for several processors: aarch64, x86_64")):
+    for data, word in ((b"a program", "build/sedck is no program"), (copies.PROGRAM[:18] + b"\xf3" + copies.PROGRAM[19:], "build/sedck is no program"),
+                       (copies.PROGRAM[:18] + b"\xb7" + copies.PROGRAM[19:], "for several processors: aarch64, x86_64")):
         (copy.top / "build/sedck").write_bytes(data)
         status, said, found = copy.packs()
         expect(status == 1 and not found and word in said, "the program %r gives %d: %s" % (data[:20], status, said))
