@@ -113,7 +113,7 @@ library-tests: lib build build/refuse.so
 	python3 tests/run.py $@
 
 integration-tests: build
-	@echo "Testing the language server, the completions, the macro of Autoconf, the action and the lines for editors ..."
+	@echo "Testing the language server, the completions, the macro of Autoconf, the action, the lines for editors and the packages ..."
 	python3 tests/run.py $@
 
 archive-tests: build lib
