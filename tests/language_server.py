@@ -2,8 +2,8 @@
 """Speaks the Language Server Protocol with wrapper/sedck-lsp: python3 tests/language_server.py build/sedck-explain
 
 What is published, shown, formatted and offered of texts in several spellings: with characters of two UTF-16 units, with CRLF, empty, with
-bytes that aren't UTF-8, changed while they are judged; and the order of initialize, shutdown and exit. Positions were counted by hand. The
-status is 0 only where all is as it is due.
+bytes that aren't UTF-8, changed while they are judged; of calls in shell scripts and makefiles; where labels are; headers without a length;
+and the order of initialize, shutdown and exit. Positions were counted by hand. The status is 0 only where all is as it is due.
 """
 import json
 import os
@@ -13,6 +13,7 @@ import subprocess
 import sys
 import tempfile
 import threading
+import time
 from pathlib import Path
 
 TOP = Path(__file__).resolve().parent.parent
@@ -65,12 +66,12 @@ class Editor:
                 return message
             others.append(message)
 
-    def open(self, uri, text, version=1):
-        self.tell("textDocument/didOpen", {"textDocument": {"uri": uri, "languageId": "sed", "version": version, "text": text}})
+    def open(self, uri, text, version=1, language="sed"):
+        self.tell("textDocument/didOpen", {"textDocument": {"uri": uri, "languageId": language, "version": version, "text": text}})
 
-    def findings(self, uri, text):
+    def findings(self, uri, text, language="sed"):
         """What is published of a text that is opened."""
-        self.open(uri, text)
+        self.open(uri, text, language=language)
         message = self.next()
         expect((message["method"], message["params"]["uri"], message["params"]["version"]), ("textDocument/publishDiagnostics", uri, 1), "what is published")
         return message["params"]["diagnostics"]
@@ -157,6 +158,8 @@ def check_requests(editor):
     expect([line for line in shown["value"].split("\n\n") if line.startswith("steps: at most ")] != [], True, "the limit on steps")
     edits = editor.ask("textDocument/formatting", about(uri, options={"tabSize": 2}))["result"]
     expect(edits, [{"range": span(0, 0, 1, 0), "newText": ":a\n$!{\n  N\n  b a\n}\ns/\\n/ /g\nw out é\n"}], "the plain spelling")
+    editor.findings(uri, "p # behind\n")
+    expect(editor.ask("textDocument/formatting", about(uri, options={}))["result"], [{"range": span(0, 0, 1, 0), "newText": "p; # behind\n"}], "a comment behind a command")
     editor.findings(uri, edits[0]["newText"])
     expect(editor.ask("textDocument/formatting", about(uri, options={}))["result"], None, "the spelling of a plain text")
     editor.findings(uri, "s/[/x/")
@@ -166,14 +169,134 @@ def check_requests(editor):
     expect([action["edit"]["changes"][uri] for action in actions], [[{"range": span(1, 5, 1, 7), "newText": "\\{1,\\}"}]], "a fix behind two units")
     expect([(action["kind"], len(action["diagnostics"])) for action in actions], [("quickfix", 1)], "the kind of a fix")
     expect(editor.ask("textDocument/codeAction", about(uri, range=span(0, 0, 0, 0), context={"diagnostics": []}))["result"], [], "no fix in another line")
-    expect(editor.ask("textDocument/hover", about("file:///none/other.sed", position={"line": 0, "character": 0}))["result"], None, "a text that isn't open")
+    shown = editor.ask("textDocument/hover", about(uri, position={"line": 0, "character": 0}))["result"]["contents"]["value"]
+    expect(shown, "**sedck**: script-refused", "what is shown of a script that isn't read")
+    for method in ("hover", "definition", "formatting", "codeAction"):
+        error = editor.ask("textDocument/" + method, about("file:///none/other.sed", position={"line": 0, "character": 0}, range=span(0, 0, 0, 0)))["error"]
+        expect((error["code"], "file:///none/other.sed" in error["message"]), (-32602, True), "a text that isn't open, for " + method)
     expect(editor.ask("textDocument/rename", about(uri))["error"]["code"], -32601, "an unknown request")
+    expect(editor.ask("textDocument/hover", {})["error"]["code"], -32602, "a request without a parameter")
     editor.tell("$/setTrace", {"value": "off"})
     editor.raw(b"{")
     expect(editor.next()["error"]["code"], -32700, "what is no JSON")
     editor.tell("textDocument/didClose", about(uri))
     message = editor.next()["params"]
     expect((message["uri"], message["diagnostics"]), (uri, []), "a text that is closed")
+
+
+# A shell script with a fault, a loop and an accepted call. Its lines are counted in UTF-16.
+CALLS = "echo '𝄞'; sed 's/a\\+/b/' f\nsed -n ':x;/q/bx;p' f\n\nsed 'b e;p;:e;w out' $f\n"
+MAKEFILE = 'SED = sed\nall:\n\t@$(SED) -e "s/$$x/y/" -e ":a" -e "s/$(Y)/z/;ta" in\n'
+
+
+def starts(found):
+    """The codes of errors, with where each begins and ends."""
+    return [(one["code"], one["range"]) for one in found if one["severity"] == 1]
+
+
+def check_calls(editor):
+    """Calls in a shell script and a makefile have their findings, labels and what is shown at their places."""
+    uri = "file:///none/calls.sh"
+    found = editor.findings(uri, CALLS, "shellscript")
+    expect(starts(found), [("bad-escape", span(0, 19, 0, 21)), ("loop-idle", span(1, 8, 1, 10))], "the errors of calls")
+    related = [one["relatedInformation"] for one in found if one["code"] == "loop-idle"][0]
+    expect([place["location"]["range"]["start"] for place in related], [{"line": 1, "character": at} for at in (8, 14, 8)], "the steps of a loop in a call")
+    expect([one["range"] for one in found if one["code"] == "open-hole"], [span(3, 21, 3, 23)], "a hole of a call")
+    for line, due in ((0, ["**sedck**: script-refused"]), (1, ["**sedck**: loop", "reads: no file", "writes: no file"]), (2, None), (3, ["**sedck**: accepted-if", "writes: `out`"]), (4, None)):
+        shown = editor.ask("textDocument/hover", about(uri, position={"line": line, "character": 1}))["result"]
+        parts = shown and shown["contents"]["value"].split("\n\n")
+        expect(parts if line < 3 else parts and [part for part in parts if part in due], due, "what is shown of line %d, which is %s" % (line, parts))
+    expect(editor.ask("textDocument/formatting", about(uri, options={}))["result"], None, "the spelling of a shell script")
+    expect(editor.ask("textDocument/codeAction", about(uri, range=span(0, 0, 9, 0), context={"diagnostics": []}))["result"], [], "the fixes of calls")
+    for line, at, due in ((1, 14, span(1, 9, 1, 10)), (1, 16, span(1, 9, 1, 10)), (1, 17, None), (3, 5, span(3, 12, 3, 13)), (3, 9, None), (0, 17, None)):
+        check_label(editor, uri, line, at, due)
+    # A change keeps the language.
+    editor.tell("textDocument/didChange", {"textDocument": {"uri": uri, "version": 2}, "contentChanges": [{"text": "\n" + CALLS}]})
+    expect(starts(editor.next()["params"]["diagnostics"])[1], ("loop-idle", span(2, 8, 2, 10)), "a changed shell script")
+    for uri, language in (("file:///none/Makefile", ""), ("file:///none/rules", "makefile")):
+        expect(starts(editor.findings(uri, MAKEFILE, language)), [("loop-growing", span(2, 35, 2, 44))], "a makefile %s %s" % (uri, language))
+        check_label(editor, uri, 2, 46, span(2, 28, 2, 29))
+    expect([one["code"] for one in editor.findings("file:///none/open.sh", "echo 'a\n", "sh")], ["not-understood"], "a shell script that isn't closed")
+    expect(editor.findings("file:///none/none.sh", "echo a\n", "sh"), [], "a shell script without a call")
+
+
+def check_label(editor, uri, line, at, due):
+    """The definition of what is at this place."""
+    found = editor.ask("textDocument/definition", about(uri, position={"line": line, "character": at}))["result"]
+    expect(found or None, due and [{"uri": uri, "range": due}], "the label of %d:%d in %s" % (line, at, uri))
+
+
+def check_labels(editor):
+    """A branch leads to its label, and a label to itself; texts and comments have none."""
+    uri = "file:///none/labels.sed"
+    editor.findings(uri, "# b one\n:one\n𝄞a\n".replace("𝄞a", "s/𝄞/x/;t  two # b one") + "$!{N;b one\n}\n: two\na\\\nb one\nb\n")
+    for line, at, due in ((0, 2, None), (1, 0, span(1, 1, 1, 4)), (1, 4, span(1, 1, 1, 4)), (2, 7, None), (2, 8, span(5, 2, 5, 5)), (2, 14, span(5, 2, 5, 5)), (2, 15, None), (2, 19, None),
+                          (3, 4, None), (3, 5, span(1, 1, 1, 4)), (5, 3, span(5, 2, 5, 5)), (7, 2, None), (8, 0, None)):
+        check_label(editor, uri, line, at, due)
+    editor.findings(uri, ":a\nb a\ns/[/x/\n")
+    check_label(editor, uri, 1, 0, None)
+
+
+def check_kinds(editor):
+    """Which texts are scripts of sed, and which have calls: by the first line, the language that the editor names, and the name."""
+    text, tag = "echo; sed ':a;ba' f\n", "file:///none/"
+    for uri, language, first, code in ((tag + "a", "shellscript", "", "loop-idle"), (tag + "a", "sh", "", "loop-idle"), (tag + "a.sh", "", "", "loop-idle"), (tag + "configure", "", "", "loop-idle"),
+                                       (tag + "a.sed", "sed", "", "unknown-command"), (tag + "a.sh", "sed", "", "unknown-command"), (tag + "a", "", "", "unknown-command"),
+                                       (tag + "a.sed", "sed", "#!/bin/sh\n", "loop-idle"), (tag + "a", "", "#!/usr/bin/env -S A=1 bash\n", "loop-idle"),
+                                       (tag + "a.sh", "shellscript", "#!/bin/sed -f\n", "unknown-command"), (tag + "a", "", "# /bin/sh\n", "unknown-command")):
+        found = editor.findings(uri, first + text, language)
+        expect([one["code"] for one in found if one["severity"] == 1], [code], "the kind of %s as %r with %r" % (uri, language, first))
+    found = editor.findings(tag + "ci.yml", "jobs:\n  a:\n    steps:\n      - run: sed ':a;ba' f\n", "yaml")
+    expect(starts(found), [("loop-idle", span(3, 18, 3, 20))], "a call in YAML")
+    found = editor.findings(tag + "Dockerfile", "FROM x\nRUN sed ':a;ba' f\n", "dockerfile")
+    expect(starts(found), [("loop-idle", span(1, 9, 1, 11))], "a call in a Dockerfile")
+
+
+def check_headers(explain):
+    """A header without a length that can be read is an error, and what follows is read."""
+    for number in (b"1" * 5000, b"9" * 9, b"-1", b"x", b"", b"1 2", b"0x5"):
+        editor = Editor(explain)
+        editor.server.stdin.write(b"Content-Length: %s\r\n\r\n{}" % number)
+        editor.server.stdin.flush()
+        expect(editor.next()["error"]["code"], -32700, "the error after a length of %r" % number[:20])
+        expect("contents" in str(opened_hover(editor)), True, "what follows a length of %r" % number[:20])
+        editor.ask("shutdown", None)
+        expect(editor.end(), 0, "the end after a length of %r" % number[:20])
+    editor = Editor(explain)
+    editor.server.stdin.write(b"Content-Type: x\r\n\r\n{}\n\n\n{}\r\n\r\n")
+    editor.server.stdin.flush()
+    expect(editor.next()["error"]["code"], -32700, "the error of a header without a length")
+    expect("contents" in str(opened_hover(editor)), True, "what follows a header without a length")
+    editor.server.stdin.write(b"content-length:  17 \r\nX-Other: 5\r\n\r\n" + b'{"method":"exit"}')
+    editor.server.stdin.flush()
+    expect(editor.server.wait(60), 1, "another spelling of a header")
+
+
+def opened_hover(editor):
+    """What is shown of a text that is opened."""
+    editor.open("file:///none/a.sed", "p\n")
+    return editor.ask("textDocument/hover", about("file:///none/a.sed", position={"line": 0, "character": 0}))
+
+
+def check_ends(folder):
+    """The server ends with its input, also while it is judging, and answers before that what was asked."""
+    sleeps = Path(folder) / "sleeps"
+    sleeps.write_text('#!/bin/sh\ncat > /dev/null\necho $$ >> "%s/pids"\nexec sleep 600\n' % folder)
+    sleeps.chmod(0o755)
+    editor = Editor(str(sleeps))
+    editor.open("file:///none/a.sed", "p\n")
+    editor.raw(json.dumps({"id": 9, "method": "textDocument/hover", "params": about("file:///none/a.sed", position={"line": 0, "character": 0})}).encode())
+    begun = time.monotonic()
+    editor.server.stdin.close()
+    expect(editor.server.wait(120), 1, "the status where what is asked takes for ever")
+    expect(time.monotonic() - begun < 60, True, "the end comes late")
+    pids = [int(line) for line in (Path(folder) / "pids").read_text().split()]
+    for _ in range(100):
+        left = [pid for pid in pids if Path("/proc/%d" % pid).exists()]
+        if not left:
+            break
+        time.sleep(0.1)
+    expect((len(pids), left if Path("/proc/self").exists() else []), (2, []), "what it was judging")
 
 
 def check_changes(explain, folder):
@@ -207,7 +330,7 @@ def check_malformed(editor):
         editor.raw(text)
         if due:
             expect(editor.next()["error"]["code"], due, "the error of %r" % text[:60])
-        expect(editor.ask("textDocument/hover", about("file:///none/none.sed"))["result"], None, "what follows %r" % text[:60])
+        expect(editor.ask("textDocument/hover", about("file:///none/none.sed"))["error"]["code"], -32602, "what follows %r" % text[:60])
 
 
 def check_life(explain):
@@ -223,11 +346,11 @@ def check_life(explain):
     editor = Editor(explain)
     editor.server.stdin.close()
     expect(editor.server.wait(60), 1, "the status where the editor is gone")
-    for number in (b"1" * 5000, b"1" + b"0" * 14, b"-1", b"x", b""):
+    for text in (b"", b"Content-Length: 5", b"Content-Length: 5\r\n\r\n{}", b"Content-Length: x\r\n\r\n"):
         editor = Editor(explain)
-        editor.server.stdin.write(b"Content-Length: %s\r\n\r\n{}" % number)
-        editor.server.stdin.flush()
-        expect(editor.server.wait(60), 1, "the status after a length of %d digits" % len(number))
+        editor.server.stdin.write(text)
+        editor.server.stdin.close()
+        expect(editor.server.wait(60), 1, "the status where the input ends behind %r" % text)
     editor = Editor("/nowhere/sedck-explain")
     editor.open("file:///none/a.sed", "p\n")
     expect(editor.next()["method"], "window/showMessage", "a program that is missing")
@@ -245,8 +368,13 @@ def main():
         check_ends_of_lines(editor)
         check_bytes(editor, folder)
         check_requests(editor)
+        check_calls(editor)
+        check_labels(editor)
+        check_kinds(editor)
         check_malformed(editor)
         expect("result" in editor.ask("shutdown", None) and editor.end(), 0, "the end")
+        check_headers(explain)
+        check_ends(folder)
         check_changes(explain, folder)
         check_life(explain)
     if not wrong:
