@@ -173,12 +173,12 @@ def check_written(place):
     expect(not list(place.folder.glob(".sedck-known*")), "files are left: %s" % os.listdir(place.folder))
 
 
-# Files with calls. Each call: its status, the words as they are in a report, and its errors: the code, the place counted from the name of the
-# sed, and that in the file.
+# Files with calls. Each call: its status, the words as they are in a report (a backslash or a quote behind a backslash, a newline as \\x0a, and
+# all that as a text of JSON), and its errors: the code, the place counted from the name of the sed, and that in the file.
 FILES = {
     "a.sh": ("echo '\u00e9'; sed 's/a\\+/b/' f\nsed -n ':x;/q/bx;p' f\n\nsed p f; sed ':a\nba' \"q\\\"[{\"\n".encode(),
-             [(2, b'["s/a\\\\+/b/","f"]', [b"bad-escape 1:9 1:20"]), (1, b'["-n",":x;/q/bx;p","f"]', [b"loop-idle 1:9 2:9"]), (0, b"", []),
-              (1, b'[":a\\nba","q\\"[{"]', [b"loop-idle 1:6 4:15"])]),
+             [(2, b'["s/a\\\\\\\\+/b/","f"]', [b"bad-escape 1:9 1:20"]), (1, b'["-n",":x;/q/bx;p","f"]', [b"loop-idle 1:9 2:9"]), (0, b"", []),
+              (1, b'[":a\\\\x0aba","q\\\\\\"[{"]', [b"loop-idle 1:6 4:15"])]),
     "Makefile": (b"all:\n\t@sed -e p \\\n\t\t-e ':a' -e 's/x/xx/;ta' in\n", [(1, b'["-e","p","-e",":a","-e","s/x/xx/;ta","in"]', [b"loop-growing 2:15 3:15"])]),
 }
 

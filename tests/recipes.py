@@ -270,6 +270,17 @@ def hook_of_forms(scratch):
     holds("c.sed:" in scratch.run(2, *shlex.split(hook["entry"]), "a.sed", "c.sed"), "a loop isn't named")
 
 
+def hook_of_known(scratch):
+    """The hook sedck-known: a loop passes that the file names, whatever else that names; one that it doesn't name fails."""
+    hook = {hook["id"]: hook for hook in yaml.safe_load(read(".pre-commit-hooks.yaml"))}["sedck-known"]
+    for name in ("a.sed", "b.sed", "-c.sed"):
+        scratch.write(name, ENDLESS)
+    scratch.run(0, "sedck-known", "--write", "known-loops", "--", "a.sed", "-c.sed")
+    for names, status in ((["a.sed"], 0), (["-c.sed"], 0), (["-c.sed", "a.sed"], 0), (["b.sed"], 1), (["a.sed", "b.sed"], 1)):
+        says = scratch.run(status, *shlex.split(hook["entry"]), *hook["args"], *names)
+        holds(all("known: %s:" % name in says for name in names if name != "b.sed"), "the hook sedck-known says of %s:\n%s" % (names, says))
+
+
 def pre_commit(scratch):
     hooks = {hook["id"]: hook for hook in yaml.safe_load(read(".pre-commit-hooks.yaml"))}
     used = yaml.safe_load(block("A hook", "yaml"))["repos"][0]["hooks"]
@@ -301,7 +312,7 @@ def pre_commit(scratch):
 
 
 # Each recipe with the programs that it needs.
-RECIPES = [(make_check, "make"), (pre_commit, "yaml"), (hook_of_calls, "yaml"), (hook_of_forms, "yaml"), (step, "curl sha256sum tar"), (certificates, ""), (makefile, "make sed"),
+RECIPES = [(make_check, "make"), (pre_commit, "yaml"), (hook_of_calls, "yaml"), (hook_of_forms, "yaml"), (hook_of_known, "yaml"), (step, "curl sha256sum tar"), (certificates, ""), (makefile, "make sed"),
            (in_place, "sed"), (inline, "sed"), (vim, "vim"), (fewer, "")]
 
 
