@@ -59,6 +59,18 @@ def package(folder, uses_automake):
     expect(status == 0 and "sedck.m4" not in said, "autoreconf ends with %d: %s" % (status, said))
 
 
+def check_told(explain, folder, build, what):
+    """What configure is told counts more than the program on the path."""
+    (folder / "path").mkdir()
+    (folder / "path" / "sedck-explain").symlink_to(explain)
+    path = "%s:%s" % (folder / "path", os.environ["PATH"])
+    for told in ("no", ""):
+        status, said = run(["../sources/configure", "SEDCK_EXPLAIN=" + told], build, PATH=path)
+        expect(status == 0, "%s: configure SEDCK_EXPLAIN=%s ends with %d: %s" % (what, told, status, said))
+        status, said = run(["make", "check"], build, PATH=path)
+        expect(status == 0 and "sedck-check: skipped" in said, "%s: after configure SEDCK_EXPLAIN=%s make check gives %d: %s" % (what, told, status, said))
+
+
 def check_macro(explain, folder, uses_automake):
     sources, what = folder / "sources", "with automake" if uses_automake else "without automake"
     sources.mkdir()
@@ -77,6 +89,7 @@ def check_macro(explain, folder, uses_automake):
     (sources / "scripts" / "b c.sed").write_text("w out\n")
     status, said = run(["make", "check", "SEDCK_OPTIONS=--deny writes"], build)
     expect(status != 0 and "[denied-writes]" in said, "%s: other options give %d: %s" % (what, status, said))
+    check_told(explain, folder, build, what)
     # Found on the path, and missing there.
     for name, due in (("sedck-explain", "0"), ("nothing", "skipped")):
         shutil.rmtree(folder / "path", ignore_errors=True)
