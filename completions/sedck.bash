@@ -54,15 +54,18 @@ _sedck_explain() {
 }
 
 _sedck_fmt() {
-    case $COMP_CWORD in
-        1) _sedck_reply --check --diff --write --help ;;
+    case ${COMP_WORDS[COMP_CWORD - 1]}/${COMP_WORDS[COMP_CWORD]} in
+        --stdin-filename/*) COMPREPLY=() ;;
+        */-*) _sedck_reply --check --diff --write --stdin-filename --help -l -d -w ;;
         *) _sedck_reply ;;
     esac
 }
 
 _sedck_known() {
-    case $COMP_CWORD${COMP_WORDS[COMP_CWORD]} in
-        1-*) _sedck_reply --write --help ;;
+    case ${COMP_WORDS[COMP_CWORD - 1]}/${COMP_WORDS[COMP_CWORD]} in
+        --deny/*) _sedck_list reads writes warnings unbounded growing slow references $_sedck_warnings ;;
+        --allow/*) _sedck_list $_sedck_warnings ;;
+        */-*) _sedck_reply --write --changed --calls --deny --allow --help ;;
         *) _sedck_reply ;;
     esac
 }

@@ -2,13 +2,21 @@
 """Compares the words of the completions with what the programs say: python3 tests/completions.py SEDCK SEDCK-EXPLAIN
 
 The subcommands are those of the line that sedck prints for invalid arguments, the options and their values those of --help. Each shell that
-the machine has is asked for its completions; bash answers also what comes after a word, and which values an option has. A shell that is
-missing is named. The status is 0 only where no shell has a word too many or too few.
+the machine has is asked for its completions; bash answers also what comes after a word, and which values an option has. In each shell the
+key Tab is pressed, too. A shell that is missing is named. The status is 0 only where no shell has a word too many or too few.
 """
+import fcntl
 import os
+import pty
 import re
+import select
+import signal
+import struct
 import subprocess
 import sys
+import tempfile
+import termios
+import time
 from pathlib import Path
 
 from skips import has
@@ -41,7 +49,7 @@ def words_of_programs(sedck, explain):
     values["--deny"] |= codes
     values["--allow"] = codes
     words = {"sedck": set(re.findall(r"\b([a-z]+)(?= (?:SCRIPT|CERT))", usage)), "sedck-explain": {option for option, _ in rows},
-             "sedck-fmt": set(re.findall(r"--[a-z]+", said([TOP / "wrapper" / "sedck-fmt", "--help"]).splitlines()[0])),
+             "sedck-fmt": set(re.findall(r"--[a-z-]+", said([TOP / "wrapper" / "sedck-fmt", "--help"]).splitlines()[0])),
              "sedck-known": set(re.findall(r"--[a-z]+", said([TOP / "wrapper" / "sedck-known", "--help"]).splitlines()[0])),
              "sedck-run": set(re.findall(r"--[a-z]+", said([TOP / "wrapper" / "sedck-run", "--help"]).splitlines()[0])),
              "sedck-sed": set(re.findall(r"--[a-z]+", said([TOP / "wrapper" / "sedck-sed", "--help"]).splitlines()[0]))}
@@ -60,7 +68,11 @@ def from_bash(line):
 def check_bash(words, values):
     expect(from_bash("sedck "), words["sedck"], "bash: sedck")
     expect(from_bash("sedck-explain -"), words["sedck-explain"] | {"--"}, "bash: sedck-explain")
-    expect(from_bash("sedck-fmt "), words["sedck-fmt"], "bash: sedck-fmt")
+    expect(from_bash("sedck-fmt -"), words["sedck-fmt"] | {"-l", "-d", "-w"}, "bash: sedck-fmt")
+    expect(from_bash("sedck-fmt -l sedck.b"), {"sedck.bash"}, "bash: a file of sedck-fmt")
+    expect(from_bash("sedck-fmt --stdin-filename "), set(), "bash: a name of standard input")
+    for option in ("--deny", "--allow"):
+        expect(from_bash("sedck-known %s " % option), values[option], "bash: the values of %s of sedck-known" % option)
     expect(from_bash("sedck-known -"), words["sedck-known"], "bash: sedck-known")
     expect(from_bash("sedck-known sedck.b"), {"sedck.bash"}, "bash: a file of sedck-known")
     expect(from_bash("sedck-run -"), words["sedck-run"], "bash: sedck-run")
@@ -84,7 +96,7 @@ def check_bash(words, values):
 def check_zsh(words, values):
     """The words of the file for zsh, which must be one that zsh can read."""
     text = (FOLDER / "_sedck").read_text()
-    text = text.replace("${=warnings}", re.search(r"^local warnings='([^']*)'$", text, re.M)[1])
+    text = text.replace("$warnings", " ".join(re.search(r"^warnings=\(([^)]*)\)$", text, re.M)[1].split()))
     parts = dict(re.findall(r"^    (sedck[\w-]*)\)\n(.*?);;$", text, re.M | re.S))
     expect(set(parts), set(words), "zsh: the programs")
     expect(set(re.match(r"#compdef (.*)", text)[1].split()), set(words), "zsh: the programs of the first line")
@@ -92,7 +104,7 @@ def check_zsh(words, values):
     for name in ("sedck-explain", "sedck-fmt", "sedck-known", "sedck-run", "sedck-sed"):
         expect(set(re.findall(r"(--[\w-]+)[\[}]", parts[name])), words[name], "zsh: " + name)
     for option, due in values.items():
-        listed = re.search("['\"]" + re.escape(option + "[") + r"[^\]]*\]:\w+:(?:\(([^)]*)\)|_values -s , \w+ ([^'\"]*))", parts["sedck-explain"])
+        listed = re.search("['\"][*]?" + re.escape(option + "[") + r"[^\]]*\]:\w+:(?:\(([^)]*)\)|_values -s , \w+ ([^'\"]*))", parts["sedck-explain"])
         expect(set((listed[1] or listed[2]).split()), due, "zsh: the values of " + option)
     if has("completions", "the file as zsh reads it", "zsh"):
         expect(said(["zsh", "-n", str(FOLDER / "_sedck")]), "", "zsh: the file")
@@ -113,6 +125,72 @@ def check_fish(words, values):
             expect(asked("sedck-explain %s " % option), due, "fish: the values of " + option)
 
 
+# How each shell is started, and what it is told so that it completes; then it lists what it has at the first key, without a question.
+STARTS = {
+    "bash": (["bash", "--norc", "--noprofile", "-i"], "source '{0}/sedck.bash'; bind 'set show-all-if-ambiguous on'; bind 'set page-completions off'; bind 'set completion-query-items -1'; PS1='> '"),
+    "zsh": (["zsh", "-f", "-i"], "fpath=('{0}' $fpath); autoload -U compinit; compinit -D -u; LISTMAX=0; PS1='> '; unsetopt menu_complete auto_menu; setopt no_list_ambiguous no_beep"),
+    "fish": (["fish", "--no-config", "-i"], "for file in '{0}'/*.fish; source $file; end; function fish_prompt; echo '> '; end"),
+}
+
+
+class Terminal:
+    """A shell at a terminal, which is wide so that no word of a list is cut."""
+    def __init__(self, shell, folder):
+        start, told = STARTS[shell]
+        self.pid, self.ours = pty.fork()
+        if self.pid == 0:
+            fcntl.ioctl(0, termios.TIOCSWINSZ, struct.pack("HHHH", 200, 400, 0, 0))
+            os.chdir(folder)
+            os.execvpe(start[0], start, {**os.environ, "TERM": "xterm" if shell == "fish" else "dumb", "HOME": folder, "HISTFILE": "", "LC_ALL": "C"})
+        self.count, self.sum = 0, "(math 40 + %d)" if shell == "fish" else "$((40 + %d))"
+        self.said(told.format(FOLDER) + "\n")
+
+    def type(self, text):
+        os.write(self.ours, text.encode())
+
+    def read(self, seconds, mark=None):
+        """What is printed until the mark, or without one until nothing comes for so long."""
+        text, end = "", time.monotonic() + 300
+        while time.monotonic() < end and (mark is None or mark not in text):
+            if select.select([self.ours], [], [], seconds)[0]:
+                try:
+                    text += os.read(self.ours, 65536).decode(errors="replace")
+                except OSError:
+                    # The shell has ended.
+                    break
+            elif mark is None:
+                break
+        return text
+
+    def said(self, typed):
+        """What is printed of what is typed, whose line is then taken away; all of it has come when a command behind it has run."""
+        self.type(typed)
+        text = self.read(1)
+        self.count += 1
+        self.type("\x15echo done%s\n" % (self.sum % self.count))
+        return text + self.read(1, "done%d" % (40 + self.count))
+
+    def end(self):
+        os.kill(self.pid, signal.SIGKILL)
+        os.waitpid(self.pid, 0)
+        os.close(self.ours)
+
+
+def check_tab(values):
+    """At the key Tab each shell lists all values of an option, those behind a comma, and those that begin as what is typed does."""
+    for shell in STARTS:
+        if not has("completions", "the key Tab in " + shell, shell):
+            continue
+        with tempfile.TemporaryDirectory(prefix="sedck-completions-") as folder:
+            terminal = Terminal(shell, folder)
+            for program, option in (("sedck-explain", "--allow"), ("sedck-explain", "--deny"), ("sedck-known", "--deny")):
+                listed = set(re.findall(r"[a-z][a-z-]*", terminal.said("%s %s \t" % (program, option))))
+                expect(values[option] - listed, set(), "%s: what Tab leaves out behind %s %s" % (shell, program, option))
+            for typed, rest in (("sedck-explain --deny warnings,backs", "lash-in-list"), ("sedck-explain --deny locale,gro", "wing"), ("sedck-explain --allow opti", "ons-in-first-line")):
+                expect({rest} if rest in terminal.said(typed + "\t") else set(), {rest}, "%s: what Tab adds to %s" % (shell, typed))
+            terminal.end()
+
+
 def main():
     words, values = words_of_programs(*map(os.path.abspath, sys.argv[1:3]))
     if not all(words.values()) or set(values) != {"--format", "--level", "--deny", "--allow", "--as", "--assume-set"}:
@@ -122,6 +200,7 @@ def main():
         check_bash(words, values)
     check_zsh(words, values)
     check_fish(words, values)
+    check_tab(values)
     if not wrong:
         print("completions: the words of the shells are those of the programs, %d options and subcommands" % sum(map(len, words.values())))
     return 1 if wrong else 0
