@@ -312,11 +312,11 @@ def on_terminal(place, *words):
 
 def check_shown(place):
     """What differs, and what goes to a terminal, has no byte that a terminal obeys: it is shown as in excerpts; what is written has each byte."""
-    text = b"p;s/\x1b(A/\x07/ # \x9b\n# \xc3\xa9 \xe2\x80\xae\tx\na\\\n::error::<&\"'> \xc3\xa9\n\ty\x7f\x01\n\n\n"
-    plain = b"p\ns/\x1b(A/\x07/; # \x9b\n# \xc3\xa9 \xe2\x80\xae\tx\na\\\n::error::<&\"'> \xc3\xa9\n"
+    text = b"p;s/\x1b(A/\x07/ # \xc3\xa9\x9b\n# \xc3\xa9 \xe2\x80\xae\tx\na\\\n::error::<&\"'> \xc3\xa9\n\ty\x7f\x01\n\n\n"
+    plain = b"p\ns/\x1b(A/\x07/; # \xc3\xa9\x9b\n# \xc3\xa9 \xe2\x80\xae\tx\na\\\n::error::<&\"'> \xc3\xa9\n"
     text = text.replace(b"\ty\x7f\x01\n", b"")
     place.write("a.sed", text)
-    shown = [b"s/\\x1b(A/\\x07/; # \\x9b", b"# \xc3\xa9 \\xe2\\x80\\xae    x", b"a\\", b"\\x3a:error::<&\"'> \xc3\xa9"]
+    shown = [b"s/\\x1b(A/\\x07/; # \xc3\xa9\\x9b", b"# \xc3\xa9 \\xe2\\x80\\xae    x", b"a\\", b"\\x3a:error::<&\"'> \xc3\xa9"]
     due = b"--- a.sed\n+++ a.sed\n@@ -1,6 +1,5 @@\n-p;%s\n+p\n+%s\n %s\n %s\n %s\n-\n-\n" % (shown[0].replace(b"; #", b" #"), *shown)
     found = place.run("-d", "a.sed")
     expect(found == (1, due, b""), "-d: %s, and %r is due" % (found, due))
@@ -350,6 +350,18 @@ def check_shells(place):
             expect(found == due, "%s with %s: %s" % (shell, awk, found))
 
 
+def check_doubt(place):
+    """Where a comment is put behind a command only by mistake, or something else is made of the script, its own plain spelling is used."""
+    folder = place.folder / "path"
+    folder.mkdir()
+    real = shutil.which("awk")
+    for change in ("s/; # a/ #a/", "$d", "s/^d/p/", "s/; # b//", "1i\\\\\n# more"):
+        # What awk makes of two files is changed; all else is as ever.
+        place.write("path/awk", ("#!/bin/sh\ncase $3 in */plain) '%s' \"$@\" | sed '%s';; *) exec '%s' \"$@\";; esac\n" % (real, change.replace("\\n", "\n"), real)).encode(), 0o755)
+        found = place.run("-", given=b"p # a\nd # b\nd", PATH="%s:%s" % (folder, os.environ["PATH"]))
+        expect(found == (0, b"# a\np\n# b\nd\nd\n", b""), "%s: %s" % (change, found))
+
+
 def check_programs(place):
     """Beside it, and on the path, the program is found."""
     beside = place.folder / "beside"
@@ -366,7 +378,7 @@ def check_programs(place):
 def main():
     explain = os.path.abspath(sys.argv[1])
     for check in (check_words, check_reports, check_names, check_written, check_streams, check_together, check_folders, check_reasons, check_comments, check_shown,
-                  check_shells, check_programs):
+                  check_shells, check_doubt, check_programs):
         with tempfile.TemporaryDirectory(prefix="sedck-formatter-") as folder:
             check(Place(folder, explain))
     if not wrong:

@@ -196,7 +196,7 @@ def starts(found):
 
 def check_calls(editor):
     """Calls in a shell script and a makefile have their findings, labels and what is shown at their places."""
-    uri = "file:///none/calls.sh"
+    uri = "file:///none/calls"
     found = editor.findings(uri, CALLS, "shellscript")
     expect(starts(found), [("bad-escape", span(0, 19, 0, 21)), ("loop-idle", span(1, 8, 1, 10))], "the errors of calls")
     related = [one["relatedInformation"] for one in found if one["code"] == "loop-idle"][0]
@@ -205,7 +205,7 @@ def check_calls(editor):
     for line, due in ((0, ["**sedck**: script-refused"]), (1, ["**sedck**: loop", "reads: no file", "writes: no file"]), (2, None), (3, ["**sedck**: accepted-if", "writes: `out`"]), (4, None)):
         shown = editor.ask("textDocument/hover", about(uri, position={"line": line, "character": 1}))["result"]
         parts = shown and shown["contents"]["value"].split("\n\n")
-        expect(parts if line < 3 else parts and [part for part in parts if part in due], due, "what is shown of line %d, which is %s" % (line, parts))
+        expect(parts if line < 3 else parts and [part for part in parts if part in (due or parts)], due, "what is shown of line %d, which is %s" % (line, parts))
     expect(editor.ask("textDocument/formatting", about(uri, options={}))["result"], None, "the spelling of a shell script")
     expect(editor.ask("textDocument/codeAction", about(uri, range=span(0, 0, 9, 0), context={"diagnostics": []}))["result"], [], "the fixes of calls")
     for line, at, due in ((1, 14, span(1, 9, 1, 10)), (1, 16, span(1, 9, 1, 10)), (1, 17, None), (3, 5, span(3, 12, 3, 13)), (3, 9, None), (0, 17, None)):
@@ -299,6 +299,21 @@ def check_ends(folder):
     expect((len(pids), left if Path("/proc/self").exists() else []), (2, []), "what it was judging")
 
 
+def check_cut(explain, folder):
+    """A report that isn't whole is none, and so is a text that is another one."""
+    for name, text in (("cut", 'cat > "%s/cut-in"; "%s" "$@" < "%s/cut-in" | head -n 1' % (folder, explain, folder)), ("other", "cat > /dev/null; echo '[]'"), ("empty", "cat > /dev/null")):
+        stub = Path(folder) / name
+        stub.write_text("#!/bin/sh\n%s\n" % text)
+        stub.chmod(0o755)
+        editor = Editor(str(stub))
+        editor.open("file:///none/a.sh", "sed p f\nsed ':a;ba' f\n", language="sh")
+        said = editor.next()
+        expect((said["method"], said["params"].get("type")), ("window/showMessage", 1), "a report that is " + name)
+        expect(editor.next()["params"]["diagnostics"], [], "what is published of a report that is " + name)
+        expect("error" in editor.ask("textDocument/hover", about("file:///none/a.sh", position={"line": 0, "character": 0})), True, "hovering over a report that is " + name)
+        editor.end()
+
+
 def check_changes(explain, folder):
     """Of a text that changes while it is judged only what is said of the last version is published."""
     slow = Path(folder) / "slow"
@@ -375,6 +390,7 @@ def main():
         expect("result" in editor.ask("shutdown", None) and editor.end(), 0, "the end")
         check_headers(explain)
         check_ends(folder)
+        check_cut(explain, folder)
         check_changes(explain, folder)
         check_life(explain)
     if not wrong:
