@@ -355,9 +355,9 @@ def check_doubt(place):
     folder = place.folder / "path"
     folder.mkdir()
     real = shutil.which("awk")
-    for change in ("s/; # a/ #a/", "$d", "s/^d/p/", "s/; # b//", "1i\\\\\n# more"):
+    for change in ("s/; # a/ #a/", "$d", "s/^d/p/", "s/; # b//", "2s/^/# /"):
         # What awk makes of two files is changed; all else is as ever.
-        place.write("path/awk", ("#!/bin/sh\ncase $3 in */plain) '%s' \"$@\" | sed '%s';; *) exec '%s' \"$@\";; esac\n" % (real, change.replace("\\n", "\n"), real)).encode(), 0o755)
+        place.write("path/awk", ("#!/bin/sh\ncase $3 in */plain) '%s' \"$@\" | sed '%s';; *) exec '%s' \"$@\";; esac\n" % (real, change, real)).encode(), 0o755)
         found = place.run("-", given=b"p # a\nd # b\nd", PATH="%s:%s" % (folder, os.environ["PATH"]))
         expect(found == (0, b"# a\np\n# b\nd\nd\n", b""), "%s: %s" % (change, found))
 
