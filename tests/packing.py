@@ -393,7 +393,7 @@ def changed(copy, archive, name, change):
 def verified(copy, archive, build, **given):
     """What `make verify` ends with and says, where the build is this command. The status of make is 2 where there is another one than 0."""
     status, said = run(["make", "--no-print-directory", "verify", "ARCHIVE=%s" % archive, "RT=%s" % copy.rt, "BUILD=%s" % build], copy.top, **given)
-    ended = re.search(r"^make: .* Error (\d+)$", said, re.M)
+    ended = re.search(r"^make(?:\[\d+\])?: .* Error (\d+)$", said, re.M)
     return (int(ended[1]) if ended else status), said
 
 
