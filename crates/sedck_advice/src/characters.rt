@@ -25,7 +25,7 @@ pub(crate) fn character_in(
     location: Location,
 ) -> Result<Option<Character>, AllocError> {
     let command = text.get(location.start..location.end).unwrap_or(&[]);
-    let expressions = expressions_in(alloc, text, location)?;
+    let expressions = expressions_in(alloc, text, location.start, location.end)?;
     for expression in &expressions {
         if let Some(character) = repeated_in(*expression, command) {
             return Ok(Some(character));

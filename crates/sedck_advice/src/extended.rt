@@ -13,7 +13,7 @@ pub(crate) fn extended_in(
     locations: &[Location],
 ) -> Result<Option<usize>, AllocError> {
     for location in locations {
-        for expression in &expressions_in(alloc, text, *location)? {
+        for expression in &expressions_in(alloc, text, location.start, location.end)? {
             if let Some(sign) = extended_at(*expression) {
                 return Ok(Some(sign));
             }

@@ -91,7 +91,7 @@ fn found_in(alloc: Global, text: &[u8], locations: &[Location]) -> Result<Found,
         range: None,
     };
     for location in locations {
-        for expression in &expressions_in(alloc, text, *location)? {
+        for expression in &expressions_in(alloc, text, location.start, location.end)? {
             found.escape = found.escape.or(escape_in(*expression));
             found.class = found.class.or(class_in(*expression));
         }

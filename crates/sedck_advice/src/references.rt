@@ -36,7 +36,7 @@ fn starts_of(
 ) -> Result<Vec<usize>, AllocError> {
     let mut starts = Vec::new(alloc);
     if let Some(location) = location {
-        for expression in &expressions_in(alloc, text, location)? {
+        for expression in &expressions_in(alloc, text, location.start, location.end)? {
             starts.push(expression.start)?;
         }
         starts.push(location.verb)?;

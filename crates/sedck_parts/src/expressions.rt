@@ -1,7 +1,6 @@
 //! Where the expressions of a command are in its text, and their bracket lists.
 
 use crate::reading::Reading;
-use sedck_commands::Location;
 use std::alloc::{AllocError, Global};
 
 /// An expression in the text of a script.
@@ -13,13 +12,14 @@ pub struct Expression<'a> {
     pub delimiter: u8,
 }
 
-/// The expressions of the command's addresses, and that of `s`.
+/// The expressions of a command's addresses, and that of `s`. The text has the command from `start` on to before `end`.
 pub fn expressions_in<'a>(
     alloc: Global,
     text: &'a [u8],
-    location: Location,
+    start: usize,
+    end: usize,
 ) -> Result<Vec<Expression<'a>>, AllocError> {
-    let command = text.get(location.start..location.end).unwrap_or(&[]);
+    let command = text.get(start..end).unwrap_or(&[]);
     let mut expressions = Vec::new(alloc);
     let mut reading = Reading::SCRIPT;
     let mut begin = 0;
@@ -30,7 +30,7 @@ pub fn expressions_in<'a>(
             begin = index.saturating_add(1);
         } else if !reading.is_in_expression() {
             expressions.push(Expression {
-                start: location.start.saturating_add(begin),
+                start: start.saturating_add(begin),
                 bytes: command.get(begin..index).unwrap_or(&[]),
                 delimiter: before.delimiter,
             })?;
