@@ -1,0 +1,4 @@
+pub mod Ends
+pub mod Starts
+pub mod Here
+pub mod Each
