@@ -44,6 +44,7 @@ tools-tests forge.py
 integration-tests packages.py {sedck} {explain}
 calls-tests calls.py {explain}
 calls-tests calls_in_files.py {explain}
+calls-tests mentions.py {explain}
 calls-tests attacks.py {explain}
 wrapper-tests wrapper.py {explain}
 wrapper-tests command.py {explain}

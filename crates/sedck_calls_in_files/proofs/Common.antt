@@ -15,6 +15,6 @@ pub use Rattle.sedck_calls_in_files.specs.Scanned.{asked_of, TextStatus, PathSta
 pub use Rattle.sedck_errors.specs.declared.denied.Denied.{Denied}
 pub use Rattle.sedck_explanation.proofs.Answering.{on_ok}
 pub use Rattle.sedck_explanation.specs.Called.{known_bytes, IsCalled}
-pub use Rattle.sedck_find.specs.declared.found.FoundCall.{FoundCall}
+pub use Rattle.sedck_found.specs.declared.found.FoundCall.{FoundCall}
 pub use Rattle.sedck_formats.specs.Plain.{Output, IsPlainReport}
 pub use Rattle.sedck_report.specs.Positions.{position_in}

@@ -6,9 +6,9 @@ use Rattle.sedck_explanation.specs.Called.{has_foreign, is_denied_call, IsDenied
 use Rattle.sedck_explanation.specs.Explanations.{IsExplanation}
 use Rattle.sedck_answer.specs.Status.{is_accepted}
 use Rattle.sedck_answer.specs.declared.status.Status.TheVariants as exit
-use Rattle.sedck_find.specs.declared.found.FoundScript.{FoundScript}
-use Rattle.sedck_find.specs.declared.found.OpenHole.{OpenHole}
-use Rattle.sedck_find.specs.declared.found.FoundScript.TheVariants.{Text, Foreign, Refused, Unknown}
+use Rattle.sedck_found.specs.declared.found.FoundScript.{FoundScript}
+use Rattle.sedck_found.specs.declared.found.OpenHole.{OpenHole}
+use Rattle.sedck_found.specs.declared.found.FoundScript.TheVariants.{Text, Foreign, Refused, Unknown}
 use Rattle.sedck_origin.specs.Traced.{has_hole}
 use Rattle.sedck_origin.specs.declared.origin.Traced.{Traced}
 use Rattle.sedck_calls_in_files.specs.Judged.{is_in_file, IsUnjudged, IsAcceptedText, IsAcceptedScript}

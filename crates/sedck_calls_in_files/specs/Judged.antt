@@ -22,14 +22,14 @@ use Rattle.sedck_answer.specs.declared.status.Status.{Status}
 use Rattle.sedck_answer.specs.declared.answer.Answer.TheVariants.{NotJudged}
 use Rattle.sedck_answer.specs.declared.explanation.Explanation.{Explanation}
 use Rattle.sedck_answer.specs.declared.status.Status.TheVariants as exit
-use Rattle.sedck_find.specs.declared.found.Assumed.{Assumed}
-use Rattle.sedck_find.specs.declared.found.Followed.{Followed}
-use Rattle.sedck_find.specs.declared.found.FoundCall.{FoundCall}
-use Rattle.sedck_find.specs.declared.found.FoundScript.{FoundScript}
-use Rattle.sedck_find.specs.declared.found.KnownValue.{KnownValue}
-use Rattle.sedck_find.specs.declared.found.KnownValue.TheVariants as variant
-use Rattle.sedck_find.specs.declared.found.OpenHole.{OpenHole}
-use Rattle.sedck_find.specs.declared.found.FoundScript.TheVariants.{Text, Foreign, Refused, Unknown}
+use Rattle.sedck_found.specs.declared.found.Assumed.{Assumed}
+use Rattle.sedck_found.specs.declared.found.Followed.{Followed}
+use Rattle.sedck_found.specs.declared.found.FoundCall.{FoundCall}
+use Rattle.sedck_found.specs.declared.found.FoundScript.{FoundScript}
+use Rattle.sedck_found.specs.declared.found.KnownValue.{KnownValue}
+use Rattle.sedck_found.specs.declared.found.KnownValue.TheVariants as variant
+use Rattle.sedck_found.specs.declared.found.OpenHole.{OpenHole}
+use Rattle.sedck_found.specs.declared.found.FoundScript.TheVariants.{Text, Foreign, Refused, Unknown}
 use Rattle.sedck_origin.specs.Traced.{is_traced, has_hole}
 use Rattle.sedck_origin.specs.declared.origin.Origin.{Origin}
 use Rattle.sedck_origin.specs.declared.origin.Origin.TheVariants.{Value, Given}
@@ -144,7 +144,6 @@ IsSaidOf file denied words (Unknown why) e = IsUnjudged exit.Unknown e
 -- it isn't one that was given with the call of the program
 abbrev pub is_set : KnownValue → Bool
 is_set (variant.Line line) = true
-is_set (variant.Made line) = true
 is_set variant.Empty = true
 is_set variant.Given = false
 is_set variant.Unset = false

@@ -3,11 +3,11 @@
 use crate::request::{FileScan, Look, Scan};
 use sedck_cert::streams::{Sink, write_all};
 use sedck_explanation::{Explanation, Level, Position, Unexplained, shown_name};
-use sedck_find::FoundCall;
 use sedck_formats::{
     CallAt, Names, gcc_report, json_call, json_place, json_report, shown_path, text_answer,
     text_findings, text_report as text_report_of,
 };
+use sedck_found::FoundCall;
 use std::alloc::{AllocError, Global};
 
 /// The report on a call of the file.

@@ -1,7 +1,7 @@
 //! What is assumed of files, in words.
 
 use sedck_explanation::shown_name;
-use sedck_find::Assumptions;
+use sedck_found::Assumptions;
 use std::alloc::{AllocError, Global};
 
 /// The variables as `--assume` has them: a name with its value, or alone where it isn't set.

@@ -3,8 +3,8 @@
 use crate::holes::{followed_words, hole_words};
 use crate::request::{FileScan, Look};
 use sedck_explanation::{Explanation, Finding};
-use sedck_find::{FoundCall, FoundScript, KnownValue, Role};
 use sedck_formats::{ConditionKind, Counts};
+use sedck_found::{FoundCall, FoundScript, KnownValue, Role};
 use std::alloc::{AllocError, Global};
 use std::collections::BTreeMap;
 

@@ -9,10 +9,11 @@ use crate::conditions::Conditions;
 use crate::finder::Finder;
 use crate::judging::{explain_found, explain_unread};
 use crate::request::FileScan;
+use crate::unread_words::{is_word, report_words};
 use sedck_cert::streams::Sink;
 use sedck_explanation::{Position, Status, Unexplained, position_at, position_from};
-use sedck_find::FoundCall;
 use sedck_formats::{CallAnswer, Counts};
+use sedck_found::FoundCall;
 
 /// Explains each call that is found in the file, writes the reports, counts the answers, and answers the worst status. Before
 /// them each place is reported that isn't understood, which is unknown before a run.
@@ -27,14 +28,16 @@ pub fn explain_text<F: Finder, W: Sink>(
     let found = finder.find(asked.alloc, &asked.file, asked.scan.assumed)?;
     counts.files = counts.files.saturating_add(1);
     counts.unread = counts.unread.saturating_add(found.unread.len());
-    let status = report_places(asked, &found.unread, out)?;
+    let status = report_places(asked, &found.unread, &found.words, out)?;
     explain_calls(asked, status, &found.calls, counts, out)
 }
 
-/// Writes a report for each of these places of the file, which aren't understood, and answers their status.
+/// Writes a report for each of these places of the file, which aren't understood, and one for those of them that are these words, and
+/// answers the status of all.
 fn report_places<W: Sink>(
     asked: &FileScan,
     places: &[usize],
+    words: &[usize],
     out: &mut W,
 ) -> Result<Status, Unexplained>
     ensures { IfOk result (λ status. status ≡ unread_status places.now) }
@@ -42,6 +45,9 @@ fn report_places<W: Sink>(
     let text = asked.file.text;
     let mut position = position_at(text, 0);
     for offset in places {
+        if is_word(words, *offset) {
+            continue;
+        }
         position = call_position(text, position, *offset);
         let explanation = explain_unread(asked.alloc, text, position)?;
         write_report(
@@ -49,6 +55,7 @@ fn report_places<W: Sink>(
             path_report(asked.alloc, asked.scan, asked.file.path, &explanation, true),
         )?;
     }
+    report_words(asked, words, out)?;
     Ok(status_of_places(places))
 }
 

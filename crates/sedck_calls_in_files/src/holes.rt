@@ -8,7 +8,7 @@ ghost use Rattle.sedck_calls_in_files.specs.Private.Kinds.{IsWarningIn};
 
 use crate::places::Places;
 use sedck_explanation::{Code, Finding, Level, Position, call_finding, shown_name};
-use sedck_find::{Followed, KnownValue, OpenHole, Overwritten, Role, Unknown};
+use sedck_found::{Followed, KnownValue, OpenHole, Overwritten, Role, Unknown};
 use sedck_origin::{Hole, Origin, Traced, Way, hole_name};
 use sedck_parts::delimited;
 use std::alloc::{AllocError, Global};
@@ -120,11 +120,7 @@ pub(crate) fn followed_words(
 ) -> Result<String, AllocError> {
     let written = shown_part(alloc, file, followed.start, followed.end)?;
     let value = shown_part(alloc, file, followed.from, followed.to)?;
-    let mut message = value_words(alloc, written.as_str(), value.as_str(), followed.value)?;
-    if let Some(line) = followed.open {
-        let change = format!(in alloc; ", which line {line} may change")?;
-        message.push_str(change.as_str())?;
-    }
+    let message = value_words(alloc, written.as_str(), value.as_str(), followed.value)?;
     let part = file.get(followed.start..followed.end).unwrap_or(&[]);
     match (followed.value, hole_name(part)) {
         (KnownValue::Given | KnownValue::Unset, _) | (_, None) => Ok(message),
@@ -143,9 +139,6 @@ fn value_words(
     match known {
         KnownValue::Line(line) => format!(in alloc;
             "the answer holds if \"{written}\" is \"{value}\", as line {line} sets it"
-        ),
-        KnownValue::Made(line) => format!(in alloc;
-            "the answer holds if \"{written}\" is \"{value}\", as line {line} sets it, which the call of make, `include` or `$(eval)` may change"
         ),
         KnownValue::Empty => {
             format!(in alloc; "the answer holds if \"{written}\" is empty, as the file sets it")
@@ -413,17 +406,9 @@ pub(crate) fn unknown_warning(
             "macros of M4 may change this script, so it is not judged",
             "explain the script that M4 makes of this file",
         ),
-        Unknown::Function => (
-            "a function, an alias or a table of this file may have something else run here, so the call is not judged",
-            "write `command sed` where a function has the name of the sed, and else the path of the sed",
-        ),
         Unknown::Suffix => (
             "the script is empty after -i: the seds of the BSDs take that word for the suffix, and the next one for the script",
             "write -i.bak, or give the script with -e",
-        ),
-        Unknown::Setting => (
-            "an option of the shell that this file sets may change the words of the call, so it is not judged",
-            "leave the option out, or quote the words",
         ),
     };
     warning_at(alloc, file, position, Code::Unknowable, words)

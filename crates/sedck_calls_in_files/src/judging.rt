@@ -21,7 +21,7 @@ use sedck_explanation::{
     Denied, Explanation, Finding, Position, Status, explain_called, foreign_findings, has_foreign,
     not_judged, refusal_of,
 };
-use sedck_find::{Assumed, FoundCall, FoundScript, OpenHole, Unknown};
+use sedck_found::{Assumed, FoundCall, FoundScript, OpenHole, Unknown};
 use sedck_origin::{Traced, has_hole};
 use std::alloc::{AllocError, Global};
 

@@ -5,7 +5,7 @@ ghost use Rattle.sedck_calls_in_files.specs.Private.Contents.{IsContents};
 
 use sedck_cert::streams::Source;
 use sedck_engines::{Input, RunFault, read_up_to};
-use sedck_hosts::{Kind, kind_of};
+use sedck_kinds::{Kind, kind_of};
 use std::alloc::{AllocError, Global};
 
 /// The most bytes of a file that are read.

@@ -1,8 +1,8 @@
 //! What is asked of a scan.
 
 use sedck_explanation::{Denied, Level};
-use sedck_find::Assumptions;
-use sedck_hosts::Kind;
+use sedck_found::Assumptions;
+use sedck_kinds::Kind;
 use std::alloc::Global;
 
 /// How the reports of a scan look.

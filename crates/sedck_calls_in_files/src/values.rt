@@ -5,7 +5,7 @@ ghost use Rattle.std.specs.Prelude.{◌≡◌};
 ghost use Rattle.std.specs.List.{list_any};
 ghost use Rattle.sedck_calls_in_files.specs.Judged.{gives as gives_byte, is_assumed as is_assumed_byte, is_set as is_set_value, has_set as has_set_value, is_set_by as is_byte_set_by, has_set_from as has_set_byte_from, has_set_byte as has_set_byte_of, has_set_script as has_set_script_of, is_set_in as is_set_in_call};
 
-use sedck_find::{Assumed, Followed, FoundCall, FoundScript, KnownValue};
+use sedck_found::{Assumed, Followed, FoundCall, FoundScript, KnownValue};
 use sedck_origin::{Origin, Traced};
 
 /// Whether a value that the file sets is put into the call.

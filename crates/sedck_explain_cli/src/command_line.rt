@@ -12,6 +12,7 @@ ghost use Rattle.sedck_explain_cli.specs.Answers.{call_of, asks_for_help, asks_f
 
 use crate::calls::explain_words;
 use crate::explaining::explain_path;
+use crate::finding::AsTheShell;
 use crate::format::Format;
 use crate::request::{Request, request_of};
 use crate::scanning::{explain_files, spell_found};
@@ -20,7 +21,7 @@ use crate::unexplained::{misused, report_fault, report_unexplained};
 use crate::words::Words;
 use clap::Error;
 use clap::error::ErrorKind;
-use sedck_calls_in_files::{AsTheShell, Finder, out_of_memory, slices_of, unwritten};
+use sedck_calls_in_files::{Finder, out_of_memory, slices_of, unwritten};
 use sedck_cert::streams::{Sink, write_all};
 use sedck_engines::{FromFiles, Opener};
 use sedck_explanation::{Denied, Status};

@@ -11,6 +11,7 @@ mod command_line;
 mod conditions;
 mod delivering;
 mod explaining;
+mod finding;
 mod format;
 mod mending;
 mod policy;

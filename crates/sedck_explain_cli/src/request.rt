@@ -11,9 +11,9 @@ use crate::sets::{AUTOCONF, SETS};
 use clap::{Arg, ArgAction, ArgMatches, Command, Error};
 use sedck_calls_in_files::At;
 use sedck_explanation::{Code, Denied, DeniedWarnings, Level};
-use sedck_find::Assumed;
 use sedck_formats::VERSION;
-use sedck_hosts::Kind;
+use sedck_found::Assumed;
+use sedck_kinds::Kind;
 use sedck_plain::Comments;
 use std::alloc::{AllocError, Global};
 

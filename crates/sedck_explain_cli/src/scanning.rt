@@ -13,7 +13,7 @@ use sedck_calls_in_files::{Finder, Look, Scan, Walk, scan_files, spell_call};
 use sedck_cert::streams::Sink;
 use sedck_engines::Opener;
 use sedck_explanation::Status;
-use sedck_find::Assumptions;
+use sedck_found::Assumptions;
 use std::fs::Files;
 use std::io::Input;
 

@@ -1,9 +1,9 @@
 //! Finds the calls of sed in a file.
 
+ghost use Rattle.std.specs.Prelude.{IfOk};
+ghost use Rattle.sedck_find.specs.Told.{has_macros, IsTold};
+
 use crate::assigning::is_assignment;
-use crate::found::{
-    Assumptions, Followed, Found, FoundCall, FoundScript, KnownValue, OpenHole, Role, Unknown,
-};
 use crate::macros::Macros;
 use crate::mentions::{call_in, editor_in, looks_called, mention_in};
 use crate::names::Names;
@@ -14,12 +14,15 @@ use crate::replaced::with_holes;
 use crate::script::{Around, script_of};
 use crate::settings::settings_of;
 use crate::texts::{Held, Texts};
+use crate::told::with_words;
 use crate::units::{hole_of, lone_hole, rest};
 use crate::values::{MOST, Value, has_placeholder, line_starts};
 use crate::words::{CallWord, Filler, quoted};
-use sedck_hosts::{
-    Assignment, Kind, host_of, is_bash, is_dollar_quoting, is_run_by_sed, is_zsh, kind_of, shell_of,
+use sedck_found::{
+    Assumptions, Followed, Found, FoundCall, FoundScript, KnownValue, OpenHole, Role, Unknown,
 };
+use sedck_hosts::{Assignment, host_of};
+use sedck_kinds::{Kind, is_bash, is_dollar_quoting, is_run_by_sed, is_zsh, kind_of, shell_of};
 use sedck_origin::{Hole, Result, Text, Unit, Way, begins_with, has_hole};
 use sedck_shell::{Dialect, Form};
 use std::alloc::Global;
@@ -47,14 +50,28 @@ fn form_of(kind: Kind, path: &str, file: &[u8]) -> Form {
     }
 }
 
-/// The calls of sed in a file of this kind, with this path.
+/// The calls of sed in a file of this kind, with this path. No word for a sed is passed in silence.
 pub fn calls_in<'a>(
     alloc: Global,
     kind: Kind,
     path: &str,
     file: &'a [u8],
     assumed: Assumptions<'a>,
-) -> Result<Found> {
+) -> Result<Found>
+    ensures told { IfOk result (IsTold (has_macros kind) file.now) }
+{
+    let (calls, unread) = read_calls(alloc, kind, path, file, assumed)?;
+    with_words(alloc, kind, file, calls, unread)
+}
+
+/// The calls in the file, and what isn't understood, as a shell reads it.
+fn read_calls<'a>(
+    alloc: Global,
+    kind: Kind,
+    path: &str,
+    file: &'a [u8],
+    assumed: Assumptions<'a>,
+) -> Result<(Vec<FoundCall>, Vec<usize>)> {
     let mut given = Vec::new(alloc);
     for one in assumed.variables {
         given.push(Value::given(alloc, one.value.unwrap_or(&[]))?)?;
@@ -119,7 +136,7 @@ fn read_file(names: Names<'_>) -> Result<Texts<'_>> {
 }
 
 /// What is found in the commands that were read: the calls in the file's order, each once, and what may call sed otherwise.
-fn found_in(texts: &Texts<'_>) -> Result<Found> {
+fn found_in(texts: &Texts<'_>) -> Result<(Vec<FoundCall>, Vec<usize>)> {
     let names = &texts.names;
     let mut unread = Vec::from_slice(names.alloc, &texts.unread)?;
     let mut calls = Vec::new(names.alloc);
@@ -154,7 +171,7 @@ fn found_in(texts: &Texts<'_>) -> Result<Found> {
     calls.sort_by_key(|call| call.start)?;
     unread.sort()?;
     unread.dedup();
-    Ok(Found { calls, unread })
+    Ok((calls, unread))
 }
 
 /// Adds the offsets of what may call sed in these parts of a command that aren't calls of one.
@@ -263,6 +280,7 @@ fn found_call(
     let words = words.into_iter().map(|word| word.traced);
     Ok(FoundCall {
         start: name.start,
+        end: name.end,
         overwritten,
         words: words.collect(alloc)?,
         script,
@@ -288,7 +306,6 @@ fn note_conditions(filler: &mut Filler<'_>, script: &mut FoundScript) -> Result<
                 value: KnownValue::Unset,
                 from: 0,
                 to: 0,
-                open: None,
             })?;
         }
     }
@@ -312,11 +329,11 @@ fn changed_by(names: &Names<'_>, part: &Part) -> Result<Option<Unknown>> {
     let called = rest(&part.name.units, part.glued);
     let is_function = part.run.is_direct && names.is_function(called)?;
     if part.run.is_redefined || is_function || names.is_replaced(called)? {
-        return Ok(Some(Unknown::Function));
+        return Ok(Some(Unknown::Words));
     }
     let has_assignment = part.others.iter().any(|word| is_assignment(&word.units));
     let is_changed = names.settings.has_signs || (names.settings.has_keywords && has_assignment);
-    Ok(is_changed.then_some(Unknown::Setting))
+    Ok(is_changed.then_some(Unknown::Words))
 }
 
 /// The words of a call after its name, with the options in the value of a variable that is the name, and whether all that is put into them

@@ -1,10 +1,10 @@
 //! What must hold so that the words of a call are as they are read.
 
-use crate::found::{OpenHole, Role};
 use crate::parts::Runner;
 use crate::script::Around;
 use crate::words::CallWord;
 use sedck_call::{Call, CallOption, Given, Piece, Taken};
+use sedck_found::{OpenHole, Role};
 use sedck_origin::{Hole, Origin, Result, Way};
 use sedck_shell::Pattern;
 use std::alloc::Global;

@@ -1,9 +1,9 @@
 //! The holes of a script, with letters in their places that fit their roles.
 
-use crate::found::{OpenHole, Role};
 use crate::script::Around;
 use crate::words::{CallWord, add, empty};
 use sedck_call::{Call, Piece};
+use sedck_found::{OpenHole, Role};
 use sedck_origin::{Hole, Origin, Result, Traced, Way};
 use sedck_parts::{Place, Reading};
 use std::alloc::Global;

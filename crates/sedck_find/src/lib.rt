@@ -1,13 +1,13 @@
 //! Calls of sed in a file that has shell text, and their scripts.
 //!
 //! Each text of the file is read as shell text, and so is what it hands to another shell. Then it is known how often each variable is set,
-//! and the calls are put together. Nothing is promised of what is found: it is compared with the file before it is judged.
+//! and the calls are put together. What is found is compared with the file before it is judged. It is promised that no word for a sed is passed
+//! in silence.
 #![tactic(auto)]
 
 mod assigning;
 mod calls;
 mod conditions;
-mod found;
 mod holes;
 mod loops;
 mod macros;
@@ -23,12 +23,9 @@ mod script;
 mod settings;
 mod shells;
 mod texts;
+mod told;
 mod units;
 mod values;
 mod words;
 
 pub use calls::calls_in;
-pub use found::{
-    Assumed, Assumptions, Followed, Found, FoundCall, FoundScript, KnownValue, OpenHole,
-    Overwritten, Role, Unknown,
-};

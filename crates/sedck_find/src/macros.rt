@@ -2,7 +2,7 @@
 
 use crate::units::{begins_name, is_one_in, rest};
 use crate::words::CallWord;
-use sedck_hosts::Kind;
+use sedck_kinds::Kind;
 use sedck_origin::{Origin, Result, Traced, is_name_byte};
 use sedck_shell::ShellWord;
 use std::alloc::Global;

@@ -1,7 +1,7 @@
 //! Scripts whose commands have their delimiters in lists, with other delimiters.
 
-use crate::found::{OpenHole, Role};
 use crate::words::{add, empty, quoted};
+use sedck_found::{OpenHole, Role};
 use sedck_origin::{Hole, Origin, Result, Traced};
 use sedck_parts::{Mend, Reading, escapes_delimiter, mends_in};
 use std::alloc::Global;

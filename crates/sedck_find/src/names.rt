@@ -1,12 +1,12 @@
 //! What is known of the variables of a file.
 
-use crate::found::{Assumptions, Followed};
 use crate::loops::Loop;
 use crate::macros::Macros;
 use crate::settings::Settings;
 use crate::units::{bytes_of, hole_of, is_one_in};
 use crate::values::{MOST, Value};
-use sedck_hosts::Kind;
+use sedck_found::{Assumptions, Followed};
+use sedck_kinds::Kind;
 use sedck_origin::{Hole, Result, Unit, hole_name};
 use sedck_shell::Form;
 use std::alloc::Global;
@@ -206,18 +206,9 @@ impl<'a> Names<'a> {
         Followed {
             start: hole.start,
             end: hole.end,
-            value: value.source(self.line_of(value.start), self.is_make()),
+            value: value.source(self.line_of(value.start)),
             from: value.start,
             to: value.end,
-            open: self.open_line(value),
-        }
-    }
-
-    /// The line of the first command that may set variables which it doesn't name, unless the value was given with the call of this program.
-    fn open_line(&self, value: &Value) -> Option<usize> {
-        match self.open {
-            Some(offset) if !value.is_given => Some(self.line_of(offset)),
-            _ => None,
         }
     }
 

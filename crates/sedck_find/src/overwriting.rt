@@ -1,6 +1,5 @@
 //! Calls whose output goes to a file that they read, or for which a shell empties one.
 
-use crate::found::{FoundScript, Overwritten};
 use crate::names::{Names, replaced_name};
 use crate::parts::Runner;
 use crate::script::Around;
@@ -8,6 +7,7 @@ use crate::texts::Held;
 use crate::units::{is_one_in, is_word_in, last_part};
 use crate::words::{Filler, STANDARD};
 use sedck_call::{Call, CallOption, Given, path_of};
+use sedck_found::{FoundScript, Overwritten};
 use sedck_origin::{Origin, Result, Traced, begins_with, hole_name, is_text};
 use sedck_parts::{Place, Reading};
 use sedck_shell::{ShellWord, Target};

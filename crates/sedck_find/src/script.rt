@@ -1,7 +1,6 @@
 //! The script of a call.
 
 use crate::conditions::conditions_of;
-use crate::found::{FoundScript, OpenHole, Role, Unknown};
 use crate::holes::roles_of;
 use crate::mending::mended;
 use crate::names::Names;
@@ -9,6 +8,7 @@ use crate::parts::Runner;
 use crate::units::{is_one_in, rest};
 use crate::words::{CallWord, LONGEST, STANDARD};
 use sedck_call::{Call, CallFault, CallOption, Given, Piece, call_of};
+use sedck_found::{FoundScript, OpenHole, Role, Unknown};
 use sedck_origin::{Hole, Result, Way, has_hole};
 use std::alloc::AllocError;
 
@@ -65,7 +65,7 @@ fn script_in(names: &Names<'_>, call: Call, around: Around<'_>) -> Result<FoundS
     };
     let has_pattern = |hole: &OpenHole| matches!(hole.role, Role::Pattern);
     if names.settings.has_no_match && others.iter().any(has_pattern) {
-        return Ok(FoundScript::Unknown(Unknown::Setting));
+        return Ok(FoundScript::Unknown(Unknown::Words));
     }
     if names.macros.change(around.words, &text) {
         return Ok(FoundScript::Unknown(Unknown::Macro));

@@ -10,7 +10,7 @@ use crate::units::{
     after, begins_open, bytes_of, has_hole, has_letter, is_letters, is_word_in, last_part, rest,
     without,
 };
-use sedck_hosts::{is_bash, is_dollar_quoting, is_zsh};
+use sedck_kinds::{is_bash, is_dollar_quoting, is_zsh};
 use sedck_origin::{Result, Text, Unit, Way, begins_with, byte_at, is_text};
 use sedck_shell::{Form, ShellCommand, ShellWord, read_shell};
 use std::alloc::Global;

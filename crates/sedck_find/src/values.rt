@@ -1,7 +1,7 @@
 //! The values of variables.
 
-use crate::found::{Followed, KnownValue};
 use crate::units::{after, has_any, has_hole};
+use sedck_found::{Followed, KnownValue};
 use sedck_origin::{Result, Unit, Way, name_length};
 use std::alloc::Global;
 
@@ -59,12 +59,11 @@ impl Value {
         way != Way::Several && !(way.is_split() && may_split) && !is_read
     }
 
-    /// Where it comes from: the file has it on this line, for make or not.
-    pub fn source(&self, line: usize, is_made: bool) -> KnownValue {
+    /// Where it comes from: the file has it on this line.
+    pub fn source(&self, line: usize) -> KnownValue {
         match self.units.as_slice() {
             _ if self.is_given => KnownValue::Given,
             [] => KnownValue::Empty,
-            _ if is_made => KnownValue::Made(line),
             _ => KnownValue::Line(line),
         }
     }

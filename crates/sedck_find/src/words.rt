@@ -1,10 +1,10 @@
 //! The words of a call, each byte with its place in the file.
 
-use crate::found::{Followed, OpenHole};
 use crate::names::Names;
 use crate::programs::is_sed_variable;
 use crate::units::{has_any, hole_of};
 use crate::values::{SPECIAL, Value, is_blank};
+use sedck_found::{Followed, OpenHole};
 use sedck_origin::{Hole, Origin, Result, Traced, Unit, Way, hole_name};
 use sedck_shell::{Pattern, ShellWord};
 use std::alloc::Global;

@@ -1,8 +1,8 @@
 //! Dockerfiles: the commands of `RUN`, and those of `CMD`, `ENTRYPOINT` and `HEALTHCHECK`.
 
 use crate::host::Host;
-use crate::kind::{Kind, interpreter_kind, is_zsh, program_kind, without_path};
 use crate::parts::{Part, is_in};
+use sedck_kinds::{Kind, interpreter_kind, is_zsh, program_kind, without_path};
 use sedck_origin::{Result, Unit, begins_with};
 use std::alloc::Global;
 

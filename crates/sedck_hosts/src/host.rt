@@ -1,11 +1,11 @@
 //! The shell text of a file. That of a source of Autoconf is the whole file, without comments of M4.
 
 use crate::docker::host_of_docker;
-use crate::kind::Kind;
 use crate::make::host_of_make;
 use crate::parts::{Part, is_in};
 use crate::spec::host_of_spec;
 use crate::yaml::host_of_yaml;
+use sedck_kinds::Kind;
 use sedck_origin::{Result, Unit, is_name_byte};
 use std::alloc::Global;
 

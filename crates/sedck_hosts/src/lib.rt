@@ -5,7 +5,6 @@
 
 mod docker;
 mod host;
-mod kind;
 mod make;
 mod make_text;
 mod parts;
@@ -14,4 +13,3 @@ mod spec;
 mod yaml;
 
 pub use host::{Assignment, Host, host_of};
-pub use kind::{Kind, is_bash, is_dollar_quoting, is_run_by_sed, is_zsh, kind_of, shell_of};

@@ -1,11 +1,11 @@
 //! Makefiles: lines of recipes, `$(shell ..)`, and assignments (POSIX.1-2024 XCU make, and GNU make).
 
 use crate::host::{Assignment, Host};
-use crate::kind::is_shell;
 use crate::make_text::{
     Arguments, Reading, after_conditionals, called_name, read_make_text, reference_end,
 };
 use crate::parts::{Part, is, is_in, is_word_of};
+use sedck_kinds::is_shell;
 use sedck_origin::{Result, Unit};
 use std::alloc::Global;
 
@@ -112,7 +112,7 @@ fn sets_foreign_shell(line: Part) -> bool {
     };
     let value = definition.value.to(definition.value.from_any("#").start);
     let is_whole = !is_word_of(definition.sign, "+= !=") && value.from_any("$@").len() == 0;
-    let is_other = is_whole && !value.is_ended() && !is_shell(value);
+    let is_other = is_whole && !value.is_ended() && !is_shell(value.bytes());
     let is_set = !line.starts_with("\t") && is(definition.name.bytes(), "SHELL");
     is_set && (is_other || names_other_shell(value))
 }

@@ -1,5 +1,6 @@
 //! Parts of a file, its lines, and where calls of sed seem to begin.
 
+pub(crate) use sedck_kinds::{is, is_word_of, named};
 use sedck_origin::{Result, Unit, has_byte, is_name_byte};
 
 /// A part of a file: from the first offset on to before the second one.
@@ -266,26 +267,6 @@ impl<'a> Part<'a> {
     pub fn byte_before(self) -> Option<u8> {
         self.file.get(self.start.checked_sub(1)?).copied()
     }
-}
-
-/// Whether the bytes are this text.
-pub(crate) fn is(bytes: &[u8], text: &str) -> bool {
-    bytes == text.as_bytes()
-}
-
-/// Whether the bytes are one of these words, between which spaces are.
-pub(crate) fn is_word_of(bytes: &[u8], words: &str) -> bool {
-    words.split(' ').any(|word| is(bytes, word))
-}
-
-/// What the list has the word for.
-pub(crate) fn named<T: Copy>(list: &[(T, &str)], word: &[u8]) -> Option<T> {
-    for (meant, words) in list {
-        if is_word_of(word, words) {
-            return Some(*meant);
-        }
-    }
-    None
 }
 
 /// Whether the text has the byte.

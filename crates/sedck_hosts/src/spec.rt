@@ -1,9 +1,9 @@
 //! Spec files of RPM: the sections that are shell text, where macros are holes.
 
 use crate::host::Host;
-use crate::kind::{Kind, is_zsh, program_kind, without_path};
 use crate::make_text::reference_end;
 use crate::parts::{Brackets, Part, QUOTES, is, is_word_of, named};
+use sedck_kinds::{Kind, is_zsh, program_kind, without_path};
 use sedck_origin::{Result, Unit};
 use std::alloc::Global;
 

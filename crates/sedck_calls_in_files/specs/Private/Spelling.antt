@@ -3,7 +3,7 @@ use Rattle.std.specs.Prelude.{ℕ, List, Option}
 use Rattle.sedck_answer.specs.declared.explanation.Explanation.{Explanation}
 use Rattle.sedck_answer.specs.declared.status.Status.{Status}
 use Rattle.sedck_formats.specs.Plain.{Output, IsPlainStatus, IsPlainOutput}
-use Rattle.sedck_find.specs.declared.found.FoundCall.{FoundCall}
+use Rattle.sedck_found.specs.declared.found.FoundCall.{FoundCall}
 use Rattle.sedck_calls_in_files.specs.Judged.{AskedOfCalls, IsSaidOfFound}
 use Rattle.sedck_calls_in_files.specs.Scanned.{Holds, IsSaidOfOne}
 

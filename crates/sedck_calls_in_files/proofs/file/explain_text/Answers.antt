@@ -9,12 +9,12 @@ returns g c =
     let found = c.in_ok-found.found in
     let first = c.in_ok-status.status in
     let is_first : first ≡ unread_status found.unread.items = c.in_ok-status.ensures ∙ ap unread_status c.deref.ensures.value in
-    on_ok (IsWorst text asked first c.deref-2.result.now)
+    on_ok (IsWorst text asked first c.deref-3.result.now)
     (TextStatus (g.F.Finder.found c.args.finder.now c.args.asked.now.file.path.now text) asked text) c.explain_calls.result
     (λ status worst. (
       found,
       c.in_ok-found.ensures,
       subst (λ known. IsWorst text asked known found.calls.items status) is_first
-          (subst (λ calls. IsWorst text asked first calls status) c.deref-2.ensures.value worst),
+          (subst (λ calls. IsWorst text asked first calls status) c.deref-3.ensures.value worst),
     ))
     c.explain_calls.ensures

@@ -1,6 +1,6 @@
 use Rattle.sedck_calls_in_files.proofs.Common.{◌≡◌, ◌∙◌, false, List, [], ◌∷◌, refl, sym, ap}
 use Rattle.std.proofs.Common.{drop, drop_of_length-le}
-use Rattle.sedck_find.specs.declared.found.Assumed.{Assumed}
+use Rattle.sedck_found.specs.declared.found.Assumed.{Assumed}
 use Rattle.sedck_origin.specs.declared.origin.Origin.{Origin}
 use Rattle.sedck_calls_in_files.specs.Judged.{has_set_from as has_set_byte_from}
 use Rattle.sedck_calls_in_files.proofs.values.has_set_from.Goals as goal

@@ -22,7 +22,7 @@ pub struct Assumptions<'a> {
 
 impl Assumptions<'_> {
     /// Whether it is assumed that POSIXLY_CORRECT isn't set.
-    pub(crate) fn has_order(&self) -> bool {
+    pub fn has_order(&self) -> bool {
         let mut variables = self.variables.iter();
         variables.any(|one| one.name == b"POSIXLY_CORRECT".as_slice() && one.value.is_none())
     }
@@ -31,8 +31,10 @@ impl Assumptions<'_> {
 /// A call of sed.
 #[derive(Drop)]
 pub struct FoundCall {
-    /// The offset in the file of the command's name.
+    /// The file has the command's name from this offset on ..
     pub start: usize,
+    /// .. to before this one.
+    pub end: usize,
     /// The words after the name.
     pub words: Vec<Traced>,
     pub script: FoundScript,
@@ -69,8 +71,6 @@ pub struct Followed {
     pub from: usize,
     /// .. to before this one.
     pub to: usize,
-    /// The number of the first line with a command that may set variables which it doesn't name, if the file sets the value.
-    pub open: Option<usize>,
 }
 
 /// Where a value comes from.
@@ -78,8 +78,6 @@ pub struct Followed {
 pub enum KnownValue {
     /// The file sets it to what begins on the line of this number, from 1.
     Line(usize),
-    /// The same of make's, for which the call of make or another file may give another value.
-    Made(usize),
     /// The file sets it to nothing.
     Empty,
     /// It was given with the call of this program.
@@ -116,10 +114,6 @@ pub enum Unknown {
     File,
     /// Macros of M4 change the script.
     Macro,
-    /// A function, an alias or a table of the file may have something else run in place of the sed, or of what runs it.
-    Function,
-    /// A setting of the file may change the words.
-    Setting,
     /// The script is empty after `-i`, which some seds read as the suffix of that option.
     Suffix,
 }
@@ -138,7 +132,7 @@ pub struct OpenHole {
 
 impl OpenHole {
     /// One with this delimiter, which is 0 outside of expressions and replacements.
-    pub(crate) fn new(hole: Hole, role: Role, delimiter: u8) -> OpenHole {
+    pub fn new(hole: Hole, role: Role, delimiter: u8) -> OpenHole {
         OpenHole {
             hole,
             role,
@@ -148,7 +142,7 @@ impl OpenHole {
     }
 
     /// Whether it is on options after an operand.
-    pub(crate) fn is_of_order(&self) -> bool {
+    pub fn is_of_order(&self) -> bool {
         matches!(self.role, Role::Options)
     }
 }
@@ -195,4 +189,6 @@ pub struct Found {
     pub calls: Vec<FoundCall>,
     /// The offsets of what wasn't understood, in the file's order. Reading went on at a next line.
     pub unread: Vec<usize>,
+    /// Those of them at which the file has a word for a sed, and of which the reader of shell text says nothing.
+    pub words: Vec<usize>,
 }

@@ -1,6 +1,6 @@
 //! The kinds of files that have shell text.
 
-use crate::parts::{Part, is, is_word_of, named};
+use crate::words::{is, is_word_of, named, split_last, split_word};
 
 /// A kind of files that have shell text.
 #[derive(Clone, Copy, PartialEq, Eq)]
@@ -79,6 +79,9 @@ static PROGRAMS: Names = &[
 /// Names of shells that read `$'..'`.
 const DOLLAR_QUOTING: &str = "bash @BASH@ ksh ksh93 mksh zsh";
 
+/// The most words of a first line that are read.
+const MOST_WORDS: usize = 8;
+
 /// The kind of a file with this path and these bytes, where it is known by its name or its first line. A shell or make in the first line
 /// says more than the name of a script or a makefile.
 pub fn kind_of(path: &str, bytes: &[u8]) -> Option<Kind> {
@@ -123,17 +126,8 @@ pub fn is_run_by_sed(bytes: &[u8]) -> bool {
     interpreter(bytes).is_some_and(|name| is_word_of(name, "sed gsed ssed"))
 }
 
-/// What is before the last such byte, and what is after it; nothing and all if there is none.
-fn split_last(bytes: &[u8], byte: u8) -> (&[u8], &[u8]) {
-    let Some(last) = bytes.iter().rposition(|other| *other == byte) else {
-        return (&[], bytes);
-    };
-    let behind = bytes.get(last.saturating_add(1)..).unwrap_or(&[]);
-    (bytes.get(..last).unwrap_or(&[]), behind)
-}
-
 /// The name after the path to it.
-pub(crate) fn without_path(path: &[u8]) -> &[u8] {
+pub fn without_path(path: &[u8]) -> &[u8] {
     split_last(path, b'/').1
 }
 
@@ -180,25 +174,36 @@ fn is_other_language(before: &[u8], first: &[u8]) -> bool {
 }
 
 /// The kind by the first line, which names an interpreter after `#!`.
-pub(crate) fn interpreter_kind(bytes: &[u8]) -> Option<Kind> {
+pub fn interpreter_kind(bytes: &[u8]) -> Option<Kind> {
     program_kind(interpreter(bytes)?)
 }
 
 /// The name of the interpreter in the first line, without the path to it.
 fn interpreter(bytes: &[u8]) -> Option<&[u8]> {
-    let rest = Part::whole(bytes.strip_prefix(b"#!")?);
-    let line = rest.to(rest.from_any("\n\r").start).after_blanks();
-    Some(program_of(line))
+    Some(program_of(first_line(bytes.strip_prefix(b"#!")?)))
 }
 
-/// The name of the program that the words run, without the path to it.
-fn program_of(words: Part) -> &[u8] {
-    let (word, _) = words.after_words(7, is_passed).split_word();
-    without_path(word)
+/// The bytes before the first newline or carriage return.
+fn first_line(bytes: &[u8]) -> &[u8] {
+    let end = bytes.iter().position(|byte| b"\n\r".contains(byte));
+    end.and_then(|end| bytes.get(..end)).unwrap_or(bytes)
+}
+
+/// The name of the program that the words run, without the path to it; nothing where there is none among the first eight.
+fn program_of(words: &[u8]) -> &[u8] {
+    let mut rest = words;
+    for _ in 0..MOST_WORDS {
+        let (word, behind) = split_word(rest);
+        if !is_passed(word) {
+            return without_path(word);
+        }
+        rest = behind;
+    }
+    &[]
 }
 
 /// Whether the words run a shell of POSIX's, which may be a program of Windows.
-pub(crate) fn is_shell(words: Part) -> bool {
+pub fn is_shell(words: &[u8]) -> bool {
     let name = program_of(words);
     program_kind(name.strip_suffix(b".exe").unwrap_or(name)) == Some(Kind::Shell)
 }
@@ -210,6 +215,6 @@ fn is_passed(word: &[u8]) -> bool {
 }
 
 /// The kind of what a program of this name reads.
-pub(crate) fn program_kind(name: &[u8]) -> Option<Kind> {
+pub fn program_kind(name: &[u8]) -> Option<Kind> {
     named(PROGRAMS, name)
 }
