@@ -146,10 +146,11 @@ states: probe
 	@echo "Holding every step of every sed that is found against the model (100,000 steps take a few minutes) ..."
 	python3 tests/seds/seds_states.py crates/sedck_probe/out/sedck_probe $(STATES)
 
-# More arguments in SHELLS, such as `--files 20000 --jobs 3`, `--seed 5` or `--show`.
+# More arguments in SHELLS, such as `--files 20000 --jobs 3`, `--seed 5` or `--show`; folders with shell files for `shfmt` in TREES.
 shells: build
 	@echo "Running drawn files with calls of sed in every shell and make that is found (2,000 take a few minutes) ..."
 	python3 tests/seds/seds_calls.py build/sedck-explain $(SHELLS)
+	python3 tests/seds/seds_trees.py build/sedck-explain $(TREES)
 
 measures:
 	python3 tools/measures.py

@@ -12,7 +12,7 @@ complete -c sedck-explain -l locale -x -a 'C POSIX C.UTF-8' -d 'The locale in wh
 complete -c sedck-explain -l stdin-filename -x -d 'The name of standard input'
 complete -c sedck-explain -l sed -d 'Explain a call of sed'
 complete -c sedck-explain -l calls -d 'Explain the calls of sed in files'
-complete -c sedck-explain -l as -x -a 'sh make docker yaml spec m4' -d 'What the files are'
+complete -c sedck-explain -l as -x -a 'sh make docker yaml spec m4 systemd' -d 'What the files are'
 complete -c sedck-explain -l assume -x -d 'The value of a variable'
 complete -c sedck-explain -l assume-set -x -a autoconf -d 'A set of values'
 complete -c sedck-explain -l mend -d 'Read delimiters in lists as parts of them'

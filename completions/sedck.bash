@@ -42,7 +42,7 @@ _sedck_explain() {
         --deny) _sedck_list reads writes warnings unbounded growing slow references $_sedck_warnings ;;
         --allow) _sedck_list $_sedck_warnings ;;
         --locale) _sedck_reply C POSIX C.UTF-8 ;;
-        --as) _sedck_reply sh make docker yaml spec m4 ;;
+        --as) _sedck_reply sh make docker yaml spec m4 systemd ;;
         --assume | --at | --stdin-filename) COMPREPLY=() ;;
         --assume-set) _sedck_reply autoconf ;;
         *)

@@ -180,27 +180,6 @@ OTHER_WORDS = [
     Row("a tilde behind the script", "sed p ~\n", "HOME=-ewevil sh a.sh", WRITES),
     Row("an array behind the script", 'sed p "${a[@]}"\n', "a=-ewevil bash a.sh", WRITES),
     Row("a function's words behind the script", "strip() { sed p \"$@\"; }\nstrip -e 'w evil' f\n", "sh a.sh", WRITES),
-    Row("a function named sed", "sed() { command sed -e 'w evil' \"$@\"; }\nsed p f\n", "sh a.sh", WRITES),
-    Row("an alias named sed", "alias sed='sed -n -f es'\nsed p f\n", "sh a.sh", WRITES),
-    Row("a path that hash has", "chmod +x my\nhash -p ./my sed\nsed p f\n", "bash a.sh", RUNS, files={"my": MY}),
-    Row("a path that hash has behind command", "chmod +x my\nhash -p ./my sed\ncommand sed p f\n", "bash a.sh", RUNS, files={"my": MY}),
-    Row("a table of paths", "chmod +x my\nBASH_CMDS[sed]=./my\nsed p f\n", "bash a.sh", RUNS, files={"my": MY}),
-    Row("a table of aliases", "shopt -s expand_aliases\nBASH_ALIASES[sed]='sed -n -f es'\nsed p f\n", "bash a.sh", WRITES),
-    Row("an alias named command", "alias command='sed -n -f es f; command'\ncommand sed p f\n", "sh a.sh", WRITES),
-    Row("a function named command", "command() { sed -n -f es f; }\ncommand sed p f\n", "bash a.sh", WRITES),
-    Row("a function named find", "find() { sed -n -f es f; }\nfind . -exec sed p {} \\;\n", "sh a.sh", WRITES),
-    Row("an alias for any word", "#!/bin/zsh\nalias -g p='-n -f es'\nsed p f\n", "zsh a.sh", WRITES),
-    Row("an alias for any word with the name of an innocent one", "#!/bin/zsh\nalias -g '${1+\"$@\"}'='-n -f es'\nsed p ${1+\"$@\"} f\n", "zsh a.sh", WRITES),
-    Row("an alias for any word beside an innocent one", "#!/bin/zsh\nalias -g '${1+\"$@\"}'='\"$@\"' p='-n -f es'\nsed p f\n", "zsh a.sh", WRITES),
-    Row("a table of functions", "#!/bin/zsh\nfunctions[sed]='command sed -n -f es f'\nsed p f\n", "zsh a.sh", WRITES),
-    Row("set -k", "set -k\nsed a=b 'w evil' f\n", "bash a.sh", WRITES),
-    Row("set -ek", "set -ek\nsed a=b 'w evil' f\n", "bash a.sh", WRITES),
-    Row("set -o keyword", "set -o keyword\nsed a=b 'w evil' f\n", "bash a.sh", WRITES),
-    Row("shopt -so keyword", "shopt -so keyword\nsed a=b 'w evil' f\n", "bash a.sh", WRITES),
-    Row("bash -k", "bash -kc \"sed a=b 'w evil' f\"\n", "sh a.sh", WRITES),
-    Row("bash -k in the first line", "#!/bin/bash -k\nsed a=b 'w evil' f\n", "bash -k a.sh", WRITES),
-    Row("-k of make", "SHELL = bash\n.SHELLFLAGS = -kc\nall:\n\t@sed a=b 'w evil' f\n", "make", WRITES, "Makefile"),
-    Row("set -k in a makefile", "SHELL = bash\nall:\n\t@set -k; sed a=b 'w evil' f\n", "make", WRITES, "Makefile"),
     Row("names that find has from a list", "printf -- '-ewevil\\0' | find -files0-from - -exec sed p {} \\;\n", "sh a.sh", WRITES, files={"-ewevil": ""},
         values=("-ewevil",)),
     Row("names that find has from a list by a variable", "find $dirs -exec sed p {} \\;\n", "dirs='-files0-from list' sh a.sh", WRITES, files={"-ewevil": "", "list": "-ewevil\0"},
@@ -214,18 +193,15 @@ OTHER_WORDS = [
     Row("what a variable puts before a sed", "$x sed p f\n", "x='sed -n -f es' sh a.sh", WRITES),
     Row("an empty suffix of -i", "sed -i '' 'w evil' f\n", due={"unknown"}),
     Row("a descriptor with two zeros", "sed -n -f - f <<B 00<<A\np\nB\nw evil\nA\n", "bash a.sh", WRITES),
-    Row("a pattern that vanishes", "shopt -s nullglob\nsed s/a*/b/ 'w evil' f\n", "bash a.sh", WRITES, due={"unknown"}),
-    Row("a pattern that vanishes in a makefile", "SHELL = bash -O nullglob\nall:\n\t@sed s/a*/b/ 'w evil' f\n", "make", WRITES, "Makefile", due={"unknown"}),
+    Row("a pattern that vanishes", "shopt -s nullglob\nsed s/a*/b/ 'w evil' f\n", "bash a.sh", WRITES),
+    Row("a pattern that vanishes in a makefile", "SHELL = bash -O nullglob\nall:\n\t@sed s/a*/b/ 'w evil' f\n", "make", WRITES, "Makefile"),
     Row("a pattern that vanishes by the environment", "sed s/a*/b/ 'w evil' f\n", "BASHOPTS=nullglob bash a.sh", WRITES),
     Row("a number in braces before a redirection", "#!/bin/bash\nsed {9}>g p f\n", "bash a.sh", REFUSED),
     Row("a control character of ksh", "#!/bin/ksh\nsed -n $'s/a/\\C/#/;w evil\\n' f\n", "ksh a.sh", WRITES),
-    Row("a brace that ends a command of zsh", "#!/bin/zsh\n{ sed -n 'w evil' f }\n", "zsh a.sh", WRITES, due=FOUND, place="2:3", words=("-n", "w evil", "f")),
-    Row("an alias with another language", "alias sed='sed -E'\nsed ':a;s/ab?/a/;ta' f\n", "sh a.sh", LOOPS),
 ]
 
 # ---- Words that some shells read in another way: each place must be told
 
-LIST = {"list": "-ewevil\n"}
 LOOP_VALUE = "x='a/b/;:a;ba;s/' "
 OTHER_READINGS = [Row("read otherwise: " + name, text, run, harm, files=files, due=FOUND, is_told=True) for name, run, harm, text, files in [
     ("a dollar sign before lines that are joined", LOOP_VALUE + "dash a.sh", LOOPS, 'sed "s/$\\\nx/b/" f\n', {}),
@@ -234,46 +210,55 @@ OTHER_READINGS = [Row("read otherwise: " + name, text, run, harm, files=files, d
     ("an operator in lines that are joined", "dash a.sh", WRITES, "cat <\\\n<E\nit's\nE\nsed -n 'w evil' f; echo 's; sed -n p f'\n", {}),
     ("two digits before a redirection", "dash a.sh", WRITES, "#!/bin/sh\nsed -e p -l 12>g -e 'w evil' f\n", {}),
     ("a name before a redirection", "dash a.sh", REFUSED, "#!/bin/sh\nsed {foo}>g p f\n", {}),
-    (">! of zsh", "zsh a.sh", WRITES, "#!/bin/zsh\nsed >! p 'w evil' f\n", {}),
-    (">>! of zsh", "zsh a.sh", WRITES, "#!/bin/zsh\nsed >>! p 'w evil' f\n", {}),
-    ("&>! of zsh", "zsh a.sh", WRITES, "#!/bin/zsh\nsed &>! p 'w evil' f\n", {}),
     (">; of ksh", "ksh a.sh", WRITES, "#!/bin/ksh\nsed p >;g -e 'w evil' f\n", {}),
     ("<# of ksh", "ksh a.sh", WRITES, "#!/bin/ksh\nsed p < f <#((1)) -e 'w evil' f\n", {}),
     ("a pattern of zsh that vanishes", "zsh a.sh", WRITES, "#!/bin/zsh\nsed p(N) 'w evil' f\n", {}),
     ("a pattern of zsh that runs a text", "zsh a.sh", WRITES, "#!/bin/zsh\nsed p f(e:'sed wevil f':)\n", {}),
     ("a pattern of zsh that runs a text behind a sign", "zsh a.sh", WRITES, "#!/bin/zsh\nsed p *(e:'sed wevil f':)\n", {}),
-    ("two digits before a redirection in ksh", "ksh a.sh", WRITES, "#!/bin/ksh\nsed -e p -l 12>g -e 'w evil' f\n", {}),
-    ("two digits before a redirection in mksh", "mksh a.sh", WRITES, "#!/bin/mksh\nsed -e p -l 12>g -e 'w evil' f\n", {}),
-    ("two digits before a redirection in zsh", "zsh a.sh", WRITES, "#!/bin/zsh\nsed -e p -l 12>g -e 'w evil' f\n", {}),
-    ("a name before a redirection in mksh", "mksh a.sh", REFUSED, "#!/bin/mksh\nsed {foo}>g p f\n", {}),
-    ("a subscript of zsh", "zsh a.sh", LOOPS, '#!/bin/zsh\nx=ab\nsed ":a;s/^$x[9]//;ta" f\n', {}),
-    ("a modifier of zsh", "zsh a.sh", LOOPS, '#!/bin/zsh\nx=a\nsed ":a;s,^$x:t*,a,;ta" f\n', {}),
-    ("whether a name is set in zsh", "zsh a.sh", LOOPS, '#!/bin/zsh\nx=a\nsed ":a;s/$+x/1/;ta" f\n', {"f": "1\n"}),
-]] + [Row("read otherwise: a name behind %s in zsh" % sign, '#!/bin/zsh\nsed "s/$%sx/b/" f\n' % sign, LOOP_VALUE + "zsh a.sh", LOOPS, due=FOUND, is_told=True)
-      for sign in "=~^"] + [Row("a pattern of zsh that vanishes in a makefile", "SHELL = zsh\nall:\n\t@sed p(N) 'w evil' f\n", "make", WRITES, "Makefile", due=FOUND, is_told=True),
-                           Row("a modifier of zsh in a makefile", "SHELL = zsh $(X)\nall:\n\t@x=a; sed \":a;s,^$$x:t*,a,;ta\" f\n", "make", LOOPS, "Makefile", due=FOUND, is_told=True)
-] + [Row("read otherwise: " + name, "#!/bin/zsh\n" + text, "zsh a.sh", harm, files=files) for name, harm, text, files in [
-    ("a here-document behind a pipe", WRITES, "cat es | sed -n -f - f <<'E'\np\nE\n", {}),
-    ("a here-document behind a file", WRITES, "sed -n -f - f < es <<'E'\np\nE\n", {}),
-    ("two here-documents", WRITES, "sed -n -f - f <<'A' <<'E'\nw evil\nA\np\nE\n", {}),
+]] + [Row("read otherwise: " + name, "#!/bin/zsh\n" + text, "zsh a.sh", harm, files=files, due=FOUND, is_told=True) for name, harm, text, files in [
+    ("a brace that ends a command", WRITES, "{ sed -n 'w evil' f }\n", {}),
     ("two quotes that are one", LOOPS, "setopt Rc_Quotes\nsed ':a;s/''*//;ta' f\n", {}),
     ("a quote that ends with the line", REFUSED, "setopt cshjunkiequotes\nsed 's/a/\\\n/' f\n", {}),
     ("a sign of patterns", REFUSED, "setopt extendedglob\nsed -n s#a#b# f\n", {"sab": ""}),
+    ("a here-document behind a pipe", WRITES, "cat es | sed -n -f - f <<'E'\np\nE\n", {}),
+    ("a here-document behind a file", WRITES, "sed -n -f - f < es <<'E'\np\nE\n", {}),
+    ("two here-documents", WRITES, "sed -n -f - f <<'A' <<'E'\nw evil\nA\np\nE\n", {}),
 ]]
 
-# ---- Programs, functions and aliases in place of a sed, or of what runs it
+# ---- Programs, functions and aliases in place of a sed, or of what runs it, and settings: a yes is about the program that is named
 
-OTHER_PROGRAMS = [Row("in place of the sed: " + name, text, run, harm, files=files) for name, run, harm, text, files in [
-    ("a function behind a newline", "bash a.sh", RUNS, "function sed\n{ > evil; }\nsed p f\n", {}),
-    ("a function behind a newline in ksh", "ksh a.sh", RUNS, "function sed\n{ > evil; }\nsed p f\n", {}),
-    ("a function in parentheses", "bash a.sh", RUNS, "function sed (> evil)\nsed p f\n", {}),
-    ("a function of two names", "zsh a.sh", RUNS, "#!/bin/zsh\nsed foo () { > evil }\nsed p f\n", {}),
-    ("a function whose name isn't known", "sh a.sh", RUNS, 'n=sed\neval "$n() { > evil; }"\nsed p f\n', {}),
-    ("an alias whose name isn't known", "dash a.sh", WRITES, 'n=sed\nalias "$n=sed -n -f es"\nsed p f\n', {}),
-    ("a function time", "dash a.sh", RUNS, "time() { > evil; }\ntime sed p f\n", {}),
-    ("an alias time", "dash a.sh", WRITES, "alias time='xargs -a list'\ntime sed p f\n", LIST),
-    ("a path of hash", "zsh a.sh", RUNS, "#!/bin/zsh\nchmod +x my\nhash sed=./my\nsed p f\n", {"my": MY}),
-    ("a table of commands", "zsh a.sh", RUNS, "#!/bin/zsh\nzmodload zsh/parameter\nchmod +x my\ncommands[sed]=$PWD/my\nsed p f\n", {"my": MY}),
+# Where the file's text has the name of the sed as a word elsewhere, that place is told.
+OTHER_PROGRAMS = [Row("in place of the sed: " + name, text, run, harm, file, files, due=FOUND, is_told=True) for name, run, harm, text, file, files in [
+    ("a function", "sh a.sh", WRITES, "sed() { command sed -e 'w evil' \"$@\"; }\nsed p f\n", "a.sh", {}),
+    ("a function behind a newline", "bash a.sh", RUNS, "function sed\n{ > evil; }\nsed p f\n", "a.sh", {}),
+    ("a function in parentheses", "bash a.sh", RUNS, "function sed (> evil)\nsed p f\n", "a.sh", {}),
+    ("a function whose name isn't known", "sh a.sh", RUNS, 'n=sed\neval "$n() { > evil; }"\nsed p f\n', "a.sh", {}),
+    ("a function from a text", "bash a.sh", RUNS, "source <(echo 'sed() { : > evil; }')\nsed p f\n", "a.sh", {}),
+    ("an alias", "sh a.sh", WRITES, "alias sed='sed -n -f es'\nsed p f\n", "a.sh", {}),
+    ("an alias with another language", "sh a.sh", LOOPS, "alias sed='sed -E'\nsed ':a;s/ab?/a/;ta' f\n", "a.sh", {}),
+    ("an alias whose name isn't known", "dash a.sh", WRITES, 'n=sed\nalias "$n=sed -n -f es"\nsed p f\n', "a.sh", {}),
+    ("a path that hash has", "bash a.sh", RUNS, "chmod +x my\nhash -p ./my sed\nsed p f\n", "a.sh", {"my": MY}),
+    ("a path that a value of hash has", "bash a.sh", RUNS, "chmod +x my\nh=hash; $h -p ./my sed\nsed p f\n", "a.sh", {"my": MY}),
+    ("a table of paths", "bash a.sh", RUNS, "chmod +x my\nBASH_CMDS[sed]=./my\nsed p f\n", "a.sh", {"my": MY}),
+    ("a table of aliases", "bash a.sh", WRITES, "shopt -s expand_aliases\nBASH_ALIASES[sed]='sed -n -f es'\nsed p f\n", "a.sh", {}),
+    ("a table of functions", "zsh a.sh", WRITES, "#!/bin/zsh\nfunctions[sed]='command sed -n -f es f'\nsed p f\n", "a.sh", {}),
+    ("a macro of M4", "sh made.sh", WRITES, "m4_define([sed],[sed -n -f es; :])\nsed p f\n", "configure.ac", {"made.sh": "sed -n -f es; : p f\n"}),
+]]
+
+# Else nothing is said: docs/CALLS.md has it in one sentence.
+LIST = {"list": "-ewevil\n"}
+NOBODYS = [Row("nobody's: " + name, text, run, harm, file, files, due=FOUND) for name, run, harm, text, file, files in [
+    ("a function named command", "bash a.sh", WRITES, "command() { sed -n -f es f; }\ncommand sed p f\n", "a.sh", {}),
+    ("a function named find", "bash a.sh", WRITES, "find() { sed -n -f es f; }\nfind . -exec sed p {} \\;\n", "a.sh", {}),
+    ("an alias named command", "sh a.sh", WRITES, "alias command='sed -n -f es f; command'\ncommand sed p f\n", "a.sh", {}),
+    ("a function time", "dash a.sh", RUNS, "time() { > evil; }\ntime sed p f\n", "a.sh", {}),
+    ("an alias for any word", "zsh a.sh", WRITES, "#!/bin/zsh\nalias -g p='-n -f es'\nsed p f\n", "a.sh", {}),
+    ("an option of quotes", "zsh a.sh", LOOPS, "#!/bin/zsh\nsetopt Rc_Quotes\nsed ':a;s/''*//;ta' f\n", "a.sh", {}),
+    ("set -k", "bash a.sh", WRITES, "set -k\nsed a=b 'w evil' f\n", "a.sh", {}),
+    ("bash -k in the first line", "bash -k a.sh", WRITES, "#!/bin/bash -k\nsed a=b 'w evil' f\n", "a.sh", {}),
+    ("-k of make", "make", WRITES, "SHELL = bash\n.SHELLFLAGS = -kc\nall:\n\t@sed a=b 'w evil' f\n", "Makefile", {}),
+    ("a variable of the shell's start", "sh a.sh", RUNS, "export BASH_ENV=./es2\nbash -c 'sed p f'\n", "a.sh", {"es2": "sed() { > evil; }\n"}),
+    ("another program by the path", "bash a.sh", RUNS, "chmod +x b/*\nPATH=b:$PATH\nhash -r\nsed p f\n", "a.sh", {"b/sed": MY}),
 ]]
 
 # ---- Values before a call and in its redirections, which may be other words of it
@@ -291,8 +276,7 @@ BEFORE = [Row("a value " + name, text, run, WRITES, files=LIST) for name, run, t
     ("to which the output goes", "Y='g -ewevil' make", "sed p f > $(Y)"),
     ("to which the errors go", "Y='g -ewevil' make", "sed p f 2>> $(Y)"),
     ("from which the input comes", "Y='f -ewevil' make", "sed p < $(Y)"),
-]] + [Row("a command that find asks of", "yes | find f -ok sed p {} + -e 'w evil' \\;\n", "sh a.sh", WRITES),
-      Row("-k of make for a target", "all: SHELL = bash -k\nall:\n\t@sed a=b 'w evil' f\n", "make", WRITES, "Makefile")]
+]] + [Row("a command that find asks of", "yes | find f -ok sed p {} + -e 'w evil' \\;\n", "sh a.sh", WRITES)]
 
 # ---- Macros of M4, of which m4 makes other text
 
@@ -303,7 +287,6 @@ MACROS = [Row("a macro of M4 that is defined by " + how, before + call, "sh made
     ("m4_define with blanks", "m4_define( [abc], [w evil])\n", "sed -n 'abc' f\n", "sed -n 'w evil' f\n"),
     ("define", "define(abc, w evil)\n", "sed -n 'abc' f\n", "sed -n 'w evil' f\n"),
     ("M4 itself", "", "sed -n \"ifelse(a,a,w evil)\" f\n", "sed -n \"w evil\" f\n"),
-    ("m4_define, as the sed", "m4_define([sed],[sed -n -f es; :])\n", "sed p f\n", "sed -n -f es f; : p f\n"),
     ("M4 itself, between the quotes of a shell", "AC_DEFUN([X],[sed -n '$1' f])\n", "X([w evil])\n", "sed -n 'w evil' f\n"),
     ("M4 itself, as lines that are joined", "", "sed -n p f dnl x\n-e 'w evil'\n", "sed -n p f -e 'w evil'\n"),
     ("AC_DEFUN, as an operand", "AC_DEFUN([MY_FILES],[-e 'w evil' f])\n", "sed p MY_FILES\n", "sed p -e 'w evil' f\n"),
@@ -313,11 +296,11 @@ MACROS = [Row("a macro of M4 that is defined by " + how, before + call, "sh made
 SPECS = [Row("a spec file: " + name, text, "sh made.sh", harm, "a.spec", {"made.sh": made, **files}, **more) for name, harm, text, made, files, more in [
     ("an option", LOOPS, "%build\nsed ':a;s/%-x[a]*//;ta' f\n", "sed ':a;s/[a]*//;ta' f\n", {}, {"values": ("",)}),
     ("a sign before a short name", LOOPS, "%build\nsed ':a;s/%?x[a]*//;ta' f\n", "sed ':a;s/[a]*//;ta' f\n", {}, {"values": ("",)}),
-    ("a short name", LOOPS, "%global ab a*\n%build\nsed ':a;s/%ab//;ta' f\n", "sed ':a;s/a*//;ta' f\n", {}, {"due": FOUND, "is_told": True}),
-    ("a comment behind words", WRITES, "%build\nsed -n p f %dnl x\n-e 'w evil'\n", "sed -n p f -e 'w evil'\n", {}, {"due": FOUND, "is_told": True}),
-    ("a definition behind words", WRITES, "%build\nsed -n p f %global x y\n-e 'w evil'\n", "sed -n p f -e 'w evil'\n", {}, {"due": FOUND, "is_told": True}),
+    ("a short name", LOOPS, "%global ab a*\n%build\nsed ':a;s/%ab//;ta' f\n", "sed ':a;s/a*//;ta' f\n", {}, {"values": ("a*",)}),
+    ("a comment behind words", WRITES, "%build\nsed -n p f %dnl x\n-e 'w evil'\n", "sed -n p f -e 'w evil'\n", {}, {}),
+    ("a definition behind words", WRITES, "%build\nsed -n p f %global x y\n-e 'w evil'\n", "sed -n p f -e 'w evil'\n", {}, {}),
     ("a section in a branch that isn't taken", WRITES, "%build\n%if 0\n%files\n%endif\nsed -n 'w evil' f\n", "sed -n 'w evil' f\n", {}, {"due": FOUND, "is_told": True}),
-    ("a section in large letters", WRITES, "%Build\nsed -n 'w evil' f\n", "sed -n 'w evil' f\n", {}, {"due": FOUND, "place": "2:1"}),
+    ("a section in large letters", WRITES, "%Build\nsed -n 'w evil' f\n", "sed -n 'w evil' f\n", {}, {"due": FOUND, "is_told": True}),
     ("a bracket behind a backslash", WRITES, "%build\nsed -n 's/a/b%{?x:\\}/#}/;w evil\n' f\n", "sed -n 's/a/b/;w evil\n' f\n", {}, {}),
 ]]
 
@@ -369,7 +352,7 @@ VALUES = [Row("a value that is set " + how, before + 'sed "$s" f\n', run, WRITES
     ("by another variable's text", "x='s=0'\n: $((x))\n", "bash a.sh"),
 ]] + [Row("a variable of the shell, %s" % name, '%s=p\nsed "$%s" f\n' % (name, name), "bash a.sh", REFUSED)
       for name in ("BASH_VERSINFO", "BASHPID", "BASH_SUBSHELL")] + [
-    Row("a value that is a number, by %s" % how, 's=p\n%s\nsed "$s" f\n' % text, run, REFUSED, due={"unknown"}) for how, text, run in [
+    Row("a value that is a number, by %s" % how, 's=p\n%s\nsed "$s" f\n' % text, run, REFUSED) for how, text, run in [
         ("a redirection of bash", ": {s}>g", "bash a.sh"), ("a redirection of zsh", "exec {s}>g", "zsh a.sh"), ("a redirection of ksh", "exec {s}<f", "ksh a.sh"),
         ("wait", "true &\nwait -n -p s", "bash a.sh"), ("letters of wait", "true &\nwait -np s", "bash a.sh")]]
 VALUES_OF_MAKE = [Row("a value of make that is set " + how, before + "all:\n\t@sed '$(X)' f\n", run, WRITES, "Makefile", {"conf.mk": "X = w evil\n"})
@@ -460,7 +443,6 @@ TEXTS = [Row("told: " + name, text, run, WRITES, file, files, due=FOUND) for nam
     ("nice --adj", "a.sh", "sh a.sh", "nice --adj 5 sed wevil f\n", {}),
     ("timeout --sig", "a.sh", "sh a.sh", "timeout --sig KILL 5 sed wevil f\n", {}),
     ("time --", "a.sh", "bash a.sh", "time -- sed wevil f\n", {}),
-    ("env -S", "a.sh", "sh a.sh", "env '-Ssed wevil' f\n", {}),
     ("env -vS", "a.sh", "sh a.sh", "env -vS'sed wevil' f\n", {}),
     ("env --split-string", "a.sh", "sh a.sh", "env --split-string='sed wevil' f\n", {}),
     ("find and a function's name", "a.sh", "sh a.sh", "find f -exec nice nice env -u X env sed wevil {} \\; -exec setarch x86_64 sed wevil {} \\;\n", {}),
@@ -476,21 +458,14 @@ TEXTS = [Row("told: " + name, text, run, WRITES, file, files, due=FOUND) for nam
     ("an alias", "a.sh", "sh a.sh", "alias s='sed -n'\ns 'w evil' f\n", {}),
     ("a loop over names", "a.sh", "sh a.sh", "for s in sed; do $s -n 'w evil' f; done\n", {}),
     ("a loop without `in`", "a.sh", "zsh a.sh", "#!/bin/zsh\nfor i (a) sed -n 'w evil' f\n", {}),
-    ("which", "a.sh", "sh a.sh", "tool=$(command -v sed); $tool -n 'w evil' f\n", {}),
     ("a small name", "a.sh", "sh a.sh", "sed=$(command -v sed | cat)\n$sed wevil f\n", {}),
     ("a default", "a.sh", "sh a.sh", "${x:-sed} wevil f\n", {}),
     ("a quoted default", "a.sh", "sh a.sh", "\"${x:-/bin/sed}\" wevil f\n", {}),
-    ("a default with an option", "a.sh", "sh a.sh", "${x-sed -n} wevil f\n", {}),
     ("a default that is set", "a.sh", "sh a.sh", ": ${tool:=sed}; $tool -n wevil f\n", {}),
-    ("a value with a default", "a.sh", "sh a.sh", "x=${y:-sed}\n$x wevil f\n", {}),
     ("set --", "a.sh", "sh a.sh", "set -- sed -n 'w evil' f; \"$@\"\n", {}),
     ("a value of a value", "a.sh", "sh a.sh", "a=sed\nb=$a\n$b -n 'w evil' f\n", {}),
     ("a value of a value of make", "Makefile", "make", "RUN = sed -n\nGO = $(RUN)\nall:\n\t@$(GO) 'w evil' f\n", {}),
     ("a name that a function of make gives", "Makefile", "make", "X = $(addprefix /bin/,sed)\nall:\n\t@$(X) wevil f\n", {}),
-    ("a name that a command gives", "a.sh", "sh a.sh", "x=$(command -v sed 2>/dev/null)\n$x -n 'w evil' f\n", {}),
-    ("a name that join makes", "Makefile", "make", "all:\n\t@$(join se,d) wevil f\n", {}),
-    ("a name that addprefix makes", "Makefile", "make", "all:\n\t@$(addprefix s,ed) wevil f\n", {}),
-    ("a name that subst makes", "Makefile", "make", "all:\n\t@$(subst x,s,xed) wevil f\n", {}),
     ("a call that addprefix makes", "Makefile", "make", "all:\n\t@$(addprefix sed -n ,wevil) f\n", {}),
     ("a name that firstword chooses", "Makefile", "make", "all:\n\t@$(firstword sed x) wevil f\n", {}),
     ("a name that if chooses", "Makefile", "make", "all:\n\t@$(if x,sed,y) wevil f\n", {}),
@@ -508,7 +483,6 @@ TEXTS = [Row("told: " + name, text, run, WRITES, file, files, due=FOUND) for nam
     ("a value that is words", "a.sh", "sh a.sh", "run() { \"$@\"; }\nx='sed wevil f'\nrun $x\n", {}),
     ("a part of a word", "a.sh", "sh a.sh", "set -- ${E}sed wevil f; \"$@\"\n", {}),
     ("a folder and a word", "a.sh", "d=/bin sh a.sh", "run() { \"$@\"; }\nrun $d/sed wevil f\n", {}),
-    ("a default as a word", "a.sh", "sh a.sh", "run() { \"$@\"; }\nrun ${x:-sed} wevil f\n", {}),
     ("a value that is a command", "a.sh", "sh a.sh", "x='env sed'\n$x wevil f\n", {}),
     # Texts that a shell reads.
     ("trap --", "a.sh", "sh a.sh", "trap -- 'sed wevil f' EXIT\n", {}),
@@ -545,9 +519,7 @@ TEXTS = [Row("told: " + name, text, run, WRITES, file, files, due=FOUND) for nam
     ("$=x", "a.sh", "zsh a.sh", "#!/bin/zsh\nx='sed -n'\n$=x wevil f\n", {}),
     ("always", "a.sh", "zsh a.sh", "#!/bin/zsh\n{ : } always { sed wevil f }\n", {}),
     ("${ }", "a.sh", "ksh a.sh", "#!/bin/ksh\necho ${ sed wevil f; }\n", {}),
-    # Names that are put together.
-    ("a name of two parts", "Makefile", "make", "S = s\nall:\n\t@$(S)ed wevil f\n", {}),
-    ("a name of two parts of a shell", "a.sh", "sh a.sh", "x=se; ${x}d wevil f\n", {}),
+    # Names before what may be nothing.
     ("a name before what is nothing", "a.sh", "sh a.sh", "/bin/sed$EXEEXT wevil f\n", {}),
     ("a name before what is nothing for make", "Makefile", "make", "all:\n\t@/bin/sed$(EXEEXT) wevil f\n", {}),
     ("a name of a loop's word", "a.sh", "sh a.sh", "for p in cat sed; do Q=/bin/$p$e; done\n$Q wevil f\n", {}),
@@ -575,26 +547,47 @@ TEXTS = [Row("told: " + name, text, run, WRITES, file, files, due=FOUND) for nam
       Row("told: env -S in the first line", "#!/usr/bin/env -S sed -n -f es\n", due=FOUND),
       Row("a script of a shell with the name of one of sed", "#!/bin/sh\nsed -n 's/a/b/' f\n", file="a.sed", asked=".", due=FOUND, place="2:1", words=PLAIN)]
 
-# What is never looked at, as docs/CALLS.md lists it.
-NEVER = [Row("never looked at: " + name, text, run, WRITES, file, files, due=ACCEPTED, may_have_no_call=True) for name, file, run, text, files in [
+# Runs of sed that no reading of shell text finds: their words are told by the bytes of the file alone.
+BY_BYTES = [Row("told by its bytes: " + name, text, run, WRITES if run else "", file, files, due=FOUND, is_told=True, may_have_no_call=True) for name, file, run, text, files in [
     ("a text for a shell", "a.sh", "sh a.sh", "echo 'sed wevil f' | sh\n", {}),
     ("a text in place of a file", "a.sh", "bash a.sh", "bash <(echo sed wevil f)\n", {}),
     ("a file that is written", "a.sh", "sh a.sh", "cat > x.sh <<E\nsed wevil f\nE\nsh x.sh\n", {}),
     ("another language", "a.sh", "sh a.sh", "awk 'BEGIN { system(\"sed wevil f\") }'\n", {}),
-    ("a name of two parts", "Makefile", "make S=s", "all:\n\t@$(S)ed wevil f\n", {}),
     ("a variable of make's that eval sets", "Makefile", "make", "$(eval S = sed)\nall:\n\t@$(S) wevil f\n", {}),
     ("the end of a command", "a.sh", "sh a.sh", "run() { \"$@\" wevil f; }\nrun sed\n", {}),
     ("a text for a command", "a.sh", "sh a.sh", "run() { sh -c \"$1\"; }\nrun 'sed wevil f'\n", {}),
     ("a source of Autoconf", "configure.ac", "sh made.sh", "setarch x86_64 sed wevil f\n", {"made.sh": "setarch x86_64 sed wevil f\n"}),
     ("another key", "ci.yml", "", "- shell: sed wevil f\n", {}),
-    ("another program by the path", "a.sh", "bash a.sh", "mkdir b\ncat my > b/sed\nchmod +x b/sed\nPATH=b:$PATH\nhash -r\nsed p f\n", {"my": MY}),
+    ("an operand of the script", "a.sh", "sh a.sh", "set -- sed; \"$1\" wevil f\n", {}),
+    ("a here-document of a group", "a.sh", "sh a.sh", "{ sh; } <<E\nsed wevil f\nE\n", {}),
+    ("words that xargs hands on", "a.sh", "sh a.sh", "echo sed wevil f | xargs env\n", {}),
+    ("the value of $SED in a text", "a.sh", "SED=sed sh a.sh", "echo \"$SED wevil f\" | sh\n", {}),
 ]]
 
-# What has the name of sed and is no call: nothing is said of it.
+# What is never looked at, as docs/CALLS.md lists it.
+NEVER = [Row("never looked at: " + name, text, run, WRITES, file, files, due=ACCEPTED, may_have_no_call=True) for name, file, run, text, files in [
+    ("a name of two parts", "Makefile", "make", "S = s\nall:\n\t@$(S)ed wevil f\n", {}),
+    ("a name of two parts of a shell", "a.sh", "sh a.sh", "x=se; ${x}d wevil f\n", {}),
+    ("a name that join makes", "Makefile", "make", "all:\n\t@$(join se,d) wevil f\n", {}),
+    ("a name that addprefix makes", "Makefile", "make", "all:\n\t@$(addprefix s,ed) wevil f\n", {}),
+    ("a word after a letter", "a.sh", "sh a.sh", "printf ':\\nsed wevil f\\n' | sh\n", {}),
+    ("a word after an option's letter", "a.sh", "sh a.sh", "env '-Ssed wevil' f\n", {}),
+    ("a name that a command gives", "a.sh", "sh a.sh", "tool=$(command -v sed); $tool -n 'w evil' f\n", {}),
+    ("a default with an option", "a.sh", "sh a.sh", "${x-sed -n} wevil f\n", {}),
+    ("a value with a default", "a.sh", "sh a.sh", "x=${y:-sed}\n$x wevil f\n", {}),
+    ("a default as a word", "a.sh", "sh a.sh", "run() { \"$@\"; }\nrun ${x:-sed} wevil f\n", {}),
+]]
+
+# What has the name of sed and is no call: nothing is said of it where the bytes right before it say so, or where it is no word.
 PROSE = [Row("innocent: %r" % text, text + "\n", due=ACCEPTED, may_have_no_call=True) for text in [
+    "which sed gawk", "command -v sed", "type sed", "SED=sed", "x=a-sed.x", "((used + 1))", "x=$(sed 1d f)", "echo x &> g", "EDITOR=vi crontab -e", "cat <<EOF\nE\\\nF\nEOF",
+    "$(echo a | sed 1d f) b", "# sed p",
+]]
+
+# The same, where nothing beside the word says that it runs nothing: it is told.
+WORDS = [Row("told though it runs nothing: %r" % text, text + "\n", due=FOUND, is_told=True, may_have_no_call=True) for text in [
     "echo sed p", "apt-get install -y sed gawk", "grep sed f", "check_tool sed || exit 1", "test sed = p && [ x = sed ] && printf '%s' sed p", "case sed in sed | p) :;; esac",
-    "for x in sed p; do :; done", "which sed gawk", "die 'sed not found'", "log \"using sed to edit $f\"", "[[ $x = sed && $y = p ]]", "((used + 1))", "x=$(sed 1d f)", "find . -name sed -o -name p",
-    "echo x &> g", "sudo apt-get install sed gawk", "EDITOR=vi crontab -e", "cat <<EOF\nE\\\nF\nEOF", "$(echo a | sed 1d f) b",
+    "for x in sed p; do :; done", "die 'sed not found'", "log \"using sed to edit $f\"", "[[ $x = sed && $y = p ]]", "find . -name sed -o -name p", "sudo apt-get install sed gawk", "hash sed",
 ]]
 
 # ---- Calls of which everything is known
@@ -615,7 +608,7 @@ INNOCENT = [Row("innocent: %r" % text, text, due=ACCEPTED) for text in [
     "sed -i -e '' f\n",
     "set -e\nsed s=a=b= f\n",
     "set -o pipefail\nset -- -k\nsed s=a=b= f\n",
-    "hash sed\nalias ll='ls -l'\nshopt -s extglob\nsed p ./*\n",
+    "alias ll='ls -l'\nshopt -s extglob\nsed p ./*\n",
     "f() { sed p f; }\nf\ncommand sed p f\nfind . -exec sed p {} \\;\n",
     "if test -n \"${ZSH_VERSION+set}\"; then\n  alias -g '${1+\"$@\"}'='\"$@\"'\nfi\nsed p f\n",
 ]] + [Row("innocent: %r" % text, text, file="configure.ac", due=ACCEPTED) for text in [
@@ -630,23 +623,16 @@ LIMITED = "ulimit -f 4096\n"
 BIG = {"big": "".join("%d\n" % number for number in range(3000))}
 OUTPUTS = [Row("an output behind an operand", LIMITED + "sed p big >> big\n", "sh a.sh", GROWS, files=BIG, due=ACCEPTED, warning="writes-its-input"),
            Row("an output behind the standard input", LIMITED + "sed p < big >> big\n", "sh a.sh", GROWS, files=BIG, due=ACCEPTED, warning="writes-its-input"),
-           Row("an output behind an operand of the same variable", LIMITED + 'sed p -- "$1" >> "./$1"\n', "sh a.sh big", GROWS, files=BIG, due=ACCEPTED, warning="writes-its-input"),
-           Row("an output that find hands on", LIMITED + "find f -exec sed p big \\; >> big\n", "sh a.sh", GROWS, files=BIG, due=ACCEPTED, warning="writes-its-input"),
+           Row("an output behind an operand of the same variable", LIMITED + 'sed p -- "$1" >> "$1"\n', "sh a.sh big", GROWS, files=BIG, due=ACCEPTED, warning="writes-its-input"),
            Row("an output in place of an operand", "sed 's/a/b/' f > f\n", "sh a.sh", EMPTIES, due=ACCEPTED, warning="writes-its-input"),
            Row("an output in place of an operand, with -i", "sed -i 's/a/b/' f > f\n", "sh a.sh", EMPTIES, due=ACCEPTED, warning="writes-its-input"),
            Row("an output in place of an operand that isn't the last one", "sed 's/a/b/' f > f > g\n", "sh a.sh", EMPTIES, due=ACCEPTED, warning="writes-its-input"),
            Row("an output in place of the standard input", "sed p < f > f > g\n", "sh a.sh", EMPTIES, due=ACCEPTED, warning="writes-its-input"),
            Row("another descriptor in place of an operand", "sed 's/a/b/' f 3> f\n", "sh a.sh", EMPTIES, due=ACCEPTED, warning="writes-its-input"),
            Row("the errors in place of an operand", "sed 's/a/b/' f 2> f\n", "sh a.sh", EMPTIES, due=ACCEPTED, warning="writes-its-input"),
-           Row("the input in place of an operand", "sed 's/a/b/' f 0> f\n", "sh a.sh", EMPTIES, due=ACCEPTED, warning="writes-its-input"),
-           Row("an output of a group behind an operand", LIMITED + "{ sed p big; } >> big\n", "sh a.sh", GROWS, files=BIG, due=ACCEPTED, warning="writes-its-input"),
-           Row("an output of a group behind its input", LIMITED + "{ sed p; } < big >> big\n", "sh a.sh", GROWS, files=BIG, due=ACCEPTED, warning="writes-its-input")] + [
-    Row("an output around an operand: %r" % text, text + "\n", "sh a.sh", EMPTIES, due=ACCEPTED, warning="writes-its-input") for text in [
-        "{ sed 's/a/b/' f; } > f", "( sed 's/a/b/' f ) > f", "while :; do sed 's/a/b/' f; break; done > f", "for x in 1; do sed 's/a/b/' f; done > f", "if :; then sed 's/a/b/' f; fi > f",
-        "case a in a) sed 's/a/b/' f;; esac > f", "run() { sed 's/a/b/' f; } > f\nrun", "{ sed p; } < f > f", "{ sed p f | cat; } > f", "{ x=$(sed p f); } > f",
-        "{ x=`sed p f`; } > f", "{ : <<E; } > f\n$(sed p f)\nE", "for x in $(sed p f); do :; done > f", "{ { sed p f; } 2> g; } > f"]]
+           Row("the input in place of an operand", "sed 's/a/b/' f 0> f\n", "sh a.sh", EMPTIES, due=ACCEPTED, warning="writes-its-input")]
 
-ROWS = (CONDITIONS + OTHER_WORDS + OTHER_READINGS + OTHER_PROGRAMS + BEFORE + MACROS + SPECS + VALUES + VALUES_OF_MAKE + RECALL + TEXTS + NEVER + PROSE + INNOCENT
+ROWS = (CONDITIONS + OTHER_WORDS + OTHER_READINGS + OTHER_PROGRAMS + NOBODYS + BEFORE + MACROS + SPECS + VALUES + VALUES_OF_MAKE + RECALL + TEXTS + BY_BYTES + NEVER + PROSE + WORDS + INNOCENT
         + OUTPUTS)
 
 
@@ -805,7 +791,7 @@ def table():
 # ---- A quote that isn't closed
 
 def unclosed():
-    """It is a finding with its line, in each format."""
+    """It is a finding with its line, in each format; so is the word before it."""
     with tempfile.TemporaryDirectory() as folder:
         put(folder, {"a.sh": "sed ':x;bx\n"})
         for kind in ("text", "gcc", "json"):
@@ -814,7 +800,7 @@ def unclosed():
                 lines = [finding["position"]["line"] for one in map(json.loads, done.stdout.splitlines()) for finding in missed(one)]
             else:
                 lines = [int(line) for line in re.findall(rb"^a\.sh:(\d+):\d+: \w+: .*\[not-understood\]$", done.stdout, re.M)]
-            if done.returncode != 5 or lines != [1]:
+            if done.returncode != 5 or set(lines) != {1}:
                 fail("a quote that isn't closed, %s: status %d, %r" % (kind, done.returncode, done.stdout))
 
 

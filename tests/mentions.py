@@ -111,9 +111,9 @@ def silent():
 PIECES = ["sed", "gsed", "ssed", "/bin/sed", "sed.x", "used", "$SED", "${SED}", "${SED:-sed}", "$(SED)", "@SED@", "$SEDX", "SED=", "SED = ", "which ", "type ", "command -v ",
           " ", " ", "\n", "\n", ";", "\"", "'", "#", "\n#", "dnl ", "=", "x", "-", "p f", "|", "run ", "echo ", "`", "$(", ")", "\t", "/", "."]
 NAME = re.compile(r"(?<![\w.-])(?:sed|gsed|ssed)(?![\w./-])|\$[({]?SED(?!\w)|@SED@", re.ASCII)
-IDLE = re.compile(r"(?:^|[^\w.$=-])(?:SED=[\"']?|SED :?= |command -v |which |type )[\w./-]*$", re.ASCII)
-# The word that a name of a call is.
-CALLED = re.compile(r"(?:[\w./\"'-]|\$SED|\$[({]SED(?::-sed)?[)}]|@SED@)*", re.ASCII)
+IDLE = re.compile(r"(?:^|[^\w.$=-])(?:SED=[\"']?|SED :?= |command -v |which |type )[\w./-]*\Z", re.ASCII)
+# A word that plainly is the name of a call: reports don't have where a name ends.
+CALLED = re.compile(r"([\"']?)(?:[\w.-]*/)*(?:[gs]?sed|\$SED|\$\{SED(?::-sed)?\}|\$\(SED\)|@SED@)\1(?=[\s;|&<>()`]|\Z)", re.ASCII)
 
 
 def named(text, has_macros):
@@ -126,13 +126,17 @@ def named(text, has_macros):
 
 
 def drawn(seed):
-    """Whether a file that is drawn has a word to tell of, and whether the program tells of just these."""
+    """Whether a file that is drawn has a word to tell of, and whether the program tells of just these. None where a call has another name
+    than the plain ones, as a path with quotes or a comment of M4 inside, of which it can't be told here where it ends."""
     chosen = random.Random(seed)
     text = "".join(chosen.choice(PIECES) for _ in range(chosen.randrange(1, 30)))
     name = chosen.choice(["a.sh", "configure.ac", "Makefile"])
     _, objects = reports(name, text)
     others, words = places(objects)
-    calls = [(one["call"]["offset"], CALLED.match(text, one["call"]["offset"]).end()) for one in objects if one.get("call")]
+    found = [CALLED.match(text, one["call"]["offset"]) for one in objects if one.get("call")]
+    if not all(found):
+        return None
+    calls = [one.span() for one in found]
     due = [offset for start, offset in named(text, name == "configure.ac")
            if not any(begin <= offset < end for begin, end in calls) and not any(start <= place <= offset for place in others)]
     lines = [text.count("\n", 0, offset) + 1 for offset in due]
@@ -147,11 +151,12 @@ def main():
     for one in ROWS:
         row(*one)
     silent()
-    told = sum(drawn(seed) for seed in range(1500))
-    if told < 300:
-        fail("only %d of the drawn files have a word to tell of" % told)
+    seen = [drawn(seed) for seed in range(1500)]
+    told, left_out = seen.count(True), seen.count(None)
+    if told < 300 or left_out > 100:
+        fail("of the drawn files %d have a word to tell of, and %d are left out" % (told, left_out))
     if not failures:
-        print("mentions: %d rows and %d silent runs are as they should be, and so are 1,500 drawn files, %d of which have words to tell of" % (len(ROWS), len(SILENT), told))
+        print("mentions: %d rows and %d silent runs are as they should be, and so are %d drawn files, %d of which have words to tell of" % (len(ROWS), len(SILENT), len(seen) - left_out, told))
     return 1 if failures else 0
 
 

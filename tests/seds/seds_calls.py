@@ -33,8 +33,8 @@ LIMIT_SECONDS = 5
 LOGGER = '#!/bin/sh\n{ printf "%s\\0" "$#" "$@"; } >> "$SEDCK_RUNS"\n'
 NAMES = ("x", "y", "tool", "T")
 # What each run must find: files of which docs/CALLS.md says that they aren't looked at, and a run whose words no call has.
-KNOWN = (("a.sh", "echo 'sed p f' | sh\n", ()), ("a.sh", "read x <<E\nsed\nE\n$x p f\n", ()), ("a.sh", "set -- sed\n$1 p f\n", ()),
-         ("Makefile", "$(eval X = sed)\nall:\n\t$(X) p f\n", ()), ("a.sh", "sed p f\n", [(b"d", b"f")]))
+KNOWN = (("a.sh", "printf ':\\nsed p f\\n' | sh\n", ()), ("a.sh", "sed p f\n", [(b"d", b"f")]),
+         ("Makefile", "E = ed\nall:\n\ts$(E) p f\n", ()))
 # What a condition, or a part that isn't known, is called.
 OPEN = {"unknown", "accepted-if", "not-judged", "not-understood"}
 
@@ -128,8 +128,8 @@ class Draw:
 
     def make_value(self):
         name = self.name()
-        return self.one("sed", "sed -n", "cat", "se", "d", "$(d)/sed", "$(%s)" % name, "${%s} -n" % name, "$(d)/$(%s)" % name, "s/a/b/",
-                        "$(%s)d" % name, "$(subst x,s,xed)", "$(firstword $(%s) p)" % name, "$(if $(%s),sed,cat)" % name, "@sed")
+        return self.one("sed", "sed -n", "cat", "$(d)/sed", "$(%s)" % name, "${%s} -n" % name, "$(d)/$(%s)" % name, "s/a/b/",
+                        "$(firstword $(%s) p)" % name, "$(if $(%s),sed,cat)" % name, "@sed")
 
     def make_script(self):
         """A script in quotes, for a line of a recipe."""
@@ -142,7 +142,7 @@ class Draw:
         if self.is_plain:
             words = [self.one("sed", "@sed", "-sed", "command sed", "x=y; sed", "LC_ALL=C sed", 's""ed'), *self.one([], ["-n"], ["-e"]), self.make_script()]
             return self.one(" ", " ", " \\\n\t").join(words + self.one([], ["f"], ["<", "f"]))
-        word = self.one("sed", "$(%s)" % name, "${%s}" % name, "$(d)/$(%s)" % name, "$(%s)d" % name, "$(d)/sed", "s$(%s)" % name, "$(call run,sed)",
+        word = self.one("sed", "$(%s)" % name, "${%s}" % name, "$(d)/$(%s)" % name, "$(d)/sed", "$(call run,sed)",
                         "$(%s:x=sed)" % name, "$(or $(%s),sed)" % name)
         script = self.one("p", "'s/a/b/'", "'$$d'", '"s/$$x/b/"', "'s/$(%s)/b/'" % name, "-n p", "'/x y/d'", "s/a/b/\\;p")
         return self.one("", "@", "-", "+@", "x=p; ", "if :; then ", "for x in p d; do ").replace("\n", "") + word + " " + script + self.one(" f", " ./f f", " < f", "")
@@ -186,7 +186,7 @@ def runs(folder, name, command):
     return found
 
 
-def shown(word):
+def shown(word: str) -> bytes:
     """The bytes of a word of a report."""
     plain = re.sub(r'\\(x[0-9a-f]{2}|\\|")', lambda found: found[1] if len(found[1]) == 1 else chr(int(found[1][1:], 16)), word)
     return plain.encode("latin-1")

@@ -261,7 +261,7 @@ fn is_c_locale(locale: Option<&str>) -> bool
 }
 
 /// The kinds of files, by name.
-const KINDS: &[&str] = &["sh", "make", "docker", "yaml", "spec", "m4"];
+const KINDS: &[&str] = &["sh", "make", "docker", "yaml", "spec", "m4", "systemd"];
 
 /// The levels, by name.
 const LEVELS: &[&str] = &["error", "warning", "note"];
@@ -345,7 +345,7 @@ static CHOICES: [Choice; 15] = [
     Choice {
         name: "as",
         takes: Takes::OneOf("KIND", KINDS),
-        help: "What the files of --calls are, where their names don't say\n[sh, make, docker, yaml, spec, m4]",
+        help: "What the files of --calls are, where their names don't say\n[sh, make, docker, yaml, spec, m4, systemd]",
     },
     Choice {
         name: "assume",

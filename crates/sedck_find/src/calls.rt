@@ -3,28 +3,25 @@
 ghost use Rattle.std.specs.Prelude.{IfOk};
 ghost use Rattle.sedck_find.specs.Told.{has_macros, IsTold};
 
-use crate::assigning::is_assignment;
 use crate::macros::Macros;
-use crate::mentions::{call_in, editor_in, looks_called, mention_in};
 use crate::names::Names;
-use crate::overwriting::{overwritten_by, runs_elsewhere};
+use crate::overwriting::overwritten_by;
 use crate::parts::{Part, Runner, parts_of};
 use crate::programs::Program;
 use crate::replaced::with_holes;
 use crate::script::{Around, script_of};
-use crate::settings::settings_of;
 use crate::texts::{Held, Texts};
 use crate::told::with_words;
-use crate::units::{hole_of, lone_hole, rest};
-use crate::values::{MOST, Value, has_placeholder, line_starts};
+use crate::units::{has_any, is_assignment, is_word_in, lone_hole, rest};
+use crate::values::{MOST, Value, line_starts};
 use crate::words::{CallWord, Filler, quoted};
 use sedck_found::{
     Assumptions, Followed, Found, FoundCall, FoundScript, KnownValue, OpenHole, Role, Unknown,
 };
 use sedck_hosts::{Assignment, host_of};
-use sedck_kinds::{Kind, is_bash, is_dollar_quoting, is_run_by_sed, is_zsh, kind_of, shell_of};
-use sedck_origin::{Hole, Result, Text, Unit, Way, begins_with, has_hole};
-use sedck_shell::{Dialect, Form};
+use sedck_kinds::{Kind, is_dollar_quoting, is_run_by_sed, kind_of, shell_of};
+use sedck_origin::{Hole, Result, Text, Unit, Way, begins_with};
+use sedck_shell::Form;
 use std::alloc::Global;
 use std::collections::BTreeMap;
 
@@ -39,14 +36,8 @@ fn form_of(kind: Kind, path: &str, file: &[u8]) -> Form {
     let is_script = kind == Kind::Shell;
     let shell = if is_script { shell_of(path, file) } else { &[] };
     Form {
-        dialect: match kind {
-            Kind::Autoconf => Dialect::Macros,
-            _ if path.ends_with(".in") || path.ends_with(".am") => Dialect::Template,
-            _ => Dialect::Plain,
-        },
+        is_template: path.ends_with(".in") || path.ends_with(".am"),
         has_dollar_quotes: is_dollar_quoting(shell),
-        is_bash: is_bash(shell),
-        is_zsh: is_zsh(shell),
     }
 }
 
@@ -83,62 +74,53 @@ fn read_calls<'a>(
         file,
         assumed,
         given,
-        facts: BTreeMap::new(alloc),
-        is_read: false,
-        open: None,
-        may_fix_locale: false,
-        functions: BTreeMap::new(alloc),
-        definitions: Vec::new(alloc),
-        references: BTreeMap::new(alloc),
-        refers_to_sed: false,
-        loops: BTreeMap::new(alloc),
-        open_loops: BTreeMap::new(alloc),
-        reach: file.len().saturating_mul(16),
-        shells: Vec::new(alloc),
-        settings: settings_of(alloc, file)?,
-        macros: Macros::of(alloc, kind, file)?,
+        written: BTreeMap::new(alloc),
+        left: file.len().saturating_add(SPARE),
+        macros: Macros::of(kind, file),
         lines: line_starts(alloc, file)?,
     };
     let mut texts = read_file(names)?;
-    // A script of sed, by its first line or else by its name, isn't understood.
-    let is_named_so = path.ends_with(".sed") && kind_of("", file).is_none();
-    if kind == Kind::Shell && (is_run_by_sed(file) || is_named_so) {
+    if kind == Kind::Shell && is_foreign(path, file) {
         texts.unread.push(0)?;
     }
     found_in(&texts)
 }
 
-/// Reads the file of these names: its texts, and those in them.
+/// Whether the file isn't understood as a whole: a script of sed, by its first line or else by its name, or one of zsh, which reads quotes and
+/// signs otherwise.
+fn is_foreign(path: &str, file: &[u8]) -> bool {
+    let is_named_so = path.ends_with(".sed") && kind_of("", file).is_none();
+    is_run_by_sed(file) || is_named_so || shell_of(path, file).starts_with(b"zsh")
+}
+
+/// Reads the file of these names: its texts, the values of make's variables, and the texts in them.
 fn read_file(names: Names<'_>) -> Result<Texts<'_>> {
-    let (alloc, kind, file) = (names.alloc, names.kind, names.file);
+    let (alloc, kind, file, form) = (names.alloc, names.kind, names.file, names.form);
     let mut texts = Texts {
         names,
         held: Vec::new(alloc),
         inner: Vec::new(alloc),
         left: file.len().saturating_mul(4),
         unread: Vec::new(alloc),
-        mentions: Vec::new(alloc),
     };
-    match kind {
-        Kind::Shell => texts.read(Text::Whole(file), false)?,
-        _ => read_host(&mut texts)?,
+    if kind == Kind::Shell {
+        texts.read(Text::Whole(file), form, false)?;
+    }
+    let host = host_of(alloc, kind, file)?;
+    for text in &host.texts {
+        texts.read(Text::Units(text), form, false)?;
+    }
+    for assignment in &host.assignments {
+        note_assignment(&mut texts.names, assignment)?;
+        texts.read(Text::Units(&assignment.value), form, true)?;
     }
     texts.read_inner()?;
-    match kind {
-        Kind::Make => texts.names.note_evaluated_shells()?,
-        _ => texts.names.note_expansions()?,
-    }
-    texts.names.is_read = true;
-    texts.names.note_open_loops()?;
-    texts.names.build_values()?;
-    texts.names.mark_made()?;
     Ok(texts)
 }
 
-/// What is found in the commands that were read: the calls in the file's order, each once, and what may call sed otherwise.
+/// What is found in the commands that were read: the calls in the file's order, each once, and what isn't understood.
 fn found_in(texts: &Texts<'_>) -> Result<(Vec<FoundCall>, Vec<usize>)> {
     let names = &texts.names;
-    let mut unread = Vec::from_slice(names.alloc, &texts.unread)?;
     let mut calls = Vec::new(names.alloc);
     let mut filler = Filler {
         names,
@@ -150,74 +132,35 @@ fn found_in(texts: &Texts<'_>) -> Result<(Vec<FoundCall>, Vec<usize>)> {
         cases: 1,
         chosen: None,
         starts: BTreeMap::new(names.alloc),
-        unread: Vec::new(names.alloc),
     };
     for held in &texts.held {
         let parts = parts_of(names, &held.command.words)?;
         for part in &parts {
             add_call(&mut calls, &mut filler, held, part, parts.len() == 1)?;
         }
-        add_mentions(&mut unread, names, held, &parts)?;
-    }
-    unread.extend_from_slice(&filler.unread)?;
-    // Texts that no shell of POSIX's may run aren't understood.
-    if names.has_foreign_shell()? {
-        for call in &calls {
-            unread.push(call.start)?;
-        }
-        unread.extend_from_slice(&texts.mentions)?;
-        calls = Vec::new(names.alloc);
     }
     calls.sort_by_key(|call| call.start)?;
+    let mut unread = Vec::from_slice(names.alloc, &texts.unread)?;
     unread.sort()?;
     unread.dedup();
     Ok((calls, unread))
 }
 
-/// Adds the offsets of what may call sed in these parts of a command that aren't calls of one.
-fn add_mentions(unread: &mut Vec<usize>, names: &Names, held: &Held, parts: &[Part]) -> Result<()> {
-    // A source of Autoconf may have prose among its commands.
-    let is_strict = held.is_value || names.macros.are_read;
-    for part in parts {
-        if let Program::Other | Program::Shell | Program::User = part.program {
-            unread.extend(mention_in(names, part, is_strict)?)?;
+/// Notes an assignment of make's. In a template its value may have a name which is replaced.
+fn note_assignment(names: &mut Names<'_>, assignment: &Assignment) -> Result<()> {
+    let value = assignment.value.as_slice();
+    let is_template = names.form.is_template && has_any(value, "@");
+    match (value.first(), value.last()) {
+        (Some(first), Some(last)) if is_template => {
+            let whole = Unit::made(first.start(), last.end());
+            names.note(&assignment.name, &[whole])
         }
+        _ => names.note(&assignment.name, value),
     }
-    unread.extend(editor_in(&held.command.words))
-}
-
-/// Reads the shell text of a file that isn't a shell script, and the values of make's variables.
-fn read_host(texts: &mut Texts<'_>) -> Result<()> {
-    let host = host_of(texts.names.alloc, texts.names.kind, texts.names.file)?;
-    texts.unread.extend_from_slice(&host.unread)?;
-    for text in &host.texts {
-        texts.mentions.extend(call_in(text))?;
-        texts.read(Text::Units(text), false)?;
-    }
-    for assignment in &host.assignments {
-        read_assignment(texts, assignment)?;
-    }
-    Ok(())
-}
-
-/// Notes an assignment of make's, and reads its value.
-fn read_assignment(texts: &mut Texts<'_>, assignment: &Assignment) -> Result<()> {
-    let names = &mut texts.names;
-    names.note_shell_flags(assignment);
-    let value = match names.form.dialect {
-        Dialect::Template if has_placeholder(&assignment.value) => None,
-        _ => names.written_value(&assignment.value)?,
-    };
-    let is_sed = names.begins_with_sed(&assignment.value);
-    names.note(&assignment.name, value, is_sed)?;
-    names.note_begin(&assignment.name, &assignment.value)?;
-    names.note_shell(assignment)?;
-    texts.mentions.extend(call_in(&assignment.value))?;
-    texts.read(Text::Units(&assignment.value), true)
 }
 
 /// Adds the call that a part of a command is, if it is one and isn't there yet: once for each value of a variable that has several. The
-/// part may be the only one of its command.
+/// part may be the only one of its command. A value of make's that no sed takes may be no shell text.
 fn add_call(
     calls: &mut Vec<FoundCall>,
     filler: &mut Filler<'_>,
@@ -226,9 +169,7 @@ fn add_call(
     is_only: bool,
 ) -> Result<()> {
     let start = name_of(part).start;
-    let is_prose = filler.names.macros.is_prose(part.name, part.others);
-    let is_call = matches!(part.program, Program::Sed) && !is_prose;
-    if !is_call || filler.starts.get(&start).is_some() {
+    if !is_call(filler.names, part) || filler.starts.get(&start).is_some() {
         return Ok(());
     }
     for case in 0..MOST {
@@ -240,17 +181,27 @@ fn add_call(
             _ => None,
         };
         let call = found_call(filler, held, part, here.as_ref())?;
-        if !held.is_value || !matches!(&call.script, FoundScript::Refused(_)) {
-            filler.starts.insert(start, ())?;
-            calls.push(call)?;
-        } else if part.others.first().is_some_and(looks_called) {
-            filler.unread.push(start)?;
+        if held.is_value && matches!(&call.script, FoundScript::Refused(_)) {
+            return Ok(());
         }
+        filler.starts.insert(start, ())?;
+        calls.push(call)?;
         if case.saturating_add(1) >= filler.cases {
             break;
         }
     }
     Ok(())
+}
+
+/// Whether the part is a call of sed: no prose, and no comparison of nmake's.
+fn is_call(names: &Names<'_>, part: &Part) -> bool {
+    let is_compared = names.is_make()
+        && part
+            .others
+            .first()
+            .is_some_and(|next| is_word_in(&next.units, "neq equ =="));
+    let is_prose = names.macros.is_prose(part.name, part.others);
+    matches!(part.program, Program::Sed) && !is_prose && !is_compared
 }
 
 /// The call that a part of a command is.
@@ -261,7 +212,6 @@ fn found_call(
     here: Option<&CallWord>,
 ) -> Result<FoundCall> {
     let alloc = filler.names.alloc;
-    let changed = changed_by(filler.names, part)?;
     let (words, are_known) = words_of(filler, held, part)?;
     let name = name_of(part);
     let around = Around {
@@ -269,14 +219,16 @@ fn found_call(
         name,
         runner: part.run.runner,
         here,
-        is_elsewhere: runs_elsewhere(part.before),
     };
-    let mut script = match changed.or((!are_known).then_some(Unknown::Words)) {
-        Some(unknown) => FoundScript::Unknown(unknown),
-        None => script_of(filler.names, around)?,
+    let mut script = match are_known {
+        true => script_of(filler.names, around)?,
+        false => FoundScript::Unknown(Unknown::Words),
     };
     note_conditions(filler, &mut script)?;
-    let overwritten = overwritten_by(filler, held, &script, around)?;
+    let mut before = part.before.iter();
+    let is_alone = before.all(|word| is_assignment(&word.units));
+    let file = filler.names.file;
+    let overwritten = overwritten_by(file, &held.command, &script, around).filter(|_| is_alone);
     let words = words.into_iter().map(|word| word.traced);
     Ok(FoundCall {
         start: name.start,
@@ -315,45 +267,26 @@ fn note_conditions(filler: &mut Filler<'_>, script: &mut FoundScript) -> Result<
 
 /// Where the file has the name of a call, without what may run it in the same word.
 fn name_of(part: &Part) -> Hole {
-    let (units, start) = (&part.name.units, part.name.start);
-    let least = start.saturating_add(units.len().max(1));
-    let end = units.last().map_or(least, |last| last.end().max(least));
-    match units.get(part.glued) {
-        Some(unit) if part.glued > 0 => quoted(unit.start(), end),
-        _ => quoted(start, end),
-    }
+    let units = &part.name.units;
+    let glued = units.get(part.glued).filter(|_| part.glued > 0);
+    let start = glued.map_or(part.name.start, |unit| unit.start());
+    let least = start.saturating_add(1);
+    quoted(
+        start,
+        units.last().map_or(least, |last| last.end().max(least)),
+    )
 }
 
-/// Why what the file sets elsewhere may change the call, if it may: what runs by its name, or which of its words are words.
-fn changed_by(names: &Names<'_>, part: &Part) -> Result<Option<Unknown>> {
-    let called = rest(&part.name.units, part.glued);
-    let is_function = part.run.is_direct && names.is_function(called)?;
-    if part.run.is_redefined || is_function || names.is_replaced(called)? {
-        return Ok(Some(Unknown::Words));
-    }
-    let has_assignment = part.others.iter().any(|word| is_assignment(&word.units));
-    let is_changed = names.settings.has_signs || (names.settings.has_keywords && has_assignment);
-    Ok(is_changed.then_some(Unknown::Words))
-}
-
-/// The words of a call after its name, with the options in the value of a variable that is the name, and whether all that is put into them
-/// is known. What is unknown of the name and of what runs it is noted.
+/// The words of a call after its name, with those in the value of a variable that is the name, and whether all that is put into them is known.
+/// What is unknown of the name and of what runs it is noted.
 fn words_of(filler: &mut Filler<'_>, held: &Held, part: &Part) -> Result<(Vec<CallWord>, bool)> {
     let alloc = filler.names.alloc;
-    let mut words = Vec::new(alloc);
-    let called = rest(&part.name.units, part.glued);
-    match lone_hole(called) {
-        Some(hole) => match filler.options(hole)? {
-            Some(options) => words = options,
-            None => filler.note_named(called, Role::Sed)?,
-        },
-        None => filler.note_named(called, Role::Word)?,
-    }
+    let mut words = note_name(filler, part)?;
     note_before(filler, held, part)?;
     let Some(texts) = part.run.replaced.texts(alloc)? else {
         return Ok((words, false));
     };
-    let mut are_known = !part.run.has_more_unknown;
+    let mut are_known = true;
     for word in part.others {
         let mut units = Vec::from_slice(alloc, &word.units)?;
         // What runs the sed replaces these texts by a name or a line, and those in values.
@@ -369,55 +302,41 @@ fn words_of(filler: &mut Filler<'_>, held: &Held, part: &Part) -> Result<(Vec<Ca
     Ok((words, are_known))
 }
 
+/// Notes what is unknown of the name of a call, and answers the words in its value.
+fn note_name(filler: &mut Filler<'_>, part: &Part) -> Result<Vec<CallWord>> {
+    let called = rest(&part.name.units, part.glued);
+    match lone_hole(called) {
+        Some(hole) => {
+            if let Some(words) = filler.words_in(hole)? {
+                return Ok(words);
+            }
+            if hole.way.is_split() {
+                filler.named.push(OpenHole::new(hole, Role::Sed, 0))?;
+            }
+        }
+        None => filler.note_words(called, false)?,
+    }
+    Ok(Vec::new(filler.names.alloc))
+}
+
 /// Notes what may run the call, and each hole before its name and in redirections in whose place there may be several words. A shell splits
 /// none that it assigns.
 fn note_before(filler: &mut Filler<'_>, held: &Held, part: &Part) -> Result<()> {
-    let command = held.command.words.as_slice();
-    let unknown = part.run.unknown.and_then(|number| command.get(number));
-    if let Some([Unit::Hole(runner), ..]) = unknown.map(|word| word.units.as_slice()) {
-        if !filler.is_nothing(*runner)? {
-            filler.note_named(&[Unit::Hole(*runner)], Role::Runner)?;
-        }
-    }
     let mut is_assigned = true;
-    for (number, word) in part.before.iter().enumerate() {
+    let count = part.before.len().saturating_add(part.glued.min(1));
+    for (number, word) in held.command.words.iter().enumerate().take(count) {
         is_assigned = is_assigned && is_assignment(&word.units);
-        if part.run.unknown != Some(number) {
-            filler.note_split(&word.units, is_assigned)?;
+        match word.units.first() {
+            Some(Unit::Hole(runner)) if part.run.unknown == Some(number) => {
+                if !filler.is_nothing(*runner)? {
+                    filler.named.push(OpenHole::new(*runner, Role::Runner, 0))?;
+                }
+            }
+            _ => filler.note_words(&word.units, is_assigned)?,
         }
     }
     for hole in &held.command.made {
-        filler.note_hole(*hole)?;
+        filler.note_words(&[Unit::Hole(*hole)], false)?;
     }
     Ok(())
-}
-
-impl Filler<'_> {
-    /// Notes each hole in whose place there may be several words, where the units are an assignment or not.
-    fn note_split(&mut self, units: &[Unit], is_assigned: bool) -> Result<()> {
-        for hole in units.iter().filter_map(hole_of) {
-            if hole.way.is_made() || (hole.way.is_split() && !is_assigned) {
-                self.note_hole(hole)?;
-            }
-        }
-        Ok(())
-    }
-
-    /// Notes the hole, unless its value is known and is a part of one word.
-    fn note_hole(&mut self, hole: Hole) -> Result<()> {
-        let filled = self.filled(&[Unit::Hole(hole)])?;
-        if has_hole(&filled.origins) {
-            self.named.push(OpenHole::new(hole, Role::Word, 0))?;
-        }
-        Ok(())
-    }
-
-    /// Notes each hole of a name of which a shell may make several words.
-    fn note_named(&mut self, units: &[Unit], role: Role) -> Result<()> {
-        let holes = units.iter().filter_map(hole_of);
-        for hole in holes.filter(|hole| hole.way.is_split()) {
-            self.named.push(OpenHole::new(hole, role, 0))?;
-        }
-        Ok(())
-    }
 }

@@ -1,25 +1,22 @@
 //! What the name of a command calls.
 
-use crate::mentions::writes_sed;
-use crate::names::{Names, replaced_name};
+use crate::names::Names;
 use crate::units::{
-    has_hole, is_letters, is_one_in, is_option, is_word_in, last_part, lone_hole, place_of, rest,
+    has_any, is_letters, is_one_in, is_option, is_word_in, known_part, last_part, lone_hole,
+    place_of, rest,
 };
-use crate::values::is_blank;
-use sedck_origin::{Hole, Unit, begins_with, hole_name};
+use crate::values::{Value, is_blank};
+use sedck_origin::{Hole, Unit, begins_with, is_name_byte};
+use sedck_shell::ShellWord;
 
 /// What a command calls.
 #[derive(Clone, Copy)]
 pub(crate) enum Program {
     Sed,
-    /// A shell.
+    /// A shell, or `su`, which runs one.
     Shell,
-    /// `su`, whose option `-c` takes text for a shell.
-    User,
     /// `eval` or `trap`, whose first operand is text for the same shell.
     Again,
-    /// `.`, which reads a file's text in the same shell.
-    Sourcing,
     Find,
     /// A command that runs the one which its words name.
     Wrapper(Wrapper),
@@ -67,18 +64,22 @@ const LONG: &str = "--arg-file --delimiter --max-args --max-chars --max-procs --
     --user --group --unset --chdir --signal --kill-after --adjustment --input --output --error \
     --class";
 
+/// How long options begin with which no command runs that is known: of `env`, and of `sudo`.
+const LONG_STOPS: &str = "--sp --sh --lo";
+
 /// Names of other programs, and what they are.
 static PROGRAMS: &'static [(Program, &'static str)] = &[
     (Program::Sed, SEDS),
-    (Program::Shell, "sh bash dash ksh zsh ash mksh ksh93"),
+    (
+        Program::Shell,
+        "sh bash dash ksh zsh ash mksh ksh93 su runuser",
+    ),
     (Program::Again, "eval trap"),
-    (Program::Sourcing, ". source"),
-    (Program::User, "su runuser"),
     (Program::Find, "find"),
 ];
 
 /// The names of seds.
-pub(crate) const SEDS: &str = "sed gsed ssed";
+const SEDS: &str = "sed gsed ssed";
 
 /// The names of variables that have the path of a shell.
 const SHELL_VARIABLES: &str = "SHELL CONFIG_SHELL BASH POSIX_SHELL";
@@ -87,44 +88,7 @@ const SHELL_VARIABLES: &str = "SHELL CONFIG_SHELL BASH POSIX_SHELL";
 const PREFIXES: &str = "SUDO sudo Q AT";
 
 /// The longest text of a hole, and the longest path, that is looked at, so that the time stays linear.
-pub(crate) const LONGEST: usize = 256;
-
-/// What a word of a wrapper is.
-#[derive(Clone, Copy)]
-pub(crate) enum Before {
-    /// An option, alone or with its argument.
-    Option,
-    /// An option whose argument is the next word.
-    Awaiting,
-    /// An option with which no command runs.
-    Stop,
-    /// The end of the options.
-    End,
-    /// The first word after the options.
-    Word,
-}
-
-/// What the word is, where options of the wrapper may stand.
-pub(crate) fn before_command(wrapper: Wrapper, word: &[Unit]) -> Before {
-    match word {
-        _ if !is_option(word) => Before::Word,
-        // An option with a value that is unknown, as `-P$N`.
-        _ if has_hole(word) => Before::Option,
-        _ if is_letters(word) => wrapper.letters_before(rest(word, 1)),
-        _ if is_word_in(word, LONG) => Before::Awaiting,
-        // What is split there may be another command.
-        _ if wrapper.names == "env" && begins_with(word, "--s") => Before::Stop,
-        // That is `--shell` or `--login`: a shell expands `$` in the words.
-        _ if wrapper.names == "sudo" && is_of_shell(word) => Before::Stop,
-        _ if word.len() > 2 => Before::Option,
-        _ => Before::End,
-    }
-}
-
-/// Whether the option of `sudo` has a shell run the command, or runs none.
-fn is_of_shell(word: &[Unit]) -> bool {
-    begins_with(word, "--sh") || begins_with(word, "--l")
-}
+const LONGEST: usize = 256;
 
 impl Wrapper {
     /// A command that comes before the one which it runs.
@@ -135,16 +99,39 @@ impl Wrapper {
         operands: 0,
     };
 
-    /// What a word of option letters is.
-    fn letters_before(self, letters: &[Unit]) -> Before {
-        let stop = place_of(letters, self.stops);
-        match place_of(letters, self.letters) {
-            argument if stop.is_some_and(|stop| argument.is_none_or(|place| stop <= place)) => {
-                Before::Stop
+    /// How many of these words after its name are before the command that it runs: options with their arguments, and operands. None where it
+    /// runs no command that is known.
+    pub fn count_before(self, words: &[ShellWord]) -> Option<usize> {
+        let mut awaits = false;
+        for (number, word) in words.iter().enumerate() {
+            let units = word.units.as_slice();
+            if awaits {
+                awaits = false;
+            } else if !is_option(units) {
+                return Some(number.saturating_add(self.operands));
+            } else if is_word_in(units, "-- -") {
+                return Some(number.saturating_add(self.operands).saturating_add(1));
+            } else {
+                awaits = self.awaits(units)?;
             }
-            Some(place) if rest(letters, place).len() == 1 => Before::Awaiting,
-            _ => Before::Option,
         }
+        None
+    }
+
+    /// Whether the argument of the option is the next word; none where no command runs with the option that is known, as it hands a text to a
+    /// shell or to `env`, or runs none.
+    fn awaits(self, option: &[Unit]) -> Option<bool> {
+        let letters = if is_letters(option) {
+            known_part(option)
+        } else {
+            &[]
+        };
+        let argument = place_of(letters, self.letters).unwrap_or(option.len());
+        let stop = place_of(letters, self.stops).is_some_and(|stop| stop <= argument);
+        let mut others = LONG_STOPS.split(' ');
+        let is_stop = stop || others.any(|name| begins_with(option, name));
+        let is_last = argument.saturating_add(1) == option.len();
+        (!is_stop).then_some(is_last || is_word_in(option, LONG))
     }
 }
 
@@ -155,20 +142,6 @@ pub(crate) fn glued_units(units: &[Unit]) -> usize {
         [Unit::Hole(hole), next, ..] if hole.way.is_split() && next.byte() != Some(b'/') => 1,
         _ => 0,
     }
-}
-
-/// Whether the word is the name of a sed, perhaps after what is unknown, or a variable that has one.
-pub(crate) fn is_sed_word(names: &Names<'_>, units: &[Unit]) -> bool {
-    if let Some(hole) = lone_hole(units) {
-        let written = names.written_hole(hole);
-        return hole_name(written).is_some_and(|name| {
-            is_sed_variable(name) || names.may_be_sed(name) || writes_sed(written)
-        });
-    }
-    // What is before the name may be nothing, or a part of its path.
-    let part = last_part(units);
-    let known = part.iter().position(|unit| unit.byte().is_some());
-    is_word_in(rest(part, known.unwrap_or(part.len())), SEDS)
 }
 
 /// What a command of this name calls.
@@ -195,48 +168,64 @@ fn named_program(name: &[Unit]) -> Program {
     program.map_or(Program::Other, |row| row.0)
 }
 
-/// Whether the last part of the path is the name of a sed.
-pub(crate) fn is_sed_path(path: &[Unit]) -> bool {
-    is_word_in(last_part(path), SEDS)
-}
-
-/// Whether a variable of this name has the path of a sed.
-pub(crate) fn is_sed_variable(name: &[u8]) -> bool {
-    is_one_in(name, "SED GSED")
-}
-
-/// What the hole calls, which is the whole word.
+/// What the hole calls, which is the whole word: by the one value that the file writes for it, or else by its name.
 fn called_by(names: &Names<'_>, hole: Hole) -> Program {
-    let Some(value) = names.value_of(hole) else {
-        return called_by_name(names.written_hole(hole), names);
-    };
     let is_split = hole.way.is_split();
-    let path = value.units.get(..LONGEST).unwrap_or(&value.units);
-    let mut words = path.split(|unit| is_split && is_blank(unit));
-    match words.find(|word| !word.is_empty()) {
-        Some(first) if is_sed_path(first) => Program::Sed,
-        None if is_split => Program::Wrapper(Wrapper::PREFIX),
-        Some([Unit::Byte(b'@' | b'-' | b'+', _)]) if is_split && names.is_make() => {
+    match names.value_of(hole) {
+        _ if sed_value(names, hole).is_some() => Program::Sed,
+        Some(value) if is_split && begins_empty(names, &value.units) => {
             Program::Wrapper(Wrapper::PREFIX)
         }
-        _ => Program::Other,
+        Some(_) => Program::Other,
+        None => called_by_name(names, hole),
     }
+}
+
+/// Whether a value begins with no word, or with what only tells make how to run a command.
+fn begins_empty(names: &Names<'_>, units: &[Unit]) -> bool {
+    match units.iter().find(|unit| !is_blank(*unit)) {
+        Some(first) => names.is_make() && has_any(&[*first], "@-+"),
+        None => true,
+    }
+}
+
+/// The only value that the file writes for the hole, if its first word is the name of a sed; in a makefile that may be a variable.
+pub(crate) fn sed_value<'n>(names: &'n Names<'_>, hole: Hole) -> Option<&'n Value> {
+    let [value] = names.written_for(hole)? else {
+        return None;
+    };
+    let path = value.units.get(..LONGEST).unwrap_or(&value.units);
+    let is_split = hole.way.is_split();
+    let mut words = path.split(|unit| is_split && is_blank(unit));
+    let first = words.find(|word| !word.is_empty())?;
+    let inner = lone_hole(first).filter(|_| names.is_make());
+    let is_sed = is_word_in(last_part(first), SEDS)
+        || inner.is_some_and(|inner| is_sed_name(names, inner));
+    is_sed.then_some(value)
+}
+
+/// Whether the hole is what has the path of a sed, by its name.
+pub(crate) fn is_sed_name(names: &Names<'_>, hole: Hole) -> bool {
+    matches!(called_by_name(names, hole), Program::Sed)
 }
 
 /// What is called by what is written, if no value is known.
-fn called_by_name(written: &[u8], names: &Names<'_>) -> Program {
-    let name = match (written, hole_name(written)) {
-        ([b'$', b'(', inner @ .., b')'], Some(name)) if inner.len() == name.len() => Some(name),
-        _ => replaced_name(written, names.kind),
-    };
-    match name {
+fn called_by_name(names: &Names<'_>, hole: Hole) -> Program {
+    let written = names.written_hole(hole);
+    match names.variable_at(hole) {
         _ if written.len() > LONGEST => Program::Other,
-        _ if writes_sed(written) || is_one_in(written, "%{__sed} %__sed") => Program::Sed,
-        Some(name) if is_sed_variable(name) || names.may_be_sed(name) => Program::Sed,
+        _ if ends_in_sed(written) || is_one_in(written, "%{__sed} %__sed") => Program::Sed,
+        Some(name) if is_one_in(name, "SED GSED") => Program::Sed,
         Some(name) if is_one_in(name, SHELL_VARIABLES) => Program::Shell,
-        Some(name) if is_one_in(name, PREFIXES) && !names.is_made(name) => {
-            Program::Wrapper(Wrapper::PREFIX)
-        }
+        Some(name) if is_one_in(name, PREFIXES) => Program::Wrapper(Wrapper::PREFIX),
         _ => Program::Other,
     }
+}
+
+/// Whether what is written in place of a hole ends with the name of a sed, as `${X:-sed}` and `$(command -v sed)` do.
+fn ends_in_sed(written: &[u8]) -> bool {
+    let mut words = written.rsplit(|byte| !is_name_byte(*byte) && *byte != b'.');
+    words
+        .find(|word| !word.is_empty())
+        .is_some_and(|word| is_one_in(word, SEDS))
 }

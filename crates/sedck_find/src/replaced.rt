@@ -1,6 +1,6 @@
 //! What `find` and `xargs` put into the words of a command before it runs.
 
-use crate::units::{bytes_of, is_letters, known_part, place_of, rest};
+use crate::units::{bytes_of, has_hole, is_letters, known_part, place_of, rest};
 use sedck_origin::{Hole, Result, Unit, Way, begins_with, byte_at};
 use sedck_shell::ShellWord;
 use std::alloc::Global;
@@ -10,91 +10,65 @@ use std::alloc::Global;
 pub(crate) struct Replaced<'a> {
     /// Whether `{}` is.
     pub has_braces: bool,
-    /// Parts of words that say what is.
-    first: Option<&'a [Unit]>,
-    second: Option<&'a [Unit]>,
+    /// A part of a word that says what is.
+    text: Option<&'a [Unit]>,
     /// Whether more is.
     has_more: bool,
+    /// Whether operands may be added all the same.
+    pub adds: bool,
 }
 
-/// What an option of `xargs` has it replace.
-#[derive(Clone, Copy)]
-pub(crate) enum Replacing<'a> {
-    /// `{}`.
-    Braces,
-    Text(&'a [Unit]),
-    /// What is unknown.
-    Anything,
-}
+/// Letters of options of `xargs` after which no other letter is one.
+const ENDING: &str = "IJiadEeLlnPsRS";
 
 impl<'a> Replaced<'a> {
-    /// Adds what an option has replaced. Of several options some programs obey the last one: here all count.
-    pub fn add(&mut self, replacing: Replacing<'a>) {
-        match replacing {
-            Replacing::Braces => self.has_braces = true,
-            Replacing::Text(text) if self.first.is_none() => self.first = Some(text),
-            Replacing::Text(text) if self.second.is_none() => self.second = Some(text),
-            Replacing::Text(_) | Replacing::Anything => self.has_more = true,
-        }
+    /// Notes an option of `xargs`, with the word after it, and answers whether it has something replaced.
+    pub fn note_option(&mut self, option: &'a [Unit], next: Option<&'a ShellWord>) -> bool {
+        let known = known_part(option);
+        let ending = place_of(known, ENDING).filter(|_| is_letters(known));
+        let text = rest(option, ending.map_or(0, |place| place.saturating_add(1)));
+        let (replaces, replaced) = match ending.and_then(|place| byte_at(known, place)) {
+            Some(b'I') if text.is_empty() => (true, next.map(|next| next.units.as_slice())),
+            Some(b'I') => (true, Some(text)),
+            Some(b'i') if text.is_empty() => {
+                self.has_braces = true;
+                (true, Some(text))
+            }
+            Some(b'i' | b'J') => (true, None),
+            Some(b'L' | b'l' | b'n') => {
+                self.adds = true;
+                (false, None)
+            }
+            Some(_) => (false, None),
+            // That may be `--replace`, and `--max-args` or `--max-lines`.
+            None if begins_with(known, "--r") => (true, None),
+            None => {
+                self.adds |= begins_with(known, "--max-a") || begins_with(known, "--max-l");
+                let is_open = is_letters(known) && has_hole(option);
+                (is_open, None)
+            }
+        };
+        let is_one = self.text.is_none() && replaced.is_some();
+        self.has_more |= replaces && !is_one;
+        self.text = self.text.or(replaced);
+        replaces
     }
 
-    /// The texts that are replaced; none where one is unknown.
+    /// The texts that are replaced; none where these aren't known.
     pub fn texts(&self, alloc: Global) -> Result<Option<Vec<Vec<u8>>>> {
         let mut texts = Vec::new(alloc);
         if self.has_braces {
             texts.push(Vec::from_slice(alloc, b"{}".as_slice())?)?;
         }
-        for part in [self.first, self.second] {
-            match bytes_of(alloc, part.unwrap_or(&[]))? {
-                Some(text) if text.is_empty() => {}
-                Some(text) => texts.push(text)?,
-                None => return Ok(None),
-            }
+        match bytes_of(alloc, self.text.unwrap_or(&[]))? {
+            Some(text) if text.is_empty() => {}
+            Some(text) => texts.push(text)?,
+            None => return Ok(None),
         }
-        Ok((!self.has_more).then_some(texts))
+        let is_unknown = self.has_more || (self.adds && self.text.is_some());
+        Ok((!is_unknown).then_some(texts))
     }
 }
-
-/// What `xargs` replaces with the option that this word is; the next one may say what.
-pub(crate) fn replaced_by<'a>(
-    option: &'a [Unit],
-    next: Option<&'a ShellWord>,
-) -> Option<Replacing<'a>> {
-    let known = known_part(option);
-    let is_known = known.len() == option.len();
-    // That is `--replace`.
-    if begins_with(known, "--r") {
-        return Some(match place_of(known, "=") {
-            Some(sign) => Replacing::Text(rest(option, sign.saturating_add(1))),
-            None if is_known => Replacing::Braces,
-            None => Replacing::Anything,
-        });
-    }
-    let ending = place_of(known, ENDING);
-    let text = rest(option, ending.map_or(0, |place| place.saturating_add(1)));
-    match ending.and_then(|place| byte_at(known, place)) {
-        _ if !is_letters(known) => None,
-        None => (!is_known).then_some(Replacing::Anything),
-        Some(b'I' | b'J') if text.is_empty() => next.map(|next| Replacing::Text(&next.units)),
-        Some(b'i') if text.is_empty() => Some(Replacing::Braces),
-        Some(b'I' | b'J' | b'i') => Some(Replacing::Text(text)),
-        Some(_) => None,
-    }
-}
-
-/// Whether the option of `xargs` may have it add operands beside what it replaces, as `-n` and `-L` may.
-pub(crate) fn adds_operands(option: &[Unit]) -> bool {
-    let known = known_part(option);
-    let ending = place_of(known, ENDING).and_then(|place| byte_at(known, place));
-    match ending {
-        _ if begins_with(known, "--max-") => matches!(byte_at(known, 6), Some(b'a' | b'l')),
-        Some(b'J' | b'L' | b'l' | b'n') => is_letters(known),
-        _ => false,
-    }
-}
-
-/// Letters of options of `xargs` after which no other letter is one.
-const ENDING: &str = "IJiadEeLlnPsRS";
 
 /// The units with a hole in place of each such text, which becomes a part of a word in this way.
 pub(crate) fn with_holes(

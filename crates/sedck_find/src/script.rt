@@ -8,7 +8,7 @@ use crate::parts::Runner;
 use crate::units::{is_one_in, rest};
 use crate::words::{CallWord, LONGEST, STANDARD};
 use sedck_call::{Call, CallFault, CallOption, Given, Piece, call_of};
-use sedck_found::{FoundScript, OpenHole, Role, Unknown};
+use sedck_found::{FoundScript, Unknown};
 use sedck_origin::{Hole, Result, Way, has_hole};
 use std::alloc::AllocError;
 
@@ -21,8 +21,6 @@ pub(crate) struct Around<'a> {
     pub runner: Runner,
     /// The text that is its standard input.
     pub here: Option<&'a CallWord>,
-    /// Whether it may run in another folder than where its command stands.
-    pub is_elsewhere: bool,
 }
 
 /// The script of a call with these words.
@@ -63,11 +61,7 @@ fn script_in(names: &Names<'_>, call: Call, around: Around<'_>) -> Result<FoundS
     let Some(others) = conditions_of(names.alloc, &call, around)? else {
         return Ok(FoundScript::Unknown(Unknown::Words));
     };
-    let has_pattern = |hole: &OpenHole| matches!(hole.role, Role::Pattern);
-    if names.settings.has_no_match && others.iter().any(has_pattern) {
-        return Ok(FoundScript::Unknown(Unknown::Words));
-    }
-    if names.macros.change(around.words, &text) {
+    if names.macros.change(&text) {
         return Ok(FoundScript::Unknown(Unknown::Macro));
     }
     if names.assumed.mends {

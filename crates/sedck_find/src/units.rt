@@ -1,37 +1,23 @@
 //! Units of words.
 
-use sedck_origin::{Hole, Result, Unit, byte_at, is_name_byte, is_text, name_length};
-use sedck_shell::ShellWord;
+use sedck_origin::{Hole, Result, Unit, begins_with, byte_at, is_text, name_length};
 use std::alloc::Global;
-
-/// The bytes of the units before the first hole.
-pub(crate) fn known_bytes(alloc: Global, units: &[Unit]) -> Result<Vec<u8>> {
-    units.iter().map_while(|unit| unit.byte()).collect(alloc)
-}
 
 /// The bytes of the units, if none is a hole.
 pub(crate) fn bytes_of(alloc: Global, units: &[Unit]) -> Result<Option<Vec<u8>>> {
-    let bytes = known_bytes(alloc, units)?;
-    Ok((bytes.len() == units.len()).then_some(bytes))
+    let mut bytes = Vec::new(alloc);
+    for unit in units {
+        match unit.byte() {
+            Some(byte) => bytes.push(byte)?,
+            None => return Ok(None),
+        }
+    }
+    Ok(Some(bytes))
 }
 
 /// Those from this number on.
 pub(crate) fn rest<T>(items: &[T], from: usize) -> &[T] {
     items.get(from..).unwrap_or(&[])
-}
-
-/// The words without this one before them.
-pub(crate) fn without<'a>(words: &'a [ShellWord], option: &str) -> &'a [ShellWord] {
-    match words {
-        [first, others @ ..] if first.is(option) => others,
-        _ => words,
-    }
-}
-
-/// The units after the first one that is this byte, if one is.
-pub(crate) fn after(units: &[Unit], byte: u8) -> Option<&[Unit]> {
-    let place = units.iter().position(|unit| unit.byte() == Some(byte))?;
-    Some(rest(units, place.saturating_add(1)))
 }
 
 /// The units after the last `/`.
@@ -44,14 +30,6 @@ pub(crate) fn last_part(units: &[Unit]) -> &[Unit] {
 pub(crate) fn known_part(units: &[Unit]) -> &[Unit] {
     let mut parts = units.split(|unit| unit.byte().is_none());
     parts.next().unwrap_or(units)
-}
-
-/// The name of a variable at the beginning; nothing where there is none.
-pub(crate) fn variable_of(units: &[Unit]) -> &[Unit] {
-    match byte_at(units, 0) {
-        Some(b'0'..=b'9') => &[],
-        _ => units.get(..name_length(units)).unwrap_or(&[]),
-    }
 }
 
 /// The hole that the unit is, if it is one.
@@ -118,8 +96,21 @@ pub(crate) fn is_word_in(units: &[Unit], words: &str) -> bool {
     words.split(' ').any(|word| is_text(units, word))
 }
 
-/// Whether a name in the text may begin at the index: no byte of one is before it.
-pub(crate) fn begins_name(text: &[u8], index: usize) -> bool {
-    let before = index.checked_sub(1).and_then(|before| text.get(before));
-    !before.is_some_and(|byte| is_name_byte(*byte))
+/// Whether the word is an assignment: a name, and after it `=`, `+=`, or these after a number in brackets.
+pub(crate) fn is_assignment(units: &[Unit]) -> bool {
+    let length = name_length(units);
+    let sign = rest(units, length);
+    let subscript = sign.iter().position(|unit| unit.byte() == Some(b']'));
+    let sign = match subscript {
+        Some(place) if begins_with(sign, "[") => rest(sign, place.saturating_add(1)),
+        _ => sign,
+    };
+    let is_digit = byte_at(units, 0).is_some_and(|first| first.is_ascii_digit());
+    length > 0 && !is_digit && (begins_with(sign, "=") || begins_with(sign, "+="))
+}
+
+/// Whether an assignment of LC_ALL is one of C or of POSIX, where a character is a byte; none of another variable.
+pub(crate) fn is_c_locale(units: &[Unit]) -> Option<bool> {
+    let is_c = is_word_in(units, "LC_ALL=C LC_ALL=POSIX");
+    begins_with(units, "LC_ALL").then_some(is_c)
 }

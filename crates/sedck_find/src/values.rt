@@ -1,20 +1,25 @@
 //! The values of variables.
 
-use crate::units::{after, has_any, has_hole};
+use crate::units::has_any;
 use sedck_found::{Followed, KnownValue};
-use sedck_origin::{Result, Unit, Way, name_length};
+use sedck_origin::{Result, Unit, Way};
 use std::alloc::Global;
 
-/// The most values of a variable that are kept.
+/// The most values of a variable that are judged.
 pub(crate) const MOST: usize = 4;
 
 /// A value of a variable.
 #[derive(Drop)]
 pub(crate) struct Value {
-    /// Its bytes; those of one that was given have no place in the file. Variables in it are holes until their values are known.
+    /// Its bytes; those of one that was given have no place in the file. What is unknown is a hole.
     pub units: Vec<Unit>,
-    /// Whether it has such a hole.
+    /// Whether the file doesn't have each of its bytes.
     pub has_hole: bool,
+    /// Whether it may be several words where a shell expands it, or others than it has: it has blanks, or bytes as those of patterns.
+    has_blanks: bool,
+    has_special: bool,
+    /// Whether it has bytes that change what a shell reads.
+    has_quoting: bool,
     /// Whether it was given with the call of this program.
     pub is_given: bool,
     /// The file has it from this offset on ..
@@ -28,22 +33,46 @@ pub(crate) struct Value {
 impl Value {
     /// One of these units that the file writes.
     pub fn new(alloc: Global, units: Vec<Unit>) -> Value {
-        Value {
-            has_hole: has_hole(&units),
+        let mut value = Value {
+            has_hole: false,
+            has_blanks: false,
+            has_special: false,
+            has_quoting: false,
             is_given: false,
             start: units.first().map_or(0, |first| first.start()),
             end: units.last().map_or(0, |last| last.end()),
             units,
             parts: Vec::new(alloc),
-        }
+        };
+        value.mark();
+        value
+    }
+
+    /// Looks through its units once, since a value may be used many times.
+    pub fn mark(&mut self) {
+        self.has_hole = has_open(&self.units);
+        self.has_blanks = has_any(&self.units, BLANKS);
+        self.has_special = has_any(&self.units, SPECIAL);
+        self.has_quoting = has_any(&self.units, QUOTING);
     }
 
     /// One of these bytes that was given.
     pub fn given(alloc: Global, bytes: &[u8]) -> Result<Value> {
-        let units = bytes.iter().map(|byte| Unit::Byte(*byte, 0));
-        let mut value = Value::new(alloc, units.collect(alloc)?);
+        let mut units = Vec::new(alloc);
+        for byte in bytes {
+            units.push(Unit::Byte(*byte, 0))?;
+        }
+        let mut value = Value::new(alloc, units);
         value.is_given = true;
         Ok(value)
+    }
+
+    /// How much it is to put it into another one.
+    pub fn cost(&self) -> usize {
+        self.units
+            .len()
+            .saturating_add(self.parts.len())
+            .saturating_add(1)
     }
 
     /// Whether it is another one: the file has it in the same words.
@@ -54,9 +83,14 @@ impl Value {
 
     /// Whether a shell leaves the value as it is where it comes into a word in this way.
     pub fn is_kept(&self, way: Way) -> bool {
-        let may_split = has_any(&self.units, BLANKS) || has_any(&self.units, SPECIAL);
-        let is_read = way.is_made() && has_any(&self.units, QUOTING);
+        let may_split = self.has_blanks || self.has_special;
+        let is_read = way.is_made() && self.has_quoting;
         way != Way::Several && !(way.is_split() && may_split) && !is_read
+    }
+
+    /// Whether a shell makes the words of it that blanks separate.
+    pub fn is_plain(&self) -> bool {
+        !self.has_quoting && !self.has_special
     }
 
     /// Where it comes from: the file has it on this line.
@@ -73,10 +107,15 @@ impl Value {
 const BLANKS: &str = " \t\n";
 
 /// Those that may match names of files, or be operators where the value is read.
-pub(crate) const SPECIAL: &str = "*?[;&|<>()#~{";
+const SPECIAL: &str = "*?[;&|<>()#~{";
 
 /// Those that change what a shell reads, also between double quotes.
 const QUOTING: &str = "'\"\\$`\n";
+
+/// Whether the file doesn't have each of the bytes.
+fn has_open(units: &[Unit]) -> bool {
+    units.iter().any(|unit| !matches!(*unit, Unit::Byte(..)))
+}
 
 /// Whether the unit separates the words of a value.
 pub(crate) fn is_blank(unit: &Unit) -> bool {
@@ -93,11 +132,4 @@ pub(crate) fn line_starts(alloc: Global, file: &[u8]) -> Result<Vec<usize>> {
         }
     }
     Ok(starts)
-}
-
-/// Whether the units have a name with `@` around it, which is replaced in a template.
-pub(crate) fn has_placeholder(units: &[Unit]) -> bool {
-    let parts = after(units, b'@').unwrap_or(&[]);
-    let mut closed = parts.rsplit(|unit| unit.byte() == Some(b'@')).skip(1);
-    closed.any(|name| !name.is_empty() && name_length(name) == name.len())
 }

@@ -1,12 +1,12 @@
 //! The words of a call, each byte with its place in the file.
 
 use crate::names::Names;
-use crate::programs::is_sed_variable;
+use crate::programs::{is_sed_name, sed_value};
 use crate::units::{has_any, hole_of};
-use crate::values::{SPECIAL, Value, is_blank};
-use sedck_found::{Followed, OpenHole};
-use sedck_origin::{Hole, Origin, Result, Traced, Unit, Way, hole_name};
-use sedck_shell::{Pattern, ShellWord};
+use crate::values::Value;
+use sedck_found::{Followed, OpenHole, Role};
+use sedck_origin::{Hole, Origin, Result, Text, Traced, Unit, Way, has_hole};
+use sedck_shell::{Pattern, ShellWord, read_shell};
 use std::alloc::Global;
 use std::collections::BTreeMap;
 
@@ -107,8 +107,6 @@ pub(crate) struct Filler<'a> {
     pub chosen: Option<&'a [u8]>,
     /// Where the names of the calls are in the file that were found.
     pub starts: BTreeMap<usize, ()>,
-    /// Where those are of calls in values that are refused; a value may be no shell text.
-    pub unread: Vec<usize>,
 }
 
 impl<'a> Filler<'a> {
@@ -125,7 +123,8 @@ impl<'a> Filler<'a> {
     fn value_of(&mut self, hole: Hole) -> Option<&'a Value> {
         let names = self.names;
         match names.values_of(hole)? {
-            [value] => Some(value),
+            // One that is only set to nothing mostly gets its value otherwise.
+            [value] if value.is_given || !value.units.is_empty() => Some(value),
             values => values.get(self.choose(hole, values)?),
         }
     }
@@ -194,6 +193,17 @@ impl<'a> Filler<'a> {
         self.spend(value, 1) && !vanishes && value.is_kept(way)
     }
 
+    /// Notes each hole of which a shell may make several words, unless its value is known and is a part of one; it makes one of what it assigns.
+    pub fn note_words(&mut self, units: &[Unit], is_assigned: bool) -> Result<()> {
+        for hole in units.iter().filter_map(hole_of) {
+            let is_open = hole.way.is_made() || (hole.way.is_split() && !is_assigned);
+            if is_open && has_hole(&self.filled(&[Unit::Hole(hole)])?.origins) {
+                self.named.push(OpenHole::new(hole, Role::Word, 0))?;
+            }
+        }
+        Ok(())
+    }
+
     /// Whether the value of the hole is known and is no command: nothing, or what only tells make how to run the one after it.
     pub fn is_nothing(&mut self, hole: Hole) -> Result<bool> {
         let Some(value) = self.names.value_of(hole) else {
@@ -204,9 +214,8 @@ impl<'a> Filler<'a> {
         } else {
             " \t"
         };
-        let mut units = value.units.iter();
-        let is_short = value.units.len() <= SIGNS && value.parts.is_empty();
-        let is_nothing = is_short && units.all(|unit| has_any(&[*unit], signs));
+        let mut units = value.units.iter().take(SIGNS);
+        let is_nothing = value.units.len() < SIGNS && units.all(|unit| has_any(&[*unit], signs));
         if is_nothing {
             self.follow(hole, value)?;
         }
@@ -230,36 +239,39 @@ impl<'a> Filler<'a> {
         fits
     }
 
-    /// The words of the value after its first one: options, if the value is the name of a sed with options. None where that is unknown.
-    pub fn options(&mut self, hole: Hole) -> Result<Option<Vec<CallWord>>> {
-        let alloc = self.names.alloc;
-        let mut options = Vec::new(alloc);
-        if let Some(value) = self.names.value_of(hole) {
-            if !hole.way.is_split() {
-                return Ok(Some(options));
-            }
-            let fits = self.spend(value, WORD);
-            if fits && value.is_kept(Way::MadeQuoted) && !has_any(&value.units, SPECIAL) {
-                self.follow(hole, value)?;
-                let words = value.units.split(is_blank).filter(|word| !word.is_empty());
-                for word in words.skip(1) {
-                    let mut traced = empty(alloc);
-                    add_value(&mut traced, word, value.is_given)?;
-                    options.push(CallWord::of(traced, hole))?;
-                }
-                return Ok(Some(options));
-            }
-        } else {
-            let may_be_sed = |name: &[u8]| self.names.may_be_sed(name) && !is_sed_variable(name);
-            if !hole_name(self.names.written_hole(hole)).is_some_and(may_be_sed) {
-                return Ok(None);
-            }
+    /// The words after the first one of the value of the hole, which is the name of a call. None where no value of a sed is known, or where it
+    /// isn't a command alone.
+    pub fn words_in(&mut self, hole: Hole) -> Result<Option<Vec<CallWord>>> {
+        let names = self.names;
+        let Some(value) = sed_value(names, hole) else {
+            return Ok(None);
+        };
+        let mut words = Vec::new(names.alloc);
+        // A shell splits a value at its blanks, and make has it read as it is.
+        let is_split = hole.way.is_split();
+        let is_read = hole.way.is_made() && !value.is_given;
+        if is_split && !is_read && (value.has_hole || !value.is_plain()) {
+            return Ok(None);
         }
-        let mut traced = empty(alloc);
-        let way = Way::Several;
-        add(&mut traced, b'x', Origin::Hole(Hole { way, ..hole }))?;
-        options.push(CallWord::of(traced, hole))?;
-        Ok(Some(options))
+        if is_split || !is_sed_name(names, hole) {
+            self.follow(hole, value)?;
+        }
+        if !is_split || !self.spend(value, WORD) {
+            return Ok((!is_split).then_some(words));
+        }
+        let read = read_shell(names.alloc, Text::Units(&value.units), names.form)?;
+        let [command] = read.commands.as_slice() else {
+            return Ok(None);
+        };
+        for word in command.words.iter().skip(1) {
+            let mut traced = empty(names.alloc);
+            add_value(&mut traced, &word.units, value.is_given)?;
+            words.push(CallWord {
+                pattern: word.pattern,
+                ..CallWord::of(traced, hole)
+            })?;
+        }
+        Ok(read.unread.is_empty().then_some(words))
     }
 }
 
@@ -275,13 +287,14 @@ pub(crate) const LONGEST: usize = 1_048_576;
 /// How many bytes a byte of options counts for, each of which may be a word.
 const WORD: usize = 4;
 
-/// Adds the bytes of a value.
+/// Adds the units of a value.
 fn add_value(traced: &mut Traced, units: &[Unit], is_given: bool) -> Result<()> {
     for unit in units {
         match *unit {
             Unit::Byte(byte, _) if is_given => add(traced, byte, Origin::Given)?,
             Unit::Byte(byte, offset) => add(traced, byte, Origin::Value(offset))?,
-            _ => {}
+            Unit::Escape(byte, offset) => add(traced, byte, Origin::Escape(offset))?,
+            Unit::Hole(hole) => add(traced, b'x', Origin::Hole(hole))?,
         }
     }
     Ok(())

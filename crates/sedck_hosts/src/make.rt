@@ -1,16 +1,11 @@
-//! Makefiles: lines of recipes, `$(shell ..)`, and assignments (POSIX.1-2024 XCU make, and GNU make).
+//! Makefiles: lines of recipes, `$(shell ..)`, and assignments (POSIX.1-2024 XCU make, and GNU make). Lines of conditionals are passed, so that
+//! all branches are read.
 
 use crate::host::{Assignment, Host};
-use crate::make_text::{
-    Arguments, Reading, after_conditionals, called_name, read_make_text, reference_end,
-};
-use crate::parts::{Part, is, is_in, is_word_of};
-use sedck_kinds::is_shell;
+use crate::make_text::{Reading, after_conditionals, read_make_text, until};
+use crate::parts::{Part, is, is_word_of};
 use sedck_origin::{Result, Unit};
 use std::alloc::Global;
-
-/// The variable whose value begins the lines of recipes in place of a tab.
-const PREFIX: &str = ".RECIPEPREFIX";
 
 /// Words that may stand before an assignment.
 const MODIFIERS: &str = "export override private";
@@ -19,16 +14,13 @@ const MODIFIERS: &str = "export override private";
 const DIRECTIVES: &str = "else vpath undefine unexport endef ifeq ifneq ifdef ifndef if endif \
     include -include sinclude load -load";
 
-/// What is in the names of shells that read otherwise than those of POSIX, and of variables for them.
-const OTHERS: &str = "zsh ZSH fish FISH csh CSH";
-
 /// The operators of assignments: `?=` sets the name if nothing else does, `+=` adds the value, and `!=` has the shell write it.
 const OPERATORS: &str = "= := ::= :::= ?= += !=";
 
 /// An assignment of a line.
 #[derive(Clone, Copy)]
 struct Definition<'a> {
-    name: Part<'a>,
+    name: &'a [u8],
     /// Its operator.
     sign: &'a [u8],
     /// The value, which goes to the line's end.
@@ -44,12 +36,6 @@ struct Make {
     is_in_rule: bool,
     /// How many `define` aren't ended.
     defines: usize,
-    /// Whether lines of recipes may begin with another byte than a tab, from a line before on.
-    is_prefixed: bool,
-    /// Whether the file has `$(eval ..)`, which expands what is defined a second time.
-    is_evaluated: bool,
-    /// Whether a line of the file names another program than a shell of POSIX's that runs recipes.
-    is_foreign: bool,
 }
 
 /// The shell text of a makefile.
@@ -59,9 +45,6 @@ pub(crate) fn host_of_make(alloc: Global, file: &[u8]) -> Result<Host> {
         host: Host::new(alloc),
         is_in_rule: false,
         defines: 0,
-        is_prefixed: false,
-        is_evaluated: has_eval(Part::whole(file)),
-        is_foreign: has_foreign_shell(Part::whole(file)),
     };
     let mut rest = Part::whole(file);
     for _ in 0..file.len() {
@@ -69,63 +52,14 @@ pub(crate) fn host_of_make(alloc: Global, file: &[u8]) -> Result<Host> {
             break;
         };
         rest = next;
-        make.read_line(line)?;
+        make.read_line(after_conditionals(line))?;
     }
     Ok(make.host)
 }
 
-/// Whether make evaluates a text of the file as lines of a makefile.
-fn has_eval(file: Part) -> bool {
-    (file.start..file.end).any(|offset| is_eval(file.from(offset)))
-}
-
-/// Whether `$(eval ..)` begins the part, or what is after the bracket of `$(call eval,..)`.
-fn is_eval(part: Part) -> bool {
-    if part.starts_with("$(") || part.starts_with("${") {
-        return is(called_name(part.skip(2)), "eval");
-    }
-    part.starts_with("call ") && part.skip(5).after_blanks().starts_with("eval,")
-}
-
-/// Whether a line of the file sets SHELL to what is known to be no shell of POSIX's. It runs all recipes, also those before that line.
-fn has_foreign_shell(file: Part) -> bool {
-    let mut rest = file;
-    for _ in 0..file.len() {
-        let Some((line, next)) = rest.split_line(true) else {
-            break;
-        };
-        if sets_foreign_shell(line) {
-            return true;
-        }
-        rest = next;
-    }
-    false
-}
-
-/// Whether the line sets SHELL so, perhaps for its targets alone. A value that is unknown as a whole may be a shell, unless it names another.
-fn sets_foreign_shell(line: Part) -> bool {
-    let statement = after_modifiers(after_conditionals(line));
-    let behind = until(statement, ":#;").after_any(":");
-    let found = definition_at(statement).or(definition_at(after_modifiers(behind)));
-    let Some(definition) = found else {
-        return false;
-    };
-    let value = definition.value.to(definition.value.from_any("#").start);
-    let is_whole = !is_word_of(definition.sign, "+= !=") && value.from_any("$@").len() == 0;
-    let is_other = is_whole && !value.is_ended() && !is_shell(value.bytes());
-    let is_set = !line.starts_with("\t") && is(definition.name.bytes(), "SHELL");
-    is_set && (is_other || names_other_shell(value))
-}
-
-/// Whether the words name a shell that reads otherwise than those of POSIX: zsh splits no values, and has other signs.
-fn names_other_shell(words: Part) -> bool {
-    (words.start..words.end).any(|offset| words.from(offset).length_of_any(OTHERS) > 0)
-}
-
 impl Make {
     /// Reads a line with those that continue it.
-    fn read_line(&mut self, whole: Part) -> Result<()> {
-        let line = after_conditionals(whole);
+    fn read_line(&mut self, line: Part) -> Result<()> {
         let statement = after_modifiers(line);
         if self.defines > 0 {
             return self.read_in_define(line, statement);
@@ -136,9 +70,6 @@ impl Make {
         }
         if let Some(definition) = definition_at(statement) {
             self.is_in_rule = false;
-            if is_private(line, statement) {
-                return self.add_unknown(line, definition);
-            }
             return self.define(statement, definition);
         }
         if has_tab {
@@ -170,10 +101,6 @@ impl Make {
             let name = rest.before(until(rest, " \t=:?+!#"));
             return self.assign_unknown(name, line);
         }
-        if is(word, "undefine") {
-            let (name, _) = rest.split_word();
-            self.assign_unknown(name, line)?;
-        }
         if is_word_of(word, DIRECTIVES) {
             return self.add(line, Reading::Value);
         }
@@ -189,78 +116,46 @@ impl Make {
         self.is_in_rule = true;
         let rest = colon.after_any(":");
         if let Some(definition) = definition_at(after_modifiers(rest)) {
-            return self.add_unknown(line, definition);
+            return self.define(line, definition);
         }
         let behind = until(rest, ";#");
-        let names = line.to(behind.start);
-        self.add(names, Reading::Value)?;
-        self.host.note(mention_in_doubled(names))?;
+        self.add(line.to(behind.start), Reading::Value)?;
         if behind.begins_with(b';') {
             return self.add(command_of(behind.skip(1)), Reading::Recipe);
         }
         Ok(())
     }
 
-    /// Adds a part of a line, and the arguments of `$(shell ..)` in it.
+    /// Adds a part of a line, if the shell reads it, and the arguments of `$(shell ..)` in it.
     fn add(&mut self, part: Part, reading: Reading) -> Result<()> {
-        let arguments = self.add_text(part, reading)?;
-        for (part, reading) in &arguments {
-            self.add_text(*part, *reading)?;
+        let units = self.read_text(part, reading)?;
+        match reading {
+            Reading::Value => Ok(()),
+            _ => self.host.add(units),
         }
-        Ok(())
     }
 
-    /// Adds a part, if it is a text that the shell reads, and answers the arguments of `$(shell ..)` in it.
-    fn add_text<'a>(&mut self, part: Part<'a>, reading: Reading) -> Result<Arguments<'a>> {
-        let is_twice = self.is_evaluated && matches!(reading, Reading::Defined);
-        let text = read_make_text(self.alloc, part, reading, is_twice)?;
-        let (units, arguments, mut unread) = (text.units, text.arguments, text.unread);
-        self.host.unread.append(&mut unread)?;
-        if !matches!(reading, Reading::Value | Reading::Unread) {
-            self.add_units(part, units)?;
+    /// Reads a part of a line, and adds the arguments of `$(shell ..)` in it.
+    fn read_text(&mut self, part: Part, reading: Reading) -> Result<Vec<Unit>> {
+        let text = read_make_text(self.alloc, part, reading)?;
+        for argument in &text.arguments {
+            let inner = read_make_text(self.alloc, *argument, Reading::Argument)?;
+            self.host.add(inner.units)?;
         }
-        Ok(arguments)
+        Ok(text.units)
     }
 
-    /// Adds the units of a part as a text that the shell reads. A call of sed in one that another program reads is noted.
-    fn add_units(&mut self, part: Part, units: Vec<Unit>) -> Result<()> {
-        if self.is_foreign {
-            return self.host.note(part.mention_of_sed());
-        }
-        self.host.add(units)
-    }
-
-    /// Reads an assignment. With `!=` its value is shell text; after `+=` and `!=` the value of the name is unknown. After one that changes
-    /// how recipes begin they aren't read.
+    /// Reads an assignment. With `!=` its value is shell text; after `+=` and `!=` the value of the name is unknown.
     fn define(&mut self, line: Part, definition: Definition) -> Result<()> {
-        let (name, value) = (definition.name.bytes(), definition.value);
-        if is(name, PREFIX) && !value.is_ended() && !self.is_prefixed {
-            self.is_prefixed = true;
-            let behind = line.between(line.end, line.file.len());
-            // A variable that is set before it may have a sed.
-            let before = line.between(0, line.start).name_of_sed();
-            self.host.note(behind.mention_of_sed().or(before))?;
-        }
-        if is(definition.sign, "+=") || !is_known(name) {
-            return self.add_unknown(line, definition);
-        }
-        self.add(line, Reading::Value)?;
-        let text = read_make_text(self.alloc, value, Reading::Value, self.is_evaluated)?;
-        let mut unread = text.unread;
-        self.host.unread.append(&mut unread)?;
+        let value = self.read_text(definition.value, Reading::Value)?;
         if is(definition.sign, "!=") {
-            self.add_units(value, text.units)?;
-            return self.assign_unknown(name, line);
+            self.host.add(value)?;
+            return self.assign_unknown(definition.name, line);
         }
-        self.assign(name, text.units)
-    }
-
-    /// Adds an assignment to a name that is unknown, or of a value that is only a part or for some targets. It isn't read as a text.
-    fn add_unknown(&mut self, line: Part, definition: Definition<'_>) -> Result<()> {
-        let value = definition.value;
-        self.add(line.to(value.start), Reading::Value)?;
-        self.add(value, Reading::Unread)?;
-        self.assign_unknown(definition.name.bytes(), line)
+        if is(definition.sign, "+=") {
+            return self.assign_unknown(definition.name, line);
+        }
+        self.assign(definition.name, value)
     }
 
     /// Adds an assignment of a value that is unknown: all of the line is its hole.
@@ -270,9 +165,9 @@ impl Make {
         self.assign(name, value)
     }
 
-    /// Adds an assignment, if its name is known.
+    /// Adds an assignment, if its name is known: there is one, without what make or `configure` replaces.
     fn assign(&mut self, bytes: &[u8], value: Vec<Unit>) -> Result<()> {
-        if is_known(bytes) {
+        if !bytes.is_empty() && !bytes.contains(&b'$') && !bytes.contains(&b'@') {
             let name = bytes.to_vec(self.alloc)?;
             self.host.assignments.push(Assignment { name, value })?;
         }
@@ -280,41 +175,10 @@ impl Make {
     }
 }
 
-/// Where a call of sed is in a reference with two dollar signs: after `.SECONDEXPANSION` make expands those of a rule a second time.
-fn mention_in_doubled(names: Part) -> Option<usize> {
-    let mut rest = names;
-    for _ in 0..names.len() {
-        if rest.starts_with("$$(") || rest.starts_with("$${") {
-            let reference = rest.skip(1);
-            let end = reference_end(reference);
-            let found = reference.to(end).mention_of_sed();
-            if found.is_some() {
-                return found;
-            }
-            rest = rest.from(end);
-        } else {
-            rest = rest.skip(1);
-        }
-    }
-    None
-}
-
-/// Whether the name of an assignment is known: there is one, without what make or `configure` replaces.
-fn is_known(name: &[u8]) -> bool {
-    !name.is_empty() && !name.contains(&b'$') && !name.contains(&b'@')
-}
-
 /// The line without blanks at its beginning, and without words that may stand before an assignment.
 fn after_modifiers(line: Part) -> Part<'_> {
     let words = line.after_blanks();
     words.after_words(4, |word| is_word_of(word, MODIFIERS))
-}
-
-/// Whether recipes don't see the variable: `private` is among the words before the assignment.
-fn is_private(line: Part, assignment: Part) -> bool {
-    let words = line.after_blanks();
-    let seen = words.after_words(4, |word| is_word_of(word, "export override"));
-    seen.start < assignment.start
 }
 
 /// The assignment that the part is, if it is one: a name, blanks, and an operator.
@@ -330,21 +194,8 @@ fn definition_at(whole: Part) -> Option<Definition<'_>> {
     let rest = whole.from(name.end).after_blanks();
     let value = rest.from_any("=").skip(1);
     let (sign, value) = (rest.before(value), value.after_blanks());
+    let name = name.bytes();
     is_word_of(sign, OPERATORS).then_some(Definition { name, sign, value })
-}
-
-/// The part from the first of these bytes on that stands outside of references and after no backslash.
-fn until<'a>(part: Part<'a>, wanted: &str) -> Part<'a> {
-    let mut rest = part;
-    for _ in 0..part.len() {
-        rest = match rest.first() {
-            Some(b'$') => rest.from(reference_end(rest)),
-            Some(b'\\') => rest.skip(2),
-            Some(byte) if !is_in(byte, wanted) => rest.skip(1),
-            _ => break,
-        };
-    }
-    part.from(rest.start.min(part.end))
 }
 
 /// The command of a recipe's line: what is after blanks, `@`, `-` and `+`, but not after the `@` of a name with two of them around it.
@@ -352,10 +203,13 @@ fn command_of(line: Part) -> Part<'_> {
     let mut rest = line;
     for _ in 0..line.len() {
         rest = rest.after_any(" \t-+");
-        if !rest.starts_with("@") || rest.is_placeholder() {
+        let name = rest.skip(1);
+        let behind = name.after_name();
+        let is_placeholder = behind.begins_with(b'@') && behind.start > name.start;
+        if !rest.starts_with("@") || is_placeholder {
             break;
         }
-        rest = rest.skip(1);
+        rest = name;
     }
     rest
 }

@@ -1,7 +1,7 @@
 //! What make does to a part of a makefile before the shell sees it: references are replaced, `$$` is a dollar sign, and lines are joined.
 
-use crate::parts::{Brackets, Part, QUOTES, is, is_in, named};
-use sedck_origin::{Result, Unit, has_byte};
+use crate::parts::{Brackets, Part, is_in, reference_end};
+use sedck_origin::{Result, Unit};
 use std::alloc::Global;
 
 /// What a part of a makefile is.
@@ -11,10 +11,8 @@ pub(crate) enum Reading {
     Recipe,
     /// Another line, or the value of an assignment: continued lines are joined by a space, and a comment ends it.
     Value,
-    /// The same, of an assignment whose value is unknown as a whole, so that calls of sed in it are noted.
-    Unread,
-    /// The argument of `$(shell ..)`: continued lines are joined by a space. So many of these are around it, with its own.
-    Argument(usize),
+    /// The argument of `$(shell ..)`: continued lines are joined by a space.
+    Argument,
     /// A line between `define` and `endef`: continued lines are joined by a space.
     Defined,
 }
@@ -27,39 +25,7 @@ struct Open {
     brackets: Brackets,
     /// Where the argument of `$(shell ..)` begins that is read as a text by itself.
     argument: Option<usize>,
-    /// How many of its arguments, from the one on that is read, are no text that a shell may read.
-    quiet: usize,
-    /// Whether one of its arguments takes the place of the call.
-    is_choice: bool,
 }
-
-/// All arguments of a function: more than a line has.
-const ALL: usize = 1_000_000_000;
-
-/// Functions by how many of their first arguments are no such text, and whether one of the arguments takes the place of the call. The
-/// last ones are for messages, lists of words and names of files.
-static FUNCTIONS: &'static [((usize, bool), &'static str)] = &[
-    ((1, false), "call"),
-    ((2, false), "foreach let"),
-    ((1, true), "if"),
-    ((0, true), "or and"),
-    ((ALL, false), "error warning info file filter filter-out"),
-    ((ALL, false), "findstring sort word words wordlist"),
-    ((ALL, false), "firstword lastword addprefix addsuffix"),
-    ((ALL, false), "basename notdir wildcard origin flavor"),
-];
-
-/// The most references around a byte.
-const DEPTH: usize = 100;
-
-/// The most of them whose argument is read as a text by itself.
-const SHELLS: usize = 4;
-
-/// What may close a word and the reference that it ends.
-const CLOSERS: &str = "\"')}";
-
-/// Arguments of `$(shell ..)`, with how each is read.
-pub(crate) type Arguments<'a> = Vec<(Part<'a>, Reading)>;
 
 /// A part of a makefile, which is read.
 #[derive(Drop)]
@@ -67,50 +33,35 @@ pub(crate) struct MakeText<'a> {
     /// The part as the shell sees it.
     pub units: Vec<Unit>,
     /// The arguments of `$(shell ..)` in it.
-    pub arguments: Arguments<'a>,
-    /// The offsets of calls of sed in it that are neither in its units nor in those arguments.
-    pub unread: Vec<usize>,
+    pub arguments: Vec<Part<'a>>,
     whole: Part<'a>,
     reading: Reading,
-    /// Whether make may expand the part twice, as `$(eval ..)` does: then `$$` begins a reference.
-    is_twice: bool,
-    /// Whether a byte of it may be lost then.
-    is_lossy: bool,
     opens: Vec<Open>,
-    /// How many of them are `$(shell ..)` whose argument is read by itself, with those around the part.
-    shells: usize,
-    /// Whether a call of sed was noted in the outermost of them.
-    is_noted: bool,
+    /// Whether one of them, or around the part, is `$(shell ..)`, so that the argument of another one isn't read by itself.
+    is_in_shell: bool,
     /// The offset where brackets end after `$$`, in which make joins the lines of a recipe.
     joined_to: usize,
-    quoting: Quoting,
+    /// Whether a quote was read, within which a tab isn't the same as make's space.
+    has_quotes: bool,
     /// What hasn't been read yet.
     rest: Part<'a>,
 }
 
-/// Reads a part of a makefile, which may be expanded twice.
+/// Reads a part of a makefile.
 pub(crate) fn read_make_text<'a>(
     alloc: Global,
     whole: Part<'a>,
     reading: Reading,
-    is_twice: bool,
 ) -> Result<MakeText<'a>> {
     let mut text = MakeText {
         units: Vec::new(alloc),
         arguments: Vec::new(alloc),
-        unread: Vec::new(alloc),
         whole,
         reading,
-        is_twice,
-        is_lossy: false,
         opens: Vec::new(alloc),
-        shells: match reading {
-            Reading::Argument(level) => level,
-            _ => 0,
-        },
-        is_noted: false,
+        is_in_shell: matches!(reading, Reading::Argument),
         joined_to: 0,
-        quoting: Quoting::default(),
+        has_quotes: false,
         rest: whole,
     };
     text.read_all()?;
@@ -118,7 +69,7 @@ pub(crate) fn read_make_text<'a>(
 }
 
 impl<'a> MakeText<'a> {
-    /// Reads the whole part.
+    /// Reads the whole part, at whose end a reference may be open.
     fn read_all(&mut self) -> Result<()> {
         for _ in 0..self.whole.len() {
             let here = self.rest;
@@ -126,71 +77,21 @@ impl<'a> MakeText<'a> {
             self.rest = here.skip(1);
             self.read(here, byte)?;
         }
-        self.end_part()
-    }
-
-    /// Ends the part, where a reference may be open. A call of sed is noted where a byte may be lost.
-    fn end_part(&mut self) -> Result<()> {
-        if let Some(Open { start, .. }) = self.opens.first().copied() {
-            self.units.push(Unit::made(start, self.whole.end))?;
-            if !self.is_noted {
-                self.note(self.whole.from(start).mention_of_sed())?;
-            }
-        }
-        if self.is_lossy {
-            return self.note(self.whole.mention_of_sed());
-        }
-        Ok(())
-    }
-
-    /// Notes a call of sed in what isn't read, if one was found.
-    fn note(&mut self, found: Option<usize>) -> Result<()> {
-        if let Some(offset) = found {
-            self.is_noted = true;
-            self.unread.push(offset)?;
-        }
-        Ok(())
-    }
-
-    /// Notes a call of sed that begins here, where the text isn't read: one in each reference.
-    fn look(&mut self, here: Part<'a>) -> Result<()> {
-        let is_unread = !self.opens.is_empty() || matches!(self.reading, Reading::Unread);
-        if self.is_noted || !is_unread {
-            return Ok(());
-        }
-        let is_choice = matches!(self.opens.last(), Some(open) if open.is_choice);
-        let is_call = here.is_call(if is_choice { CLOSERS } else { QUOTES });
-        // An argument may be open that is no text which a shell may read, or is read by itself.
-        if is_call && !self.opens.iter().any(|open| open.quiet > 0) {
-            return self.note(Some(here.start));
+        if let Some(open) = self.opens.first().copied() {
+            self.units.push(Unit::made(open.start, self.whole.end))?;
         }
         Ok(())
     }
 
     /// Reads the byte that begins this part.
     fn read(&mut self, here: Part<'a>, byte: u8) -> Result<()> {
-        self.look(here)?;
         match byte {
             b'$' => self.read_dollar(here),
-            _ if self.opens.is_empty() => self.read_outside(here, byte),
-            b',' => Ok(self.end_argument()),
-            _ if is_in(byte, "(){}") => self.count(here, byte),
-            _ => Ok(()),
-        }
-    }
-
-    /// Reads a byte outside of references.
-    fn read_outside(&mut self, here: Part<'a>, byte: u8) -> Result<()> {
-        match byte {
+            _ if !self.opens.is_empty() => self.count(here, byte),
             b'\\' => self.read_backslash(here),
-            b'#' if self.has_comments() => Ok(self.end_text()),
+            b'#' if matches!(self.reading, Reading::Value) => Ok(self.end_text()),
             _ => self.add(Unit::Byte(byte, here.start)),
         }
-    }
-
-    /// Whether a `#` begins a comment of make's in the part.
-    fn has_comments(&self) -> bool {
-        matches!(self.reading, Reading::Value | Reading::Unread)
     }
 
     /// Leaves the rest of the part.
@@ -201,6 +102,7 @@ impl<'a> MakeText<'a> {
     /// Adds a unit, unless it is within a reference.
     fn add(&mut self, unit: Unit) -> Result<()> {
         if self.opens.is_empty() {
+            self.has_quotes |= matches!(unit.byte(), Some(b'\'' | b'"' | b'\\'));
             self.units.push(unit)?;
         }
         Ok(())
@@ -212,13 +114,12 @@ impl<'a> MakeText<'a> {
         self.add(unit)
     }
 
-    /// Reads a reference, or `$$`.
+    /// Reads a reference, or `$$`. A backslash and a newline after the sign are nothing.
     fn read_dollar(&mut self, here: Part<'a>) -> Result<()> {
         let (next, after) = (here.skip(1), here.skip(2));
         match next.first() {
             None => self.add(Unit::made(here.start, next.start)),
-            Some(b'$') if self.is_twice && self.opens.is_empty() => self.read_twice(here),
-            Some(b'$') => self.add_dollar(here),
+            Some(b'$') => self.read_dollars(here),
             Some(byte @ (b'(' | b'{')) => self.open(here, Brackets::new(byte)),
             Some(b'\\') if !matches!(self.reading, Reading::Recipe) && after.starts_with("\n") => {
                 let line = after.skip(1);
@@ -229,69 +130,43 @@ impl<'a> MakeText<'a> {
         }
     }
 
-    /// Adds the dollar sign for `$$`. GNU make takes brackets after it for those of a reference where it looks for lines to join.
-    fn add_dollar(&mut self, here: Part<'a>) -> Result<()> {
+    /// Adds the dollar sign for `$$`. GNU make takes brackets after it for those of a reference where it looks for lines to join. Between
+    /// `define` and `endef` four signs are for a text that is expanded twice: with what follows they are a hole.
+    fn read_dollars(&mut self, here: Part<'a>) -> Result<()> {
         let (next, after) = (here.skip(1), here.skip(2));
+        if matches!(self.reading, Reading::Defined) && after.starts_with("$$") {
+            let behind = here.after_any("$");
+            let end = match behind.begins_with_any("({") {
+                true => reference_end(here.from(behind.start.saturating_sub(1))),
+                false => behind.after_name().start,
+            };
+            return self.add_before(here.from(end), Unit::made(here.start, end));
+        }
         if after.begins_with_any("({") && here.start >= self.joined_to {
             self.joined_to = reference_end(next);
         }
         self.add_before(after, Unit::Byte(b'$', next.start))
     }
 
-    /// Reads several dollar signs of a part that may be expanded twice: with their reference they are a hole, in which a call of sed is noted.
-    /// Where they have none a byte after them may be lost.
-    fn read_twice(&mut self, here: Part<'a>) -> Result<()> {
-        self.quoting.pass(&self.units);
-        let behind = here.after_any("$");
-        let name = behind.after_name();
-        let mut end = name.start;
-        if behind.begins_with_any("({") {
-            end = reference_end(here.from(behind.start.saturating_sub(1)));
-        } else if self.quoting.is_bare() && behind.begins_with_any("@<^*?") {
-            end = behind.skip(1).start;
-        } else if end == behind.start {
-            self.is_lossy = true;
-        }
-        self.note(here.to(end).mention_of_sed())?;
-        self.add_before(here.from(end), Unit::made(here.start, end))
-    }
-
     /// Begins a reference with a bracket.
     fn open(&mut self, here: Part<'a>, brackets: Brackets) -> Result<()> {
-        let rest = here.skip(2);
-        self.rest = rest;
-        if self.opens.len() >= DEPTH {
-            self.end_text();
-            return self.note(rest.mention_of_sed());
-        }
-        self.is_noted &= !self.opens.is_empty();
-        let name = called_name(rest);
-        let (quiet, is_choice) = named(FUNCTIONS, name).unwrap_or((0, false));
+        let name = here.skip(2);
+        let behind = name.skip(5);
+        self.rest = name;
         let mut open = Open {
             start: here.start,
             brackets,
             argument: None,
-            quiet,
-            is_choice,
         };
-        // Beyond so many of them the argument of `$(shell ..)` isn't read by itself.
-        if self.shells < SHELLS && is(name, "shell") {
-            self.shells = self.shells.saturating_add(1);
-            open.argument = Some(rest.skip(5).after_blanks().start);
-            open.quiet = ALL;
+        let is_shell = name.starts_with("shell") && behind.begins_with_any(" \t\n\\");
+        if is_shell && !self.is_in_shell {
+            self.is_in_shell = true;
+            open.argument = Some(behind.after_blanks().start);
         }
         Ok(self.opens.push(open)?)
     }
 
-    /// Ends an argument of a reference, unless the comma is between brackets.
-    fn end_argument(&mut self) {
-        if let Some(open) = self.opens.last_mut() {
-            let is_argument = open.brackets.count == 0;
-            open.quiet = open.quiet.saturating_sub(usize::from(is_argument));
-        }
-    }
-
-    /// Reads a bracket within a reference, which may close it: make counts those of the reference's own sort.
+    /// Reads a byte within a reference, which may close it: make counts brackets of the reference's own sort.
     fn count(&mut self, here: Part<'a>, byte: u8) -> Result<()> {
         let Some(open) = self.opens.pop() else {
             return Ok(());
@@ -302,16 +177,11 @@ impl<'a> MakeText<'a> {
         }
     }
 
-    /// Closes a reference, whose bracket begins this part. The arguments in an argument were found with it.
+    /// Closes a reference, whose bracket begins this part.
     fn close(&mut self, open: Open, here: Part<'a>) -> Result<()> {
         if let Some(start) = open.argument {
-            let level = self.shells;
-            self.shells = level.saturating_sub(1);
-            if !matches!(self.reading, Reading::Argument(_)) {
-                let part = self.whole.between(start, here.start);
-                let reading = Reading::Argument(level);
-                self.arguments.push((part, reading))?;
-            }
+            self.is_in_shell = false;
+            self.arguments.push(self.whole.between(start, here.start))?;
         }
         self.add(Unit::made(open.start, here.skip(1).start))
     }
@@ -319,16 +189,16 @@ impl<'a> MakeText<'a> {
     /// Reads a backslash outside of references. One before a newline stays in a recipe, where a tab that begins the next line is left out, but
     /// not in brackets after `$$`.
     fn read_backslash(&mut self, here: Part<'a>) -> Result<()> {
-        let after = here.skip(2);
-        let has_newline = here.skip(1).first() == Some(b'\n');
+        let has_newline = here.starts_with("\\\n");
         match self.reading {
             Reading::Recipe if has_newline && here.start >= self.joined_to => {
+                let after = here.skip(2);
                 let line = after_conditionals(after);
                 self.rest = line.skip(usize::from(line.first() == Some(b'\t')));
                 here.to(after.start).push(&mut self.units)
             }
-            _ if has_newline => self.join_lines(here, after),
-            Reading::Value | Reading::Unread | Reading::Defined => self.read_backslashes(here),
+            _ if has_newline => self.join_lines(here),
+            Reading::Value | Reading::Defined => self.read_backslashes(here),
             _ => self.add(Unit::Byte(b'\\', here.start)),
         }
     }
@@ -338,88 +208,60 @@ impl<'a> MakeText<'a> {
     fn read_backslashes(&mut self, here: Part<'a>) -> Result<()> {
         let behind = here.after_any("\\");
         let count = here.before(behind).len();
+        let half = here.to(here.skip(count / 2).start);
+        self.has_quotes = true;
         if behind.first() == Some(b'\n') {
             // The last one is read with the newline.
             self.rest = here.skip(count.saturating_sub(1));
-            return here.to(here.skip(count / 2).start).push(&mut self.units);
+            return half.push(&mut self.units);
         }
-        if behind.first() != Some(b'#') || !self.has_comments() {
-            self.rest = behind;
+        self.rest = behind;
+        if behind.first() != Some(b'#') || !matches!(self.reading, Reading::Value) {
             return here.to(behind.start).push(&mut self.units);
         }
-        here.to(here.skip(count / 2).start).push(&mut self.units)?;
+        half.push(&mut self.units)?;
         if count % 2 == 0 {
             return Ok(self.end_text());
         }
         self.add_before(behind.skip(1), Unit::Byte(b'#', behind.start))
     }
 
-    /// Joins two lines by a blank: one of those in the file beside the backslash, since a unit has its place there.
-    fn join_lines(&mut self, here: Part<'a>, next: Part<'a>) -> Result<()> {
-        let before = self.take_blanks();
-        let line = after_conditionals(next);
-        self.rest = line.after_blanks();
-        let is_joined = match self.units.last() {
-            Some(Unit::Hole(hole)) => has_byte(here.file, hole.start, b'\\'),
-            last => last.is_none(),
-        };
-        if is_joined {
+    /// Joins lines by a space: one of those in the file beside the backslash, since a unit has its place there, or a tab. Where there is none the
+    /// space is a hole.
+    fn join_lines(&mut self, here: Part<'a>) -> Result<()> {
+        let start = self.take_blanks(here.start);
+        let mut rest = here;
+        for _ in 0..here.len() {
+            if !rest.starts_with("\\\n") {
+                break;
+            }
+            rest = after_conditionals(rest.skip(2)).after_blanks();
+        }
+        self.rest = rest;
+        if self.units.is_empty() {
             return Ok(());
         }
-        let blank = match (before, first_blank(line.to(self.rest.start))) {
-            (Some(Unit::Byte(b'\t', _)), Some(behind)) => Some(behind),
-            (None, behind) => behind,
-            _ => before,
-        };
-        self.join_by(blank, Unit::made(here.start, next.start))
+        let joint = here.between(start, rest.start);
+        let (space, tab) = (joint.from_any(" "), joint.from_any("\t"));
+        self.add(match (space.first(), tab.first()) {
+            (Some(byte), _) => Unit::Byte(byte, space.start),
+            (None, Some(byte)) if !self.has_quotes => Unit::Byte(byte, tab.start),
+            _ => Unit::made(start, rest.start),
+        })
     }
 
-    /// Joins two lines by the blank, or without one after an operator. A tab is what make's space is only where no quote is open.
-    fn join_by(&mut self, blank: Option<Unit>, hole: Unit) -> Result<()> {
-        self.quoting.pass(&self.units);
-        let next = self.rest.first().unwrap_or(b' ');
-        match blank {
-            Some(unit) if self.quoting.is_bare() || unit.byte() == Some(b' ') => self.add(unit),
-            None if self.quoting.is_apart(next) => Ok(()),
-            _ => {
-                // A call of sed isn't read after a hole: its name and that are one word.
-                if self.rest.is_call(QUOTES) {
-                    self.unread.push(self.rest.start)?;
-                }
-                self.add(hole)
-            }
-        }
-    }
-
-    /// Takes the blanks at the end away, and answers one of them: the first space, or else the last tab.
-    fn take_blanks(&mut self) -> Option<Unit> {
-        let mut taken: Option<Unit> = None;
+    /// Takes the blanks at the end away, and answers where the first of them is; this offset if there is none.
+    fn take_blanks(&mut self, end: usize) -> usize {
+        let mut start = end;
         for _ in 0..self.units.len() {
-            let Some(Unit::Byte(byte @ (b' ' | b'\t'), offset)) = self.units.last().copied() else {
+            let Some(Unit::Byte(b' ' | b'\t', offset)) = self.units.last().copied() else {
                 break;
             };
             self.units.pop();
-            if taken.is_none() || byte == b' ' {
-                taken = Some(Unit::Byte(byte, offset));
-            }
+            start = offset;
         }
-        taken
+        start
     }
-}
-
-/// A blank of these: the first space, or else the last tab.
-fn first_blank(blanks: Part) -> Option<Unit> {
-    let space = blanks.from_any(" ");
-    let last = blanks.skip(blanks.len().saturating_sub(1));
-    let found = if space.len() > 0 { space } else { last };
-    Some(Unit::Byte(found.first()?, found.start))
-}
-
-/// The name of the function whose call begins the part: it is followed by a blank or the end of a line that is continued.
-pub(crate) fn called_name(part: Part) -> &[u8] {
-    let name = part.after_any("abcdefghijklmnopqrstuvwxyz-");
-    let is_called = name.begins_with_any(" \t\n") || name.starts_with("\\\n");
-    if is_called { part.before(name) } else { &[] }
 }
 
 /// The part without what Automake writes before the lines of a conditional, as `@NAME_TRUE@`.
@@ -438,70 +280,16 @@ pub(crate) fn after_conditionals(whole: Part) -> Part<'_> {
     rest
 }
 
-/// Where the reference ends that begins the part with a byte, and has brackets or a single letter; the end of the part if it isn't
-/// closed.
-pub(crate) fn reference_end(part: Part) -> usize {
-    let mut rest = part.skip(2);
-    let opener = part.skip(1).first().unwrap_or(b' ');
-    if !is_in(opener, "({") {
-        return rest.start;
+/// The part from the first of these bytes on that stands outside of references and after no backslash.
+pub(crate) fn until<'a>(part: Part<'a>, wanted: &str) -> Part<'a> {
+    let mut rest = part;
+    for _ in 0..part.len() {
+        rest = match rest.first() {
+            Some(b'$') => rest.from(reference_end(rest)),
+            Some(b'\\') => rest.skip(2),
+            Some(byte) if !is_in(byte, wanted) => rest.skip(1),
+            _ => break,
+        };
     }
-    let mut brackets = Brackets::new(opener);
-    for byte in rest.bytes() {
-        rest = rest.skip(1);
-        match brackets.after(*byte) {
-            Some(open) => brackets = open,
-            None => return rest.start,
-        }
-    }
-    part.end
-}
-
-/// How a shell reads what comes after the units that were passed, by the quotes before it (XCU 2.2).
-#[derive(Clone, Copy, Default)]
-struct Quoting {
-    /// How many units were passed.
-    passed: usize,
-    /// The quote that is open.
-    quote: Option<u8>,
-    /// The byte before, if there is one; a letter where it is unknown or is quoted by a backslash.
-    before: u8,
-    /// Whether a backslash quotes what comes next.
-    is_escaped: bool,
-    /// Whether a command stands between double quotes: it has quotes of its own, so that no more is known.
-    is_lost: bool,
-}
-
-impl Quoting {
-    /// Whether what comes next isn't quoted.
-    fn is_bare(self) -> bool {
-        self.quote.is_none() && !self.is_escaped && !self.is_lost
-    }
-
-    /// Whether an operator is before, after which a command may begin, and no blank is needed between it and this byte.
-    fn is_apart(self, next: u8) -> bool {
-        self.is_bare()
-            && matches!(self.before, b';' | b'&' | b'|' | b'(')
-            && next != self.before
-            && !matches!(next, b'&' | b'>')
-    }
-
-    /// Passes the units that weren't passed yet; what is unknown is taken for a letter.
-    fn pass(&mut self, units: &[Unit]) {
-        for unit in units.iter().skip(self.passed) {
-            let byte = if self.is_escaped { None } else { unit.byte() };
-            let byte = byte.unwrap_or(b'x');
-            match self.quote {
-                None if byte == b'\'' || byte == b'"' => self.quote = Some(byte),
-                Some(quote) if byte == quote => self.quote = None,
-                Some(b'"') if byte == b'`' || (byte == b'(' && self.before == b'$') => {
-                    self.is_lost = true;
-                }
-                _ => {}
-            }
-            self.is_escaped = byte == b'\\' && self.quote != Some(b'\'');
-            self.before = byte;
-        }
-        self.passed = units.len();
-    }
+    part.from(rest.start.min(part.end))
 }

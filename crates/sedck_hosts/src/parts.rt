@@ -1,7 +1,10 @@
-//! Parts of a file, its lines, and where calls of sed seem to begin.
+//! Parts of a file, and its lines.
 
 pub(crate) use sedck_kinds::{is, is_word_of, named};
-use sedck_origin::{Result, Unit, has_byte, is_name_byte};
+use sedck_origin::{Result, Unit, has_byte};
+
+/// What names of variables are made of.
+const NAME_BYTES: &str = "abcdefghijklmnopqrstuvwxyzABCDEFGHIJKLMNOPQRSTUVWXYZ0123456789_";
 
 /// A part of a file: from the first offset on to before the second one.
 #[derive(Clone, Copy)]
@@ -69,16 +72,6 @@ impl<'a> Part<'a> {
         matches!(self.first(), Some(byte) if is_in(byte, bytes))
     }
 
-    /// How long the first of these texts is that begins the part, where spaces are between them; 0 if none does.
-    pub fn length_of_any(self, texts: &str) -> usize {
-        for text in texts.split(' ') {
-            if self.starts_with(text) {
-                return text.len();
-            }
-        }
-        0
-    }
-
     /// The same without this byte at its end, if it has that there.
     pub fn before_last(self, byte: u8) -> Part<'a> {
         let has_it = self.bytes().last() == Some(&byte);
@@ -122,8 +115,14 @@ impl<'a> Part<'a> {
 
     /// The same without blanks at its end.
     pub fn before_blanks(self) -> Part<'a> {
-        let last = self.bytes().iter().rposition(|byte| !is_in(*byte, " \t"));
-        self.to(last.map_or(self.start, |last| self.skip(last).skip(1).start))
+        let mut end = self.end;
+        for byte in self.bytes().iter().rev() {
+            if !is_in(*byte, " \t") {
+                break;
+            }
+            end = end.saturating_sub(1);
+        }
+        self.to(end)
     }
 
     /// The word that begins the part and ends at a blank, and the part after it and its blanks.
@@ -161,27 +160,6 @@ impl<'a> Part<'a> {
         (self.len() > 0).then_some((self, self.from(self.end)))
     }
 
-    /// The same without the lines at its beginning that are passed.
-    pub fn after_lines<F: Fn(Part<'a>) -> bool>(self, is_passed: F) -> Part<'a>
-        requires { F.IsAlwaysCallable is_passed }
-    {
-        let mut rest = self;
-        for _ in 0..self.len() {
-            match rest.split_line(false) {
-                Some((line, next)) if is_passed(line) => rest = next,
-                _ => break,
-            }
-        }
-        rest
-    }
-
-    /// Whether a name with `@` around it begins the part.
-    pub fn is_placeholder(self) -> bool {
-        let name = self.skip(1);
-        let behind = name.after_name();
-        self.begins_with(b'@') && behind.begins_with(b'@') && behind.start > name.start
-    }
-
     /// Whether only blanks and a comment are in the part.
     pub fn is_ended(self) -> bool {
         let rest = self.after_blanks();
@@ -196,21 +174,6 @@ impl<'a> Part<'a> {
         Ok(())
     }
 
-    /// Adds one unit after another, each of which begins what is left; answers what is left where there is none.
-    pub fn push_units<F>(self, units: &mut Vec<Unit>, unit_of: F) -> Result<Part<'a>>
-    where
-        F: Fn(Part<'a>) -> Option<Unit>,
-        requires { F.IsAlwaysCallable unit_of }
-    {
-        let mut rest = self;
-        for _ in 0..self.len() {
-            let Some(unit) = unit_of(rest) else { break };
-            rest = rest.from(unit.end());
-            units.push(unit)?;
-        }
-        Ok(rest)
-    }
-
     /// Adds the newline that ends the line, if the file has one; a carriage return may stand before it.
     pub fn push_newline(self, units: &mut Vec<Unit>) -> Result<()> {
         let length = usize::from(has_byte(self.file, self.end, b'\r'));
@@ -219,53 +182,6 @@ impl<'a> Part<'a> {
             units.push(Unit::Byte(b'\n', offset))?;
         }
         Ok(())
-    }
-
-    /// Where the first call of sed in the part seems to begin.
-    pub fn mention_of_sed(self) -> Option<usize> {
-        (self.start..self.end).find(|offset| self.from(*offset).is_call(QUOTES))
-    }
-
-    /// Whether a call of sed seems to begin the part: its name, perhaps some of the closers, and blanks with more after them.
-    pub fn is_call(self, closers: &str) -> bool {
-        let length = self.sed_length();
-        if length == 0 {
-            return false;
-        }
-        let behind = self.skip(length).after_any(closers);
-        let is_continued = behind.starts_with("\\\n");
-        let rest = behind.skip(usize::from(is_continued));
-        let next = rest.after_any(" \t\r\n");
-        next.start > rest.start && next.start < self.end
-    }
-
-    /// Where the first name of a sed is in the part.
-    pub fn name_of_sed(self) -> Option<usize> {
-        (self.start..self.end).find(|offset| self.from(*offset).sed_length() > 0)
-    }
-
-    /// How long the name of sed is that begins the part; 0 if none does.
-    fn sed_length(self) -> usize {
-        let names = match self.first() {
-            _ if self.follows_name() => "",
-            Some(b's') => "sed ssed",
-            Some(b'g') => "gsed",
-            Some(b'$') => "$(SED) ${SED} $SED $${SED} $$SED $(GSED) ${GSED} $GSED",
-            Some(b'@') => "@SED@",
-            Some(b'%') => "%{__sed} %__sed",
-            _ => "",
-        };
-        self.length_of_any(names)
-    }
-
-    /// Whether the byte before the part belongs to the same name, as in `used` and `a.sed`.
-    fn follows_name(self) -> bool {
-        matches!(self.byte_before(), Some(byte) if is_name_byte(byte) || byte == b'.')
-    }
-
-    /// The byte before the part.
-    pub fn byte_before(self) -> Option<u8> {
-        self.file.get(self.start.checked_sub(1)?).copied()
     }
 }
 
@@ -279,7 +195,7 @@ pub(crate) fn is_in(byte: u8, text: &str) -> bool {
 pub(crate) struct Brackets {
     opener: u8,
     /// How many more are open within it.
-    pub count: usize,
+    count: usize,
 }
 
 impl Brackets {
@@ -304,8 +220,21 @@ impl Brackets {
     }
 }
 
-/// What names of variables are made of.
-const NAME_BYTES: &str = "abcdefghijklmnopqrstuvwxyzABCDEFGHIJKLMNOPQRSTUVWXYZ0123456789_";
-
-/// What may close a word after the name of sed.
-pub(crate) const QUOTES: &str = "\"'";
+/// Where the reference ends that begins the part with a byte, and has brackets or a single letter; the end of the part if it isn't
+/// closed.
+pub(crate) fn reference_end(part: Part) -> usize {
+    let mut rest = part.skip(2);
+    let opener = part.skip(1).first().unwrap_or(b' ');
+    if !is_in(opener, "({") {
+        return rest.start;
+    }
+    let mut brackets = Brackets::new(opener);
+    for byte in rest.bytes() {
+        rest = rest.skip(1);
+        match brackets.after(*byte) {
+            Some(open) => brackets = open,
+            None => return rest.start,
+        }
+    }
+    part.end
+}

@@ -11,16 +11,18 @@ pub enum Kind {
     Make,
     /// Dockerfiles: `RUN`.
     Docker,
-    /// Files of continuous integration in YAML: `run:` and `script:`.
+    /// Files of continuous integration in YAML: `run:`, `script:` and the like.
     Yaml,
     /// Spec files of RPM: the sections that are shell text.
     Spec,
     /// Sources of Autoconf: shell text with macros of M4.
     Autoconf,
+    /// Units of systemd: `ExecStart=` and the like.
+    Systemd,
 }
 
 impl Kind {
-    /// The kind with this name on the command line: sh, make, docker, yaml, spec or m4.
+    /// The kind with this name on the command line: sh, make, docker, yaml, spec, m4 or systemd.
     pub fn named(name: &str) -> Option<Kind> {
         named(LANGUAGES, name.as_bytes())
     }
@@ -37,6 +39,7 @@ static LANGUAGES: Names = &[
     (Kind::Yaml, "yaml"),
     (Kind::Spec, "spec"),
     (Kind::Autoconf, "m4"),
+    (Kind::Systemd, "systemd"),
 ];
 
 /// Names of files, or what is after the last dot of one. The scripts are those of Debian's packages but for one.
@@ -49,11 +52,12 @@ static NAMES: Names = &[
 
 /// What is after the last dot of a name.
 static SUFFIXES: Names = &[
-    (Kind::Shell, "sh bash ksh dash"),
+    (Kind::Shell, "sh bash ksh dash bats"),
     (Kind::Make, "mk mak make am"),
     (Kind::Yaml, "yml yaml"),
     (Kind::Autoconf, "ac m4"),
     (Kind::Spec, "spec"),
+    (Kind::Systemd, "service"),
 ];
 
 /// What may be before a dot, whatever is after it.
@@ -63,21 +67,22 @@ static STEMS: Names = &[
     (Kind::Docker, "Dockerfile"),
 ];
 
-/// What is after the last dot of files in other languages, which no makefile has there: `Makefile.PL` is a script of Perl's.
-const OTHERS: &str = "PL pl pm py rb js ts java c h cc cpp hs html xml json md";
+/// What is after the last dot of files in other languages, and of those that are no text: `Makefile.PL` is a script of Perl's.
+const OTHERS: &str = "PL pl pm py rb js ts java c h cc cpp hs html xml json md \
+    gz bz2 xz lz lzma lz4 zst Z zip tgz 7z o a so obj lo elc pyc gmo mo pdf png";
 
 /// What may be before `.m4` in a source of Autoconf, after another dot.
 const BEFORE_M4: &str = "ac in sh";
 
 /// Names of programs. Shells are there also as they are named when a package is configured.
 static PROGRAMS: Names = &[
-    (Kind::Shell, "sh bash dash ksh ksh93 mksh zsh ash"),
+    (Kind::Shell, "sh bash dash ksh ksh93 mksh zsh ash bats"),
     (Kind::Shell, "@SHELL@ @BASH@ @POSIX_SHELL@ @SH@"),
     (Kind::Make, "make gmake bmake"),
 ];
 
 /// Names of shells that read `$'..'`.
-const DOLLAR_QUOTING: &str = "bash @BASH@ ksh ksh93 mksh zsh";
+const DOLLAR_QUOTING: &str = "bash @BASH@ ksh ksh93 mksh zsh bats";
 
 /// The most words of a first line that are read.
 const MOST_WORDS: usize = 8;
@@ -111,23 +116,13 @@ pub fn is_dollar_quoting(name: &[u8]) -> bool {
     is_word_of(name, DOLLAR_QUOTING)
 }
 
-/// Whether the shell of this name is bash.
-pub fn is_bash(name: &[u8]) -> bool {
-    is_word_of(name, "bash @BASH@")
-}
-
-/// Whether the shell of this name is zsh, perhaps with a version after that.
-pub fn is_zsh(name: &[u8]) -> bool {
-    name.starts_with(b"zsh")
-}
-
 /// Whether the first line of a file with these bytes names a sed, whose script the file is then.
 pub fn is_run_by_sed(bytes: &[u8]) -> bool {
     interpreter(bytes).is_some_and(|name| is_word_of(name, "sed gsed ssed"))
 }
 
 /// The name after the path to it.
-pub fn without_path(path: &[u8]) -> &[u8] {
+fn without_path(path: &[u8]) -> &[u8] {
     split_last(path, b'/').1
 }
 
@@ -160,7 +155,7 @@ fn part_kind(name: &[u8]) -> Option<Kind> {
 fn dotted_kind(stem: &[u8], last: &[u8]) -> Option<Kind> {
     let (before, first) = split_last(stem, b'.');
     match named(STEMS, first) {
-        Some(Kind::Make) if is_word_of(last, OTHERS) => None,
+        Some(_) if is_word_of(last, OTHERS) => None,
         Some(kind) if before.is_empty() => Some(kind),
         _ if is(last, "m4") && is_other_language(before, first) => None,
         _ => named(SUFFIXES, last),
@@ -173,9 +168,16 @@ fn is_other_language(before: &[u8], first: &[u8]) -> bool {
     is_lettered && !before.is_empty() && !is_word_of(first, BEFORE_M4)
 }
 
-/// The kind by the first line, which names an interpreter after `#!`.
-pub fn interpreter_kind(bytes: &[u8]) -> Option<Kind> {
-    program_kind(interpreter(bytes)?)
+/// The kind by the first line, which names an interpreter after `#!`. A text of Python's may be on the second one, where a shell reads a
+/// command.
+fn interpreter_kind(bytes: &[u8]) -> Option<Kind> {
+    let kind = named(PROGRAMS, interpreter(bytes)?);
+    let next = bytes
+        .get(first_line(bytes).len()..)
+        .unwrap_or(&[])
+        .trim_ascii_start();
+    let is_python = next.starts_with(b"'''") || next.starts_with(b"\"\"\"");
+    kind.filter(|_| !is_python)
 }
 
 /// The name of the interpreter in the first line, without the path to it.
@@ -202,19 +204,8 @@ fn program_of(words: &[u8]) -> &[u8] {
     &[]
 }
 
-/// Whether the words run a shell of POSIX's, which may be a program of Windows.
-pub fn is_shell(words: &[u8]) -> bool {
-    let name = program_of(words);
-    program_kind(name.strip_suffix(b".exe").unwrap_or(name)) == Some(Kind::Shell)
-}
-
 /// Whether the word of a first line isn't the interpreter's: a program that runs the next one, an option, or an assignment.
 fn is_passed(word: &[u8]) -> bool {
     let name = without_path(word);
     is_word_of(name, "env busybox") || name.starts_with(b"-") || name.contains(&b'=')
-}
-
-/// The kind of what a program of this name reads.
-pub fn program_kind(name: &[u8]) -> Option<Kind> {
-    named(PROGRAMS, name)
 }

@@ -6,8 +6,5 @@
 mod kind;
 mod words;
 
-pub use kind::{
-    Kind, interpreter_kind, is_bash, is_dollar_quoting, is_run_by_sed, is_shell, is_zsh, kind_of,
-    program_kind, shell_of, without_path,
-};
+pub use kind::{Kind, is_dollar_quoting, is_run_by_sed, kind_of, shell_of};
 pub use words::{is, is_word_of, named};

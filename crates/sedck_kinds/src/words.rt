@@ -7,7 +7,12 @@ pub fn is(bytes: &[u8], text: &str) -> bool {
 
 /// Whether the bytes are one of these words, between which spaces are.
 pub fn is_word_of(bytes: &[u8], words: &str) -> bool {
-    words.split(' ').any(|word| is(bytes, word))
+    for word in words.split(' ') {
+        if is(bytes, word) {
+            return true;
+        }
+    }
+    false
 }
 
 /// What the list has the word for.

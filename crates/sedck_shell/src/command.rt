@@ -12,8 +12,6 @@ pub struct ShellWord {
     /// Whether a part of it is quoted.
     pub is_quoted: bool,
     pub pattern: Pattern,
-    /// Whether it is a file's name, and the command runs in another folder than that for which it is meant.
-    pub is_elsewhere: bool,
 }
 
 /// Whether a word is a pattern, in whose place the names of files come that match it (XCU 2.6.6).
@@ -37,9 +35,9 @@ pub struct ShellCommand {
     pub source: Option<ShellWord>,
     /// The here-string that is its standard input, in the shells that have such, if there is one.
     pub here_string: Option<ShellWord>,
-    /// Whether a here-document is for another of its descriptors, or isn't its only input: some shells read all inputs.
+    /// Whether a here-document is for another of its descriptors.
     pub has_other_here: bool,
-    /// The files that it opens for writing: all that are emptied, and the one to which its standard output goes.
+    /// The files that it opens for writing.
     pub targets: Vec<Target>,
     /// What is put into its redirections before a shell reads them, where there may be other words then.
     pub made: Vec<Hole>,
@@ -60,8 +58,6 @@ pub struct Target {
 pub struct ShellText {
     /// The commands, in no order.
     pub commands: Vec<ShellCommand>,
-    /// The names of the functions.
-    pub functions: Vec<ShellWord>,
     /// The offsets in the file of what wasn't understood, in no order. Reading goes on at a next line.
     pub unread: Vec<usize>,
 }
@@ -79,16 +75,6 @@ impl ShellCommand {
             made: Vec::new(alloc),
         }
     }
-
-    /// If it changes the folder: whether it surely goes to another one, which is below.
-    pub(crate) fn goes_below(&self) -> Option<bool> {
-        let mut words = self.words.iter();
-        let name = words.find(|word| !word.is("command") && !word.has_equals())?;
-        if name.is("cd") {
-            return Some(words.next().is_some_and(|folder| folder.is_below()));
-        }
-        (name.is("pushd") || name.is("popd")).then_some(false)
-    }
 }
 
 impl ShellWord {
@@ -99,21 +85,7 @@ impl ShellWord {
             start: 0,
             is_quoted: false,
             pattern: Pattern::None,
-            is_elsewhere: false,
         }
-    }
-
-    /// Whether it may be an assignment.
-    fn has_equals(&self) -> bool {
-        self.units.iter().any(|unit| unit.byte() == Some(b'='))
-    }
-
-    /// Whether it is the path of a folder below.
-    fn is_below(&self) -> bool {
-        let mut bytes = self.units.iter().map(|unit| unit.byte());
-        let is_name = |byte: u8| byte.is_ascii_alphanumeric() || byte == b'_';
-        bytes.next().flatten().is_some_and(is_name)
-            && bytes.all(|byte| byte.is_some_and(|byte| is_name(byte) || b"-/".contains(&byte)))
     }
 
     /// Whether it has these bytes.

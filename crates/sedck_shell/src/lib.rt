@@ -5,9 +5,9 @@
 #![tactic(auto)]
 
 mod command;
+mod documents;
 mod expansions;
 mod frame;
-mod groups;
 mod operators;
 mod output;
 mod quotes;
@@ -16,4 +16,4 @@ mod words;
 
 pub use command::{Pattern, ShellCommand, ShellText, ShellWord, Target};
 pub use output::read_shell;
-pub use reader::{Dialect, Form};
+pub use reader::Form;
