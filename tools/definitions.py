@@ -382,7 +382,7 @@ script.FirstFault commands.FirstFaults commands.Faults expressions.Faults expres
 commands.FaultWords expressions.FaultWords cert.FaultText cli.Lines
 flow.Words engines.Reports engines.Engines cli.Statuses cli.Causes c.Answers engines.Faults cert.Streams engines.Inputs engines.Opened
 explanation.Answers answer.Status answer.Answers errors.Denials explanation.Denial explanation.Explanations explanation.Errors errors.Errors formats.Plain calls_in_files.Delivered explain_cli.Mended explain_cli.Spelled explain_cli.Explained explain_cli.Statuses calls_in_files.Lines explain_cli.CallStatus explain_cli.Readings explain_cli.Requests explain_cli.Answers report.Positions report.Shown report.Codes report.Levels report.Files report.Reported advice.Slow advice.References advice.Locale advice.Ignored advice.Added report.Html report.Ascii
-explanation.Called calls_in_files.Judged calls_in_files.Placed calls_in_files.Scanned origin.Traced origin.Texts call.Words call.Options call.Calls call.Origins call.Scripts
+explanation.Called calls_in_files.Judged calls_in_files.Placed calls_in_files.Scanned origin.Traced origin.Texts find.Told mentions.Told mentions.Lines mentions.Words call.Words call.Options call.Calls call.Origins call.Scripts
 formats.Names
 bre.Lengths script.Shortest script.Invariant
 expressions.View commands.View commands.ReplacementView commands.ItemView script.View cert.View
