@@ -34,7 +34,7 @@ LOGGER = '#!/bin/sh\n{ printf "%s\\0" "$#" "$@"; } >> "$SEDCK_RUNS"\n'
 NAMES = ("x", "y", "tool", "T")
 # What each run must find: files of which docs/CALLS.md says that they aren't looked at, and a run whose words no call has.
 KNOWN = (("a.sh", "printf ':\\nsed p f\\n' | sh\n", ()), ("a.sh", "sed p f\n", [(b"d", b"f")]),
-         ("Makefile", "E = ed\nall:\n\ts$(E) p f\n", ()))
+         ("a.sh", "x=${y:-sed}\n$x p f\n", ()), ("Makefile", "E = ed\nall:\n\ts$(E) p f\n", ()))
 # What a condition, or a part that isn't known, is called.
 OPEN = {"unknown", "accepted-if", "not-judged", "not-understood"}
 
@@ -66,7 +66,7 @@ class Draw:
     def value(self):
         name, other = self.name(), self.name()
         return self.one("sed", "sed", "cat", "se", "d", "p", "'sed -n'", "$d/sed", "$d/", '"$%s"' % name, '"$d/$%s"' % name,
-                        '"$%s$%s"' % (name, other), "$(echo $%s)" % name, "`echo sed`", "${%s:-sed}" % name, "'s/a/b/'", '"s/$%s/b/"' % name)
+                        '"$%s$%s"' % (name, other), "$(echo $%s)" % name, "`echo sed`", "${%s:=sed}" % name, "'s/a/b/'", '"s/$%s/b/"' % name)
 
     def called(self):
         """The name of a command, which may be a sed."""
