@@ -64,9 +64,9 @@ class Draw:
         return self.one("$%s", "${%s}", '"$%s"', '"${%s}"', "${%s-}", "${%s:-sed}", "${%s+sed}") % self.name()
 
     def value(self):
-        name, other = self.name(), self.name()
-        return self.one("sed", "sed", "cat", "se", "d", "p", "'sed -n'", "$d/sed", "$d/", '"$%s"' % name, '"$d/$%s"' % name,
-                        '"$%s$%s"' % (name, other), "$(echo $%s)" % name, "`echo sed`", "${%s:=sed}" % name, "'s/a/b/'", '"s/$%s/b/"' % name)
+        name = self.name()
+        return self.one("sed", "sed", "cat", "p", "'sed -n'", "$d/sed", "$d/", '"$%s"' % name, '"$d/$%s"' % name,
+                        "$(echo $%s)" % name, "`echo sed`", "${%s:=sed}" % name, "'s/a/b/'", '"s/$%s/b/"' % name)
 
     def called(self):
         """The name of a command, which may be a sed."""
@@ -74,7 +74,7 @@ class Draw:
         if self.is_plain:
             return self.one(*plain)
         return self.one(*plain[:3], "$d/sed", '"$d"/sed', self.use(), self.use(), '"$%s"' % name,
-                        "$d/$%s" % name, '"$d/$%s"' % name, "$%s$%s" % (name, self.name()), "${%s}d" % name, "s$%s" % name, "$d/$%s$e" % name)
+                        "$d/$%s" % name, '"$d/$%s"' % name)
 
     def script(self):
         """A script in quotes, in one of the ways of a shell."""
